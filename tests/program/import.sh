@@ -421,7 +421,8 @@ status=$?
 says 'import: standard input' 0 'recorded A 8 B 8 left out 0' ''
 run import --sdp "$recordings/two-cards.sdp" --out again.cap "$recordings/two-cards.pcapng"
 alike 'import: standard input, the capture' piped.cap again.cap
-for words in '--a 500x4' '--b 239.1.1.256:5006' '--a 239.1.1.1' '--b 65536'; do
+for words in '--a 500x4' '--b 239.1.1.256:5006' '--a 239.1.1.1' '--b 65536' '--a >5004' '--a 192.0.2.1>239.1.1.1' \
+    '--b studio>5004'; do
     # shellcheck disable=SC2086
     run import --sdp "$recordings/two-cards.sdp" $words --out no-import.cap "$recordings/two-cards.pcapng"
     says "import: $words" 1 '' 'st2110: import 2 BadFlow'

@@ -185,7 +185,8 @@ const DESCRIBED: &[Word] = &[
     Word {
         name: "a",
         usage: Usage::Beside("ADDR:PORT", "write"),
-        help: "Where the datagrams of path A go, as 239.1.1.1:5004 or [ff3e::1]:5004",
+        help: "Where the datagrams of path A go, as 239.1.1.1:5004 or [ff3e::1]:5004; with the \
+            source that they come from in front, in quotes: '198.51.100.7>239.1.1.1:5004'",
     },
     Word {
         name: "b",
@@ -284,7 +285,8 @@ const RECEIVED: &[Word] = &[
         name: "a",
         usage: Usage::Optional("[ADDR:]PORT"),
         help: "Where the datagrams of path A go in recordings of other tools, in place of what the \
-            SDP says of both paths",
+            SDP says of both paths; with their source in front, in quotes: \
+            '192.0.2.1>239.1.1.1:5004'",
     },
     Word {
         name: "b",
@@ -447,7 +449,8 @@ const IMPORTED: &[Word] = &[
     Word {
         name: "a",
         usage: Usage::Optional("[ADDR:]PORT"),
-        help: "Where the datagrams of path A go, in place of what the SDP says of both paths",
+        help: "Where the datagrams of path A go, in place of what the SDP says of both paths; with \
+            their source in front, in quotes: '192.0.2.1>239.1.1.1:5004'",
     },
     Word {
         name: "b",
@@ -477,7 +480,8 @@ const EXPORTED: &[Word] = &[
     Word {
         name: "a",
         usage: Usage::Required("ADDR:PORT"),
-        help: "Where the datagrams of path A go, as 239.1.1.1:5004 or [ff3e::1]:5004",
+        help: "Where the datagrams of path A go, as 239.1.1.1:5004 or [ff3e::1]:5004; with the \
+            source that they come from in front, in quotes: '198.51.100.7>239.1.1.1:5004'",
     },
     Word {
         name: "b",

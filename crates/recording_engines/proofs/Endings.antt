@@ -157,7 +157,7 @@ omitted : (flows : Flows) (moment : ℕ) (r : Result Datagram NoDatagram)
     → is_some (omission_by flows r) ≡ is_none (entry_of flows moment r)
 omitted flows moment (Err reason) = refl
 omitted flows moment (Ok d) =
-    omitted_by flows moment d.payload (path_to flows d.destination d.destination_port)
+    omitted_by flows moment d.payload (path_to flows d.source d.destination d.destination_port)
 
 one_longer : (o : Option Omission) (xs : List Omission)
     → length (cons_option o xs) ≡ cond (is_some o) 1 0 + length xs

@@ -32,7 +32,7 @@ record_by flows p buffer d read =
 
 pub record_to : (flows : Flows) (p : Packet) (buffer : List ℕ) (d : Datagram) (path : Option Path)
     → walk_of (link_of p.head.link) (part_of p buffer) ≡ Ok d
-    → path ≡ path_to flows d.destination d.destination_port
+    → path ≡ path_to flows d.source d.destination d.destination_port
     → record_of flows (packet_seen p buffer) ≡ entry_by path (moment_of p.head.time) d.payload
 record_to flows p buffer d path read is =
     record_by flows p buffer (Ok d) read
@@ -49,7 +49,7 @@ omission_at flows p buffer d read =
 
 pub omission_to : (flows : Flows) (p : Packet) (buffer : List ℕ) (d : Datagram) (path : Option Path)
     → walk_of (link_of p.head.link) (part_of p buffer) ≡ Ok d
-    → path ≡ path_to flows d.destination d.destination_port
+    → path ≡ path_to flows d.source d.destination d.destination_port
     → omission_of flows (packet_seen p buffer) ≡ other_by path
 omission_to flows p buffer d path read is =
     omission_at flows p buffer (Ok d) read ∙ ap other_by (sym is)

@@ -47,13 +47,16 @@ pub fn record_of<'a>(
     let start = packet.place;
     let octets = &buf[start..start + packet.head.captured as usize];
     match packet_datagram(&packet.head, octets) {
-        Ok(datagram) => match flows.path_of(datagram.destination, datagram.destination_port) {
-            Some(path) => Ok(RecordView {
-                path,
-                octets: datagram.payload,
-            }),
-            None => Err(Omission::OtherFlow),
-        },
+        Ok(datagram) => {
+            let port = datagram.destination_port;
+            match flows.path_of(datagram.source, datagram.destination, port) {
+                Some(path) => Ok(RecordView {
+                    path,
+                    octets: datagram.payload,
+                }),
+                None => Err(Omission::OtherFlow),
+            }
+        }
         Err(reason) => Err(Omission::NoDatagram(reason)),
     }
 }

@@ -25,9 +25,9 @@ fn read_leg(text: &str) -> Option<Flow>
     ensures { MatchOption result (IsNoLeg text.now) (SaysLeg text.now) }
 {
     let flow = read_flow(text.as_bytes())?;
-    match flow.address {
-        Some(_) => Some(flow),
-        None => None,
+    match (flow.source, flow.address) {
+        (None, Some(_)) => Some(flow),
+        _ => None,
     }
 }
 
