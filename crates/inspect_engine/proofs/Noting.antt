@@ -7,8 +7,8 @@ use Rattle.std.proofs.lemmas.Grind.{flat_map-append}
 use Rattle.std.proofs.lemmas.List.{drop_at, length-drop, length-take, take_all}
 use Rattle.std.specs.List.{AllZip, flat_map, list_all, list_any, zip}
 use Rattle.st_format.specs.History.{IsRead, since}
-use Rattle.flow_counts.specs.Counts.{flow_counts}
-use Rattle.flow_counts.specs.Flows.{Arrival}
+use Rattle.recording_counts.specs.FlowCounts.{flow_counts}
+use Rattle.recording_counts.specs.Flows.{Arrival}
 use Rattle.pcap_file.specs.Fields.{IfContent}
 use Rattle.pcap_file.specs.PcapReading.{Recorded}
 use Rattle.pcap_file.specs.Runs.{HasFailed, HasRead, HasReadAll, ReadsEnd, ReadsFault, ReadsPacket}
@@ -29,9 +29,9 @@ use Rattle.inspect_engine.specs.Arrivals.{IsAddress, arrival_by, arrivals_of, om
 use Rattle.inspect_engine.specs.Inspected.{HasStopped, Notes, NotesAll, NotesBehind, NotesOctets}
 use Rattle.inspect_engine.specs.Inspected.{NotesUnless}
 use Rattle.inspect_engine.specs.Inspected.{end_of, is_cut, is_told}
-use Rattle.left_out_counts.specs.LeftOut.{left_out_of}
-use Rattle.left_out_counts.specs.declared.omission.Omission.{Omission}
-use Rattle.left_out_counts.specs.declared.omission.Omission.TheVariants as by
+use Rattle.recording_counts.specs.LeftOut.{left_out_of}
+use Rattle.recording_counts.specs.declared.omission.Omission.{Omission}
+use Rattle.recording_counts.specs.declared.omission.Omission.TheVariants as by
 use Rattle.inspect_engine.specs.declared.inspection.Inspection.{Inspection}
 use Rattle.pcap_file.specs.PacketDatagram.{HasDatagram, datagram_in}
 

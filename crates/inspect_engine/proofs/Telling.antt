@@ -2,8 +2,8 @@
 use Rattle.std.proofs.Common.{◌≡◌, ℕ, zero, suc, ◌+◌, ◌<◌, ◌≤◌, Bool, true, List, [], ◌∷◌, ◌++◌, length}
 use Rattle.std.proofs.Common.{Option, Some, drop, get_or, set, refl, ap, sym, ◌∙◌, subst, arith}
 use Rattle.std.specs.List.{Any, flat_map, zip}
-use Rattle.flow_counts.specs.Counts.{flow_counts}
-use Rattle.flow_counts.specs.declared.count.FlowCount.{FlowCount}
+use Rattle.recording_counts.specs.FlowCounts.{flow_counts}
+use Rattle.recording_counts.specs.declared.flow_count.FlowCount.{FlowCount}
 use Rattle.pcap_file.specs.Fields.{IfContent}
 use Rattle.pcap_file.specs.Runs.{packets_in}
 use Rattle.pcap_file.specs.declared.fault.RecordingFault.{RecordingFault}
@@ -18,8 +18,8 @@ use Rattle.run_outcome.specs.Refusing.{OfRefusal}
 use Rattle.inspect_engine.specs.Arrivals.{arrivals_of}
 use Rattle.inspect_engine.specs.Inspected.{IsFaultOf, NotesAll, NotesOctets}
 use Rattle.inspect_engine.specs.Inspected.{inspection_text}
-use Rattle.left_out_counts.specs.LeftOut.{left_out_of}
-use Rattle.left_out_counts.specs.declared.left_out.LeftOut.{LeftOut}
+use Rattle.recording_counts.specs.LeftOut.{left_out_of}
+use Rattle.recording_counts.specs.declared.left_out.LeftOut.{LeftOut}
 use Rattle.inspect_engine.specs.Told.{Tells, room}
 use Rattle.inspect_engine.specs.declared.form.Form.{Form}
 use Rattle.inspect_engine.specs.declared.inspection.Inspection.{Inspection}

@@ -4,9 +4,9 @@ use Rattle.std.specs.List.{flat_map}
 use Rattle.std.specs.declared.net.socket_addr.SocketAddr.{SocketAddr}
 use Rattle.std.specs.declared.net.socket_addr.SocketAddr.TheVariants.{V4, V6}
 use Rattle.std.specs.Net.Addr.{segments_of}
-use Rattle.flow_counts.specs.Flows.{Arrival}
-use Rattle.left_out_counts.specs.declared.omission.Omission.{Omission}
-use Rattle.left_out_counts.specs.declared.omission.Omission.TheVariants as by
+use Rattle.recording_counts.specs.Flows.{Arrival}
+use Rattle.recording_counts.specs.declared.omission.Omission.{Omission}
+use Rattle.recording_counts.specs.declared.omission.Omission.TheVariants as by
 use Rattle.pcap_file.specs.declared.datagram.NoDatagram.{NoDatagram}
 use Rattle.pcap_file.specs.declared.pcap.PacketHead.{PacketHead}
 use Rattle.pcap_file.specs.PacketDatagram.{datagram_in}

@@ -4,22 +4,22 @@ use Rattle.std.specs.Prelude.{length}
 use Rattle.std.specs.Fmt.{decimal}
 use Rattle.std.specs.List.{AllZip, flat_map, list_all, list_any}
 use Rattle.st_format.specs.History.{IsRead}
-use Rattle.flow_counts.specs.Counts.{flow_counts}
-use Rattle.flow_counts.specs.Flows.{Arrival}
-use Rattle.flow_counts.specs.Json.{count_json}
-use Rattle.flow_counts.specs.Lines.{count_text}
+use Rattle.recording_counts.specs.FlowCounts.{flow_counts}
+use Rattle.recording_counts.specs.Flows.{Arrival}
+use Rattle.recording_counts.specs.FlowJson.{count_json}
+use Rattle.recording_counts.specs.FlowLines.{count_text}
 use Rattle.pcap_file.specs.declared.fault.RecordingFault.{RecordingFault}
 use Rattle.pcap_file.specs.declared.fault.RecordingFault.TheVariants.{Truncated}
 use Rattle.pcap_file.specs.Fields.{CountsFault, IfContent}
 use Rattle.pcap_file.specs.PcapReading.{Recorded}
 use Rattle.pcap_file.specs.Runs.{HasFailed, HasRead, HasReadAll, Seen, fault_in, packets_in}
 use Rattle.inspect_engine.specs.Arrivals.{arrivals_of, omissions_of}
-use Rattle.left_out_counts.specs.LeftOut.{left_out_of, left_out_text}
-use Rattle.flow_counts.specs.declared.count.FlowCount.{FlowCount}
+use Rattle.recording_counts.specs.LeftOut.{left_out_of, left_out_text}
+use Rattle.recording_counts.specs.declared.flow_count.FlowCount.{FlowCount}
 use Rattle.run_outcome.specs.declared.refusal.Refusal.{Refusal}
 use Rattle.run_outcome.specs.declared.refusal.Refusal.TheVariants.{Recording}
-use Rattle.left_out_counts.specs.declared.left_out.LeftOut.{LeftOut}
-use Rattle.left_out_counts.specs.declared.omission.Omission.{Omission}
+use Rattle.recording_counts.specs.declared.left_out.LeftOut.{LeftOut}
+use Rattle.recording_counts.specs.declared.omission.Omission.{Omission}
 use Rattle.inspect_engine.specs.declared.form.Form.{Form}
 use Rattle.inspect_engine.specs.declared.form.Form.TheVariants.{Json, Lines}
 use Rattle.inspect_engine.specs.declared.inspection.Inspection.{Inspection}

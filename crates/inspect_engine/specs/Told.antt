@@ -1,7 +1,7 @@
 -- What `inspect` prints of the recordings that it read (own).
 use Rattle.std.specs.Prelude.{◌≡◌, ℕ, ◌⊎◌, Bool, true, List, ◌++◌}
 use Rattle.std.specs.List.{AllZip, Any, flat_map, list_all, list_any}
-use Rattle.flow_counts.specs.Counts.{flow_counts}
+use Rattle.recording_counts.specs.FlowCounts.{flow_counts}
 use Rattle.pcap_file.specs.PcapReading.{Recorded}
 use Rattle.pcap_file.specs.Runs.{fault_in, packets_in}
 use Rattle.pcap_file.specs.declared.fault.RecordingFault.TheVariants.{Truncated}
@@ -10,7 +10,7 @@ use Rattle.run_outcome.specs.declared.refusal.Refusal.TheVariants.{Recording}
 use Rattle.inspect_engine.specs.Arrivals.{arrivals_of, omissions_of}
 use Rattle.inspect_engine.specs.Inspected.{IsFaultOf, inspection_text, is_cut, is_told}
 use Rattle.inspect_engine.specs.declared.form.Form.{Form}
-use Rattle.left_out_counts.specs.LeftOut.{left_out_of}
+use Rattle.recording_counts.specs.LeftOut.{left_out_of}
 
 -- the octets of a packet or a block that there is room for
 abbrev pub room : ℕ

@@ -1,14 +1,13 @@
 //! What is noted of recordings.
 ghost use Rattle.std.specs.Prelude.{◌≡◌, [], ◌∷◌, OnOk};
-ghost use Rattle.flow_counts.specs.Counts.{flow_counts};
+ghost use Rattle.recording_counts.specs.FlowCounts.{flow_counts};
 ghost use Rattle.inspect_engine.specs.Arrivals.{captured};
-ghost use Rattle.left_out_counts.specs.LeftOut.{left_out_of};
+ghost use Rattle.recording_counts.specs.LeftOut.{left_out_of};
 ghost use Rattle.inspect_engine.specs.Inspected.{Notes};
 
 use crate::destination::destination_of;
-use flow_counts::{FlowTable, Noted};
-use left_out_counts::{LeftOut, Omission};
 use pcap_file::{PacketHead, packet_datagram};
+use recording_counts::{FlowTable, LeftOut, Noted, Omission};
 use std::alloc::{AllocError, Allocator};
 
 /// What is noted of the packets of recordings.

@@ -3,7 +3,7 @@
 use crate::giver::Standing;
 use crate::recorded::Recorded;
 use flow::Flow;
-use left_out_counts::LeftOut;
+use recording_counts::LeftOut;
 use recording_engines::record_of;
 use st_format::Path;
 use std::alloc::Allocator;

@@ -10,8 +10,8 @@ use Rattle.std.specs.List.{AllByRecursion, AllZip, zip}
 use Rattle.st_format.specs.History.{IsRead}
 use Rattle.st_format.proofs.Histories.{since_is}
 use Rattle.flow.specs.declared.flows.Flows.{Flows}
-use Rattle.left_out_counts.specs.LeftOut.{counted, left_out_of}
-use Rattle.left_out_counts.specs.declared.omission.Omission.{Omission}
+use Rattle.recording_counts.specs.LeftOut.{counted, left_out_of}
+use Rattle.recording_counts.specs.declared.omission.Omission.{Omission}
 use Rattle.media_file.specs.Fronts.{front_text}
 use Rattle.media_file.specs.Records.{Entry, records_text}
 use Rattle.media_file.specs.declared.front.Version.TheVariants.{Two}

@@ -3,8 +3,8 @@ use Rattle.std.proofs.Common.{◌≡◌, ℕ, List, [], ◌∷◌, ◌++◌, Opt
 use Rattle.std.proofs.Common.{◌∙◌, append-nil, arith, length, suc, take, zero}
 use Rattle.std.proofs.lemmas.List.Elements.{filter_map-append}
 use Rattle.flow.specs.declared.flows.Flows.{Flows}
-use Rattle.left_out_counts.specs.LeftOut.{left_out_of}
-use Rattle.left_out_counts.specs.declared.left_out.LeftOut.{LeftOut}
+use Rattle.recording_counts.specs.LeftOut.{left_out_of}
+use Rattle.recording_counts.specs.declared.left_out.LeftOut.{LeftOut}
 use Rattle.media_file.specs.Records.{Entry}
 use Rattle.pcap_file.specs.PcapReading.{Recorded}
 use Rattle.pcap_file.specs.declared.fault.RecordingFault.{RecordingFault}

@@ -9,8 +9,8 @@ use Rattle.std.specs.Prelude.{⊤}
 use Rattle.st_format.specs.History.{IsRead}
 use Rattle.st_format.proofs.Histories.{since_is}
 use Rattle.flow.specs.declared.flows.Flows.{Flows}
-use Rattle.left_out_counts.specs.LeftOut.{left_out_of}
-use Rattle.left_out_counts.specs.declared.left_out.LeftOut.{LeftOut}
+use Rattle.recording_counts.specs.LeftOut.{left_out_of}
+use Rattle.recording_counts.specs.declared.left_out.LeftOut.{LeftOut}
 use Rattle.pcap_file.specs.PcapReading.{Recorded}
 use Rattle.pcap_file.specs.Runs.{HasFailed, HasRead, fault_in, layout_seen}
 use Rattle.pcap_file.specs.declared.fault.RecordingFault.{RecordingFault}

@@ -7,7 +7,7 @@ use Rattle.flow.specs.Flow.{IsOnePlace}
 use Rattle.flow.specs.FlowText.{IsFlowText}
 use Rattle.flow.specs.declared.flows.Flow.{Flow}
 use Rattle.flow.specs.declared.flows.Flows.{Flows}
-use Rattle.left_out_counts.specs.LeftOut.{counted, left_out_of}
+use Rattle.recording_counts.specs.LeftOut.{counted, left_out_of}
 use Rattle.media_file.specs.Fronts.{front_text}
 use Rattle.media_file.specs.Records.{Entry, records_text}
 use Rattle.media_file.specs.declared.front.Version.TheVariants.{Two}

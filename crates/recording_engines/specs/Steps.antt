@@ -3,7 +3,7 @@ use Rattle.std.specs.Prelude.{◌≡◌, ℕ, ◌<◌, ◌≤◌, ◌⊎◌, Lis
 use Rattle.std.specs.List.{AllByRecursion}
 use Rattle.st_format.specs.History.{IsRead}
 use Rattle.flow.specs.declared.flows.Flows.{Flows}
-use Rattle.left_out_counts.specs.declared.omission.Omission.{Omission}
+use Rattle.recording_counts.specs.declared.omission.Omission.{Omission}
 use Rattle.media_file.specs.Records.{Entry}
 use Rattle.pcap_file.specs.declared.fault.RecordingFault.{RecordingFault}
 use Rattle.recording_engines.specs.Joining.{Joins, Strand}

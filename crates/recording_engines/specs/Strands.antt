@@ -2,7 +2,7 @@
 use Rattle.std.specs.Prelude.{◌≡◌, ℕ, ◌+◌, ◌⊎◌, List, [], ◌∷◌, ◌++◌, None, replicate}
 use Rattle.flow.specs.Flow.{IsOnePlace}
 use Rattle.flow.specs.declared.flows.Flows.{Flows}
-use Rattle.left_out_counts.specs.declared.omission.Omission.{Omission}
+use Rattle.recording_counts.specs.declared.omission.Omission.{Omission}
 use Rattle.pcap_file.specs.Runs.{fault_in, packets_in}
 use Rattle.recording_engines.specs.Joining.{Strand}
 use Rattle.recording_reader.specs.Records.{left_out, omissions_of, records_of, room}

@@ -7,8 +7,8 @@ ghost use Rattle.recording_engines.specs.Tracks.{StopsBehind};
 use crate::record::{moment_of, record_of};
 use crate::track::Track;
 use flow::Flows;
-use left_out_counts::LeftOut;
 use pcap_file::{Layout, Packet, RecordingFault, next_packet};
+use recording_counts::LeftOut;
 use st_format::ByteSource;
 use std::alloc::Allocator;
 

@@ -6,8 +6,8 @@ ghost use Rattle.recording_reader.specs.Records.{entry_of, moment_of, omission_o
 ghost use Rattle.recording_engines.specs.Tracks.{entry_seen, omission_seen};
 
 use flow::Flows;
-use left_out_counts::Omission;
 use pcap_file::{Packet, packet_datagram};
+use recording_counts::Omission;
 use st_format::Path;
 
 /// The octets of a datagram, and the path by which they came.

@@ -3,8 +3,8 @@ ghost use Rattle.std.proofs.Props.{props};
 ghost use Rattle.std.specs.Prelude.{◌≡◌, ◌≤◌, ◌+◌, length, IfSome};
 
 use flow::Flows;
-use left_out_counts::LeftOut;
 use pcap_file::{Layout, Packet};
+use recording_counts::LeftOut;
 use std::alloc::Allocator;
 
 /// What was read of a recording, up to its next record.

@@ -1,12 +1,12 @@
 //! Which of some recordings comes next.
 ghost use Rattle.std.specs.Prelude.{◌≡◌, ◌≤◌, ◌+◌, IfSome, List};
-ghost use Rattle.left_out_counts.specs.LeftOut.{left_out_of};
-ghost use Rattle.left_out_counts.specs.declared.omission.Omission.{Omission as Reason};
+ghost use Rattle.recording_counts.specs.LeftOut.{left_out_of};
+ghost use Rattle.recording_counts.specs.declared.omission.Omission.{Omission as Reason};
 ghost use Rattle.recording_engines.specs.Tracks.{AreLeftOut, IsEarliest, IsSooner};
 
 use crate::reading::next_moment;
 use crate::track::Track;
-use left_out_counts::LeftOut;
+use recording_counts::LeftOut;
 use std::alloc::Allocator;
 
 /// The place of the recording that comes next, the first of those of one moment, and the moment.

@@ -1,6 +1,6 @@
 //! A table of three flows, and what is told of each.
 use crate::checks::met;
-use flow_counts::{CountJson, FlowTable, MOST_STREAMS, Noted, RtpStream};
+use recording_counts::{CountJson, FlowTable, MOST_STREAMS, Noted, RtpStream};
 use std::alloc::{AllocError, Global};
 use std::net::{IpAddr, Ipv4Addr, Ipv6Addr, SocketAddr};
 use std::process::Abort;

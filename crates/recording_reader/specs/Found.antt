@@ -1,7 +1,7 @@
 -- The record of a packet, found in a buffer.
 use Rattle.std.specs.Prelude.{◌≡◌, ℕ, ◌+◌, ◌-◌, ◌≤◌, List, ◌++◌, length, take, drop}
 use Rattle.std.specs.Prelude.{Option, None, Some, Result, Ok, Err}
-use Rattle.left_out_counts.specs.declared.omission.Omission.{Omission}
+use Rattle.recording_counts.specs.declared.omission.Omission.{Omission}
 use Rattle.media_file.specs.Records.{Entry}
 use Rattle.pcap_file.specs.Ip.{header_octets}
 use Rattle.pcap_file.specs.Parts.{number_16}

@@ -1,8 +1,8 @@
 -- Reading a recording from one record of the flows to the next.
 use Rattle.std.specs.Prelude.{◌≡◌, ℕ, List, [], ◌++◌, Option, None, Some, option_to_list}
 use Rattle.flow.specs.declared.flows.Flows.{Flows}
-use Rattle.left_out_counts.specs.LeftOut.{left_out_of}
-use Rattle.left_out_counts.specs.declared.left_out.LeftOut.{LeftOut}
+use Rattle.recording_counts.specs.LeftOut.{left_out_of}
+use Rattle.recording_counts.specs.declared.left_out.LeftOut.{LeftOut}
 use Rattle.media_file.specs.Records.{Entry}
 use Rattle.pcap_file.specs.PcapReading.{Recorded}
 use Rattle.pcap_file.specs.Runs.{HasFailed, HasRead, HasReadAll, layout_seen}

@@ -3,8 +3,8 @@ use Rattle.std.specs.Prelude.{ℕ, List, Option, None, Some, Result, Ok, Err, is
 use Rattle.std.specs.List.{count_by, filter_map}
 use Rattle.flow.specs.Flow.{path_to}
 use Rattle.flow.specs.declared.flows.Flows.{Flows}
-use Rattle.left_out_counts.specs.declared.omission.Omission.{Omission}
-use Rattle.left_out_counts.specs.declared.omission.Omission.TheVariants as by
+use Rattle.recording_counts.specs.declared.omission.Omission.{Omission}
+use Rattle.recording_counts.specs.declared.omission.Omission.TheVariants as by
 use Rattle.media_file.specs.Records.{Entry}
 use Rattle.pcap_file.specs.declared.datagram.NoDatagram.{NoDatagram}
 use Rattle.pcap_file.specs.PacketDatagram.{datagram_in}

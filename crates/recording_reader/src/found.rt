@@ -6,8 +6,8 @@ ghost use Rattle.recording_reader.specs.Records.{moment_of, omission_of, record_
 
 use crate::place::read_placed;
 use flow::Flows;
-use left_out_counts::Omission;
 use pcap_file::Packet;
+use recording_counts::Omission;
 use st_format::Path;
 
 /// A datagram that was found in a buffer: its path, its moment, and where its octets stand.

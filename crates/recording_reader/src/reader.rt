@@ -2,7 +2,7 @@
 ghost use Rattle.std.specs.Prelude.{◌≡◌, ◌≤◌, ◌<◌, ◌↔◌, ◌++◌, None, Some, Ok, Err, false};
 ghost use Rattle.std.specs.Prelude.{IfErr, IfOk, IfSome, OnErr, OnOk, MatchResult, length};
 ghost use Rattle.std.specs.Option.{option_map};
-ghost use Rattle.left_out_counts.specs.LeftOut.{left_out_of};
+ghost use Rattle.recording_counts.specs.LeftOut.{left_out_of};
 ghost use Rattle.pcap_file.specs.Fields.{CountsDevice};
 ghost use Rattle.pcap_file.specs.declared.fault.RecordingFault.{RecordingFault as Wrong};
 ghost use Rattle.recording_reader.specs.Opening.{CountsOpening, StopsOpening};
@@ -19,8 +19,8 @@ ghost use Rattle.st_format.specs.Turns.{CountsTurn, IsEnd, IsWithin, TakesTurn, 
 use crate::opening::OpeningFault;
 use crate::track::{RecordView, Track, advance, open_track};
 use flow::Flows;
-use left_out_counts::LeftOut;
 use pcap_file::RecordingFault;
+use recording_counts::LeftOut;
 use st_format::{ByteSource, DatagramSource, Path, SourceFault, Turn};
 use std::alloc::Allocator;
 use std::marker::Model;

@@ -5,8 +5,8 @@ ghost use Rattle.recording_reader.specs.Reading.{FailsNext, ReadsToNext};
 
 use crate::found::{Found, find};
 use flow::Flows;
-use left_out_counts::LeftOut;
 use pcap_file::{Layout, RecordingFault, next_packet};
+use recording_counts::LeftOut;
 use st_format::ByteSource;
 
 /// Reads on to the next packet that has a record, and finds that in `buf`, or reads on to the end;

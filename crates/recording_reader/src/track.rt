@@ -3,7 +3,7 @@ ghost use Rattle.std.proofs.Props.{props};
 ghost use Rattle.std.specs.Prelude.{◌≡◌, ◌≤◌, ◌-◌, [], None, length, vec_len, IfErr, IfOk, IfSome};
 ghost use Rattle.std.specs.Prelude.{MatchResult, OnErr, OnOk, is_some};
 ghost use Rattle.std.specs.Option.{option_map};
-ghost use Rattle.left_out_counts.specs.LeftOut.{left_out_of};
+ghost use Rattle.recording_counts.specs.LeftOut.{left_out_of};
 ghost use Rattle.pcap_file.specs.Fields.{CountsDevice};
 ghost use Rattle.pcap_file.specs.Runs.{HasRead, layout_seen};
 ghost use Rattle.recording_reader.specs.Opening.{CountsOpening, StopsOpening};
@@ -14,8 +14,8 @@ use crate::found::Found;
 use crate::opening::OpeningFault;
 use crate::reading::read_on;
 use flow::Flows;
-use left_out_counts::LeftOut;
 use pcap_file::{Layout, RecordingFault, open_recording};
+use recording_counts::LeftOut;
 use st_format::{ByteSource, Path};
 use std::alloc::{AllocError, Allocator};
 

@@ -3,7 +3,7 @@ use crate::run_made;
 use command_end::{Command, end_without_memory, run_command};
 use command_line::ImportWords;
 use devices::Stream;
-use left_out_counts::LeftOut;
+use recording_counts::LeftOut;
 use recording_engines::ImportCounts;
 use recording_runs::{FlowsCommand, ImportCommand};
 

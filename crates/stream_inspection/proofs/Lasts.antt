@@ -10,10 +10,10 @@ use Rattle.std.specs.List.{filter}
 use Rattle.std.specs.Ordering.{is_eq}
 use Rattle.std.specs.declared.cmp.Ordering.{Ordering}
 use Rattle.std.specs.declared.cmp.Ordering.TheVariants.{Less, Equal, Greater}
-use Rattle.stream_counts.specs.Streams.{is_same, key_cmp}
-use Rattle.stream_counts.specs.declared.packet.StreamKey.{StreamKey}
-use Rattle.stream_counts.specs.declared.timestamp.TimestampCount.{TimestampCount}
-use Rattle.stream_counts.proofs.Keys.{exact_streams, stream_keys}
+use Rattle.recording_counts.specs.Streams.{is_same, key_cmp}
+use Rattle.recording_counts.specs.declared.packet.StreamKey.{StreamKey}
+use Rattle.recording_counts.specs.declared.timestamp.TimestampCount.{TimestampCount}
+use Rattle.recording_counts.proofs.Keys.{exact_streams, stream_keys}
 use Rattle.stream_inspection.specs.Arrivals.{Arrival}
 use Rattle.stream_inspection.specs.Timestamps.{AreLasts, last_after, last_of, timestamp_line}
 use Rattle.stream_inspection.specs.Timestamps.{timestamps_behind}

@@ -9,10 +9,10 @@ use Rattle.std.specs.List.{filter}
 use Rattle.std.specs.Ordering.{is_eq}
 use Rattle.std.specs.declared.cmp.Ordering.{Ordering}
 use Rattle.std.specs.declared.cmp.Ordering.TheVariants.{Less, Equal, Greater}
-use Rattle.stream_counts.specs.Streams.{is_a}
-use Rattle.stream_counts.specs.Timestamps.{is_same_timestamp, timestamp_cmp, timestamp_key_of}
-use Rattle.stream_counts.specs.declared.packet.TimestampKey.{TimestampKey}
-use Rattle.stream_counts.proofs.Keys.{exact_timestamps, timestamp_keys}
+use Rattle.recording_counts.specs.Streams.{is_a}
+use Rattle.recording_counts.specs.Timestamps.{is_same_timestamp, timestamp_cmp, timestamp_key_of}
+use Rattle.recording_counts.specs.declared.packet.TimestampKey.{TimestampKey}
+use Rattle.recording_counts.proofs.Keys.{exact_timestamps, timestamp_keys}
 use Rattle.stream_inspection.specs.Arrivals.{Arrival}
 use Rattle.stream_inspection.specs.Skews.{AreProbes, by_a_with, by_b_with, first_known}
 use Rattle.stream_inspection.specs.Skews.{moment_after, own_of, probe_of, probe_with}

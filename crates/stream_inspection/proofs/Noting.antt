@@ -12,10 +12,10 @@ use Rattle.capture_engines.specs.declared.tally.Tally.{Tally}
 use Rattle.path_merge.specs.declared.answer.Refusal.{Refusal}
 use Rattle.path_merge.specs.declared.answer.Taken.{Taken}
 use Rattle.rtp_header.specs.Reading.{rtp_walk}
-use Rattle.stream_counts.specs.Numbering.{capped}
-use Rattle.stream_counts.specs.Streams.{streams_of}
-use Rattle.stream_counts.specs.Timestamps.{timestamps_of}
-use Rattle.stream_counts.specs.declared.packet.Packet.{Packet}
+use Rattle.recording_counts.specs.Numbering.{capped}
+use Rattle.recording_counts.specs.Streams.{streams_of}
+use Rattle.recording_counts.specs.Timestamps.{timestamps_of}
+use Rattle.recording_counts.specs.declared.packet.Packet.{Packet}
 use Rattle.stream_inspection.specs.Arrivals.{Arrival, answer_at, answers_in, answers_of, arrival}
 use Rattle.stream_inspection.specs.Arrivals.{arrival_if, arrivals_in, arrivals_of, is_control}
 use Rattle.stream_inspection.specs.Arrivals.{packet_by, video_in, video_of}

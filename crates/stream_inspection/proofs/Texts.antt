@@ -2,9 +2,9 @@
 use Rattle.std.proofs.Common.{◌≡◌, ◌∙◌, ℕ, List, [], ◌++◌, ap, append_assoc, subst}
 use Rattle.std.specs.List.{flat_map}
 use Rattle.media_file.specs.Records.{Entry}
-use Rattle.stream_counts.specs.Streams.{streams_of}
-use Rattle.stream_counts.specs.Timestamps.{timestamps_of}
-use Rattle.stream_counts.specs.declared.timestamp.TimestampCount.{TimestampCount}
+use Rattle.recording_counts.specs.Streams.{streams_of}
+use Rattle.recording_counts.specs.Timestamps.{timestamps_of}
+use Rattle.recording_counts.specs.declared.timestamp.TimestampCount.{TimestampCount}
 use Rattle.stream_inspection.specs.Arrivals.{Arrival, arrivals_of, video_of}
 use Rattle.stream_inspection.specs.Inspected.{IsInspected, packets}
 use Rattle.stream_inspection.specs.Lines.{counted_line, row_line}

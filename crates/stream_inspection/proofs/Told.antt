@@ -19,10 +19,10 @@ use Rattle.run_outcome.specs.LowerFaults.{capture_fault}
 use Rattle.run_outcome.specs.Refusing.{OfRefusal}
 use Rattle.run_outcome.specs.declared.refusal.Refusal.{Refusal}
 use Rattle.run_outcome.specs.declared.refusal.Refusal.TheVariants as refusal
-use Rattle.stream_counts.specs.Streams.{is_same, key_of, stream_of, streams_of}
-use Rattle.stream_counts.specs.Tables.{different, of_key}
-use Rattle.stream_counts.specs.declared.packet.Packet.{Packet}
-use Rattle.stream_counts.specs.declared.packet.StreamKey.{StreamKey}
+use Rattle.recording_counts.specs.Streams.{is_same, key_of, stream_of, streams_of}
+use Rattle.recording_counts.specs.Tables.{different, of_key}
+use Rattle.recording_counts.specs.declared.packet.Packet.{Packet}
+use Rattle.recording_counts.specs.declared.packet.StreamKey.{StreamKey}
 use Rattle.stream_inspection.specs.Aim.{Announces, IsBegun, IsTarget, ReadsTarget}
 use Rattle.stream_inspection.specs.Inspected.{IsInspected}
 use Rattle.stream_inspection.specs.Read.{IfEnd, MayBe, NotesFiles, NotesUpTo}

@@ -13,7 +13,7 @@ use Rattle.payload_header.specs.Reading.{payload_walk}
 use Rattle.path_merge.specs.declared.answer.Refusal.{Refusal}
 use Rattle.path_merge.specs.declared.answer.Taken.{Taken}
 use Rattle.path_merge.specs.declared.answer.Taken.TheVariants.{Kept}
-use Rattle.stream_counts.specs.declared.packet.Packet.{Packet}
+use Rattle.recording_counts.specs.declared.packet.Packet.{Packet}
 use Rattle.stream_inspection.specs.declared.looking.Look.{Look}
 use Rattle.stream_inspection.specs.declared.target.Target.{Target}
 

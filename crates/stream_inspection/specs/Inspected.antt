@@ -4,10 +4,10 @@ use Rattle.std.specs.List.{count_by}
 use Rattle.st_format.specs.declared.path.Path.{Path}
 use Rattle.media_file.specs.Records.{Entry}
 use Rattle.capture_engines.specs.Tallied.{Tallies}
-use Rattle.stream_counts.specs.Numbering.{capped}
-use Rattle.stream_counts.specs.Streams.{streams_of}
-use Rattle.stream_counts.specs.Timestamps.{timestamps_of}
-use Rattle.stream_counts.specs.declared.packet.Packet.{Packet}
+use Rattle.recording_counts.specs.Numbering.{capped}
+use Rattle.recording_counts.specs.Streams.{streams_of}
+use Rattle.recording_counts.specs.Timestamps.{timestamps_of}
+use Rattle.recording_counts.specs.declared.packet.Packet.{Packet}
 use Rattle.stream_inspection.specs.Arrivals.{Arrival, answers_of, arrivals_of, is_control}
 use Rattle.stream_inspection.specs.Arrivals.{video_in, video_of}
 use Rattle.stream_inspection.specs.Skews.{AreProbes}

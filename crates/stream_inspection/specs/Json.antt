@@ -3,7 +3,7 @@ use Rattle.std.specs.Prelude.{ℕ, List, ◌++◌, codes}
 use Rattle.std.specs.Fmt.{decimal}
 use Rattle.path_merge.specs.Answers.{refusal_name, refusal_number}
 use Rattle.path_merge.specs.declared.answer.Refusal.{Refusal}
-use Rattle.stream_counts.specs.declared.packet.StreamKey.{StreamKey}
+use Rattle.recording_counts.specs.declared.packet.StreamKey.{StreamKey}
 use Rattle.stream_inspection.specs.Values.{bool_text, commas_text, null_signed, null_text, path_text}
 use Rattle.stream_inspection.specs.declared.rows.PathRow.{PathRow}
 use Rattle.stream_inspection.specs.declared.rows.Row.{Row}

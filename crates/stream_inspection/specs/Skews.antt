@@ -6,11 +6,11 @@ use Rattle.std.specs.BTreeMap.{get}
 use Rattle.std.specs.List.{filter, flat_map}
 use Rattle.std.specs.List.Sorted.{IsPermutation, IsSorted}
 use Rattle.std.specs.Ordering.{nat_cmp}
-use Rattle.stream_counts.specs.Streams.{is_a}
-use Rattle.stream_counts.specs.Tables.{of_key}
-use Rattle.stream_counts.specs.Timestamps.{is_same_timestamp, timestamp_cmp, timestamp_key_of}
-use Rattle.stream_counts.specs.declared.packet.TimestampKey.{TimestampKey}
-use Rattle.stream_counts.specs.declared.timestamp.TimestampCount.{TimestampCount}
+use Rattle.recording_counts.specs.Streams.{is_a}
+use Rattle.recording_counts.specs.Tables.{of_key}
+use Rattle.recording_counts.specs.Timestamps.{is_same_timestamp, timestamp_cmp, timestamp_key_of}
+use Rattle.recording_counts.specs.declared.packet.TimestampKey.{TimestampKey}
+use Rattle.recording_counts.specs.declared.timestamp.TimestampCount.{TimestampCount}
 use Rattle.stream_inspection.specs.Arrivals.{Arrival}
 use Rattle.stream_inspection.specs.declared.probe.Probe.{Probe}
 use Rattle.stream_inspection.specs.declared.probes.ProbeTable.{ProbeTable}

@@ -4,10 +4,10 @@ use Rattle.std.specs.BTreeMap.{get}
 use Rattle.std.specs.Fmt.{decimal}
 use Rattle.std.specs.List.{filter}
 use Rattle.std.specs.Option.{option_map}
-use Rattle.stream_counts.specs.Streams.{is_same, key_cmp}
-use Rattle.stream_counts.specs.Timestamps.{ticks_from}
-use Rattle.stream_counts.specs.declared.packet.StreamKey.{StreamKey}
-use Rattle.stream_counts.specs.declared.timestamp.TimestampCount.{TimestampCount}
+use Rattle.recording_counts.specs.Streams.{is_same, key_cmp}
+use Rattle.recording_counts.specs.Timestamps.{ticks_from}
+use Rattle.recording_counts.specs.declared.packet.StreamKey.{StreamKey}
+use Rattle.recording_counts.specs.declared.timestamp.TimestampCount.{TimestampCount}
 use Rattle.stream_inspection.specs.Arrivals.{Arrival}
 use Rattle.stream_inspection.specs.Lines.{heading_lines, row_line}
 use Rattle.stream_inspection.specs.Skews.{skew_by}

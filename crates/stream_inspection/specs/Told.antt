@@ -11,10 +11,10 @@ use Rattle.media_file.specs.declared.fault.FileFault.TheVariants as file
 use Rattle.path_merge.specs.declared.answer.Refusal.{Refusal as Reason}
 use Rattle.run_outcome.specs.declared.refusal.Refusal.{Refusal}
 use Rattle.run_outcome.specs.declared.refusal.Refusal.TheVariants as refusal
-use Rattle.stream_counts.specs.Streams.{streams_of}
-use Rattle.stream_counts.specs.Timestamps.{timestamps_of}
-use Rattle.stream_counts.specs.declared.stream.StreamCount.{StreamCount}
-use Rattle.stream_counts.specs.declared.timestamp.TimestampCount.{TimestampCount}
+use Rattle.recording_counts.specs.Streams.{streams_of}
+use Rattle.recording_counts.specs.Timestamps.{timestamps_of}
+use Rattle.recording_counts.specs.declared.stream.StreamCount.{StreamCount}
+use Rattle.recording_counts.specs.declared.timestamp.TimestampCount.{TimestampCount}
 use Rattle.stream_inspection.specs.Aim.{IsBeginRefusal, IsTarget}
 use Rattle.stream_inspection.specs.Arrivals.{Arrival, answers_of, arrivals_of, video_of}
 use Rattle.stream_inspection.specs.Columns.{window_column}

@@ -9,9 +9,9 @@ use crate::probes::ProbeTable;
 use crate::target::Target;
 use capture_engines::Tally;
 use path_merge::Observer;
+use recording_counts::{Packet, StreamTable, TimestampTable};
 use st_format::Path;
 use std::alloc::{AllocError, Allocator};
-use stream_counts::{Packet, StreamTable, TimestampTable};
 
 /// What is counted of the datagrams of captures.
 #[derive(Drop)]

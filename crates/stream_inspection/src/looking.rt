@@ -7,9 +7,9 @@ ghost use Rattle.rtp_header.specs.Views.{seen_rtp};
 use crate::target::Target;
 use path_merge::{Refusal, Taken};
 use payload_header::read_payload;
+use recording_counts::Packet;
 use rtp_header::{RtpView, read_rtp};
 use st_format::Path;
-use stream_counts::Packet;
 
 /// What a receiver of a format and a payload type, whatever the source and the timestamp, answers
 /// to a datagram, and the packet that it is where it has a header (RFC 3550, 5.1).

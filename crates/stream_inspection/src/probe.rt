@@ -3,8 +3,8 @@ ghost use Rattle.std.specs.Prelude.{◌≡◌, ◌++◌, ◌∷◌, List, [], So
 ghost use Rattle.stream_inspection.specs.Arrivals.{Arrival, arrival};
 ghost use Rattle.stream_inspection.specs.Skews.{first_known, probe_of, skew_of};
 
+use recording_counts::Packet;
 use st_format::Path;
-use stream_counts::Packet;
 
 /// The packet number of the first packet of a timestamp, by its low 16 bits, and when a packet with
 /// that number first came by each path, in nanoseconds, where it came and that is known.

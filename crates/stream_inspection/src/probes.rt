@@ -1,14 +1,14 @@
 //! The packets by which the skew of the paths is told, by timestamp.
 ghost use Rattle.std.specs.Prelude.{◌≡◌, ◌++◌, ◌∷◌, List, [], OnOk, Some};
 ghost use Rattle.std.specs.BTreeMap.{get};
-ghost use Rattle.stream_counts.specs.Timestamps.{timestamp_cmp, timestamp_key_of};
+ghost use Rattle.recording_counts.specs.Timestamps.{timestamp_cmp, timestamp_key_of};
 ghost use Rattle.stream_inspection.specs.Arrivals.{Arrival, arrival};
 ghost use Rattle.stream_inspection.specs.Skews.{AreProbes, probe_of, skew_by};
 
 use crate::probe::Probe;
+use recording_counts::{Packet, TimestampKey};
 use std::alloc::{AllocError, Allocator};
 use std::collections::BTreeMap;
-use stream_counts::{Packet, TimestampKey};
 
 /// A probe of each timestamp. A sender chooses the timestamps, so they lie in a tree, which no
 /// choice makes slow.

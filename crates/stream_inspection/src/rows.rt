@@ -5,9 +5,9 @@ ghost use Rattle.stream_inspection.specs.Json.{json_text};
 
 use crate::values::{Commas, Letter, Null, NullSkew, Skew, Truth, Wide, Yes};
 use path_merge::Refusal;
+use recording_counts::{StreamKey, TimestampKey};
 use st_format::Path;
 use std::fmt;
-use stream_counts::{StreamKey, TimestampKey};
 
 /// What is told of a stream on one path.
 #[derive(Clone, Copy)]

@@ -11,8 +11,8 @@ ghost use Rattle.stream_inspection.specs.declared.rows.Row.TheVariants.{Skew as 
 use crate::probes::ProbeTable;
 use crate::rows::{Row, SkewRow};
 use crate::text::{Form, put_row};
+use recording_counts::TimestampCount;
 use std::alloc::{AllocError, Allocator};
-use stream_counts::TimestampCount;
 
 /// The skews of timestamps, as far as they are known, in order.
 pub(crate) fn skews_of<A: Allocator>(

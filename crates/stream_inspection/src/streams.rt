@@ -9,10 +9,10 @@ ghost use Rattle.stream_inspection.specs.Streams.{is_wrong, lower, span, wrong_l
 use crate::rows::{PathRow, Row, TogetherRow};
 use crate::text::{Form, put_heading, put_row};
 use crate::values::Letter;
+use recording_counts::{PathCount, StreamCount, StreamKey};
 use st_format::Path;
 use std::alloc::{AllocError, Allocator};
 use std::fmt;
-use stream_counts::{PathCount, StreamCount, StreamKey};
 
 /// The heading of a stream.
 #[derive(Clone, Copy)]

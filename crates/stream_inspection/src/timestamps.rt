@@ -1,6 +1,6 @@
 //! What is told of timestamps.
 ghost use Rattle.std.specs.Prelude.{◌≡◌, ◌++◌, ◌∷◌, [], ℕ, List, Some, IfOk, OnOk, take};
-ghost use Rattle.stream_counts.specs.declared.timestamp.TimestampCount.{TimestampCount as Count};
+ghost use Rattle.recording_counts.specs.declared.timestamp.TimestampCount.{TimestampCount as Count};
 ghost use Rattle.stream_inspection.specs.Arrivals.{Arrival};
 ghost use Rattle.stream_inspection.specs.Skews.{AreProbes};
 ghost use Rattle.stream_inspection.specs.Timestamps.{AreLasts, heading_text, ticks_behind};
@@ -11,10 +11,10 @@ ghost use Rattle.window_finding.specs.First.{distinct};
 use crate::probes::ProbeTable;
 use crate::rows::{Row, TimestampRow};
 use crate::text::{Form, put_heading, put_row};
+use recording_counts::{StreamKey, TimestampCount};
 use std::alloc::{AllocError, Allocator};
 use std::collections::BTreeMap;
 use std::fmt;
-use stream_counts::{StreamKey, TimestampCount};
 
 /// How many timestamps a window has at most.
 const MOST: usize = 16;

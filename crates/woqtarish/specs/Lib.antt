@@ -111,20 +111,20 @@ pub use Rattle.pcap_file.specs.RecordingFaults
 pub use Rattle.pcap_file.specs.Udp as RecordingUdp
 pub use Rattle.pcap_file.specs.Views as RecordingViews
 pub use Rattle.pcap_file.specs.Writing as RecordingWriting
-pub use Rattle.left_out_counts.specs.LeftOut
+pub use Rattle.recording_counts.specs.LeftOut
 pub use Rattle.recording_reader.specs.Opening as RecordingOpening
 pub use Rattle.recording_reader.specs.Reader as RecordingReader
 pub use Rattle.recording_reader.specs.Records as RecordingRecords
-pub use Rattle.flow_counts.specs.Counts as FlowCounts
-pub use Rattle.flow_counts.specs.Flows
-pub use Rattle.flow_counts.specs.Json as FlowJson
-pub use Rattle.flow_counts.specs.Lines as FlowLines
-pub use Rattle.flow_counts.specs.Places as FlowPlaces
-pub use Rattle.flow_counts.specs.Streams as FlowStreams
-pub use Rattle.stream_counts.specs.Numbering as StreamNumbers
-pub use Rattle.stream_counts.specs.Streams as StreamKeys
-pub use Rattle.stream_counts.specs.Tables as StreamTables
-pub use Rattle.stream_counts.specs.Timestamps as StreamTimestamps
+pub use Rattle.recording_counts.specs.FlowCounts
+pub use Rattle.recording_counts.specs.Flows
+pub use Rattle.recording_counts.specs.FlowJson
+pub use Rattle.recording_counts.specs.FlowLines
+pub use Rattle.recording_counts.specs.FlowPlaces
+pub use Rattle.recording_counts.specs.FlowStreams
+pub use Rattle.recording_counts.specs.Numbering as StreamNumbers
+pub use Rattle.recording_counts.specs.Streams as StreamKeys
+pub use Rattle.recording_counts.specs.Tables as StreamTables
+pub use Rattle.recording_counts.specs.Timestamps as StreamTimestamps
 pub use Rattle.frame_report.specs.Contested
 pub use Rattle.frame_report.specs.Faults as ReportFaults
 pub use Rattle.frame_report.specs.Missing as ReportMissing

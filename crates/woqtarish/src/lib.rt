@@ -108,7 +108,6 @@ pub mod files {
 /// of the two paths; and a reader that gives the datagrams of these to a receiver.
 pub mod recordings {
     pub use flow::{Flow, Flows, read_flow};
-    pub use left_out_counts::{LeftOut, Omission};
     pub use pcap_file::{
         ByteOrder, DatagramView, Envelope, Envelope6, HEADS, HEADS6, INTERFACES, Interface,
         IpVersion, Layout, Link, LinkView, NoDatagram, PCAP_HEAD, Packet, PacketHead, PacketView,
@@ -117,12 +116,13 @@ pub mod recordings {
         read_pcap, read_pcap_head, read_record_head, read_udp, record_begins, record_rest,
         write_pcap_head, write_record, write_record6,
     };
+    pub use recording_counts::{LeftOut, Omission};
     pub use recording_reader::{OpeningFault, RecordView, RecordingReader, Standing};
 }
 
 /// Which flows of UDP datagrams have, and that as text.
 pub mod flows {
-    pub use flow_counts::{
+    pub use recording_counts::{
         CountJson, FlowCount, FlowTable, MOST_STREAMS, Noted, RtpCount, RtpStream, Streams, Times,
         is_rtcp,
     };

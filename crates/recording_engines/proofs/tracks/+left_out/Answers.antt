@@ -1,5 +1,5 @@
 use Rattle.std.proofs.Common.{◌∙◌, List, ap, subst, sym}
-use Rattle.left_out_counts.specs.LeftOut.{left_out_of}
+use Rattle.recording_counts.specs.LeftOut.{left_out_of}
 use Rattle.recording_engines.specs.Tracks.{AreLeftOut}
 use Rattle.recording_engines.specs.declared.track.Track.{Track}
 use Rattle.recording_engines.proofs.tracks.+left_out.Goals as goal

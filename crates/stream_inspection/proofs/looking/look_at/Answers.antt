@@ -1,6 +1,6 @@
 use Rattle.std.proofs.Common.{Some, ap, refl}
 use Rattle.rtp_header.specs.Views.{seen_rtp}
-use Rattle.stream_counts.specs.declared.packet.Packet.{Packet}
+use Rattle.recording_counts.specs.declared.packet.Packet.{Packet}
 use Rattle.stream_inspection.proofs.Answering.{looks_right, looks_wrong}
 use Rattle.stream_inspection.proofs.looking.look_at.Goals as goal
 

@@ -1,7 +1,7 @@
 use Rattle.std.proofs.Common.{[], ◌∷◌, ap, refl, sym}
 use Rattle.std.proofs.lemmas.Result.{on_ok_weaker}
 use Rattle.std.specs.declared.net.socket_addr.SocketAddr.{SocketAddr}
-use Rattle.flow_counts.specs.Flows.{Arrival}
+use Rattle.recording_counts.specs.Flows.{Arrival}
 use Rattle.pcap_file.specs.PcapReading.{Recorded}
 use Rattle.pcap_file.specs.Udp.{Datagram}
 use Rattle.pcap_file.specs.Views.{seen_datagram}

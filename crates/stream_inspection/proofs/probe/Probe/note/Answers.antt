@@ -1,5 +1,5 @@
 use Rattle.std.proofs.Common.{Option, ap, rules}
-use Rattle.stream_counts.specs.Streams.{is_a}
+use Rattle.recording_counts.specs.Streams.{is_a}
 use Rattle.stream_inspection.specs.Arrivals.{arrival}
 use Rattle.stream_inspection.proofs.Moments.{noted_a, noted_b, with_moments}
 use Rattle.stream_inspection.proofs.probe.Probe.note.Goals as goal

@@ -1,7 +1,0 @@
-use Rattle.std.proofs.Common.{◌∙◌}
-use Rattle.left_out_counts.proofs.Omissions.{sum_is}
-use Rattle.left_out_counts.proofs.left_out.LeftOut.total.Goals as goal
-
-pub returns-clause-all : goal.returns-clause-all
-returns-clause-all c =
-    λ omissions is. c.sum.ensures ∙ sum_is c.args.self.now omissions is

@@ -1,0 +1,14 @@
+pub mod Tables
+pub mod Numbering
+pub mod Runs
+pub mod PathCounts
+pub mod Streams
+pub mod Timestamps
+pub mod Codes
+pub mod Flows
+pub mod FlowStreams
+pub mod FlowCounts
+pub mod FlowPlaces
+pub mod FlowLines
+pub mod FlowJson
+pub mod LeftOut
