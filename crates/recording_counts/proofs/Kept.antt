@@ -14,7 +14,7 @@ use Rattle.recording_counts.specs.Numbering.{capped}
 use Rattle.recording_counts.specs.Streams.{is_same}
 use Rattle.recording_counts.specs.Tables.{place_of}
 use Rattle.recording_counts.specs.declared.packet.StreamKey.{StreamKey}
-use Rattle.recording_counts.proofs.Keys.{stream_keys}
+use Rattle.recording_counts.proofs.Keys.{stream_parts}
 use Rattle.recording_counts.proofs.Tables.{below, note_new, note_there}
 use Rattle.recording_counts.specs.FlowStreams.{all_streams, earlier, stream_key_of, later, rtp_key, stream_by}
 use Rattle.recording_counts.specs.FlowStreams.{rtp_stream_of, rtp_streams_of}
@@ -197,7 +197,7 @@ kept_on said s r i old next now e found at is on =
     let there = place_in (rtp_key r) 16 cs i (ap (place (rtp_key r)) (sym items) ∙ found) in
     let same : get_or (take 16 cs) i old ≡ get_or cs i old = get_take 16 cs i old there.0 in
     let more : slice_set cs i next ≡ all_streams (said ++ r ∷ []) =
-    note_there is_same stream_keys rtp_key rtp_stream_of stream_key_of (λ d rs. refl) said r cs i old next
+    note_there is_same stream_parts rtp_key rtp_stream_of stream_key_of (λ d rs. refl) said r cs i old next
     (rtp_key r) refl refl there.1
     (at ∙ ap (λ (x : List RtpStream). get_or x i old) items ∙ same)
     (goes old next r on) in
@@ -219,7 +219,7 @@ kept_at said s r i xs d next now e found same is on =
     let items : List RtpStream = s.kept.items in
     let old : RtpStream = get_or xs i d in
     let lt : i < length items =
-    below is_same stream_keys rtp_key rtp_stream_of stream_key_of items (rtp_key r) i found in
+    below is_same stream_key_of items (rtp_key r) i found in
     kept_on said s r i old next now e found
     (ap (λ (x : List RtpStream). get_or x i d) same ∙ get_or_default items i d old lt)
     (is ∙ ap (λ (x : List RtpStream). slice_set x i next) same) on
@@ -252,7 +252,7 @@ kept_full said s r e none l =
         let c : RtpStream = rtp_stream_of (rtp_key r) (r ∷ []) in
         let all : List RtpStream = all_streams said in
         let more : all ++ c ∷ [] ≡ all_streams (said ++ r ∷ []) =
-        note_new is_same stream_keys rtp_key rtp_stream_of stream_key_of (λ d rs. refl) said r all
+        note_new is_same stream_parts rtp_key rtp_stream_of stream_key_of (λ d rs. refl) said r all
         (all ++ c ∷ []) (rtp_key r) refl refl p refl in
         grown all (all ++ c ∷ []) items (take-append-le 16 all (c ∷ []) many)
         (omega (arith, length-append all (c ∷ []), many))
@@ -261,12 +261,12 @@ kept_full said s r e none l =
         let all : List RtpStream = all_streams said in
         let far : 16 ≤ i = place_behind (rtp_key r) 16 all i absent p in
         let lt : i < length all =
-        below is_same stream_keys rtp_key rtp_stream_of stream_key_of all (rtp_key r) i p in
+        below is_same stream_key_of all (rtp_key r) i p in
         let none_yet : RtpStream = stream_by (rtp_key r) [] in
         let old : RtpStream = get_or all i none_yet in
         let next : RtpStream = step old r.timestamp in
         let more : slice_set all i next ≡ all_streams (said ++ r ∷ []) =
-        note_there is_same stream_keys rtp_key rtp_stream_of stream_key_of (λ d rs. refl) said r all i old
+        note_there is_same stream_parts rtp_key rtp_stream_of stream_key_of (λ d rs. refl) said r all i old
         next (rtp_key r) refl refl p (get_or_default all i none_yet old lt)
         (goes old next r (step_goes old r.timestamp)) in
         grown all (slice_set all i next) items (take-set-le 16 all i next far)
@@ -289,7 +289,7 @@ kept_room said s r now e none l n =
     let absent : place (rtp_key r) cs ≡ None =
     ap (place (rtp_key r)) (sym (items ∙ all)) ∙ none in
     let more : cs ++ c ∷ [] ≡ all_streams (said ++ r ∷ []) =
-    note_new is_same stream_keys rtp_key rtp_stream_of stream_key_of (λ d rs. refl) said r cs
+    note_new is_same stream_parts rtp_key rtp_stream_of stream_key_of (λ d rs. refl) said r cs
     (cs ++ c ∷ []) (rtp_key r) refl refl absent refl in
     let len : length (cs ++ c ∷ []) ≡ length cs + 1 = length-append cs (c ∷ []) in
     let again : take 16 (cs ++ c ∷ []) ≡ cs ++ c ∷ [] =

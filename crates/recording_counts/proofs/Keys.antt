@@ -1,13 +1,21 @@
--- Keys of streams and of timestamps.
-use Rattle.std.proofs.Common.{◌≡◌, ◌∙◌, ℕ, true, ap, refl}
+-- Keys of streams, of timestamps and of flows.
+use Rattle.std.proofs.Common.{◌≡◌, ◌∙◌, ℕ, ◌+◌, List, [], ◌∷◌, map, Option, Some, cond, option_map, true, ap, refl, sym}
 use Rattle.std.proofs.lemmas.Bool.{and_from, and_parts, eq-eqb, eqb-true}
-use Rattle.std.proofs.lemmas.Map.Lookups.{CmpEqualImpliesEq, exact_pairs, exact_unsigned}
+use Rattle.std.proofs.lemmas.Map.Lookups.{CmpEqualImpliesEq, exact_bytes, exact_pairs, exact_unsigned}
+use Rattle.std.proofs.lemmas.Slice.Eq.{bytes_eq-Decides}
+use Rattle.std.specs.Cmp.Lexicographic.{slice_cmp}
 use Rattle.std.specs.Ordering.{nat_cmp}
+use Rattle.arrayvec.specs.ArrayVec.{ArrayVec}
+use Rattle.recording_counts.specs.FlowPlaces.{FlowKey, flow_key_cmp, flow_key_of, is_same_key}
+use Rattle.recording_counts.specs.Flows.{is_same_flow}
+use Rattle.recording_counts.specs.Tables.{place_of}
+use Rattle.recording_counts.specs.declared.flow_count.FlowCount.{FlowCount}
+use Rattle.std.specs.declared.net.socket_addr.SocketAddr.{SocketAddr}
 use Rattle.recording_counts.specs.declared.packet.StreamKey.{StreamKey}
 use Rattle.recording_counts.specs.declared.packet.TimestampKey.{TimestampKey}
 use Rattle.recording_counts.specs.Streams.{is_same, key_cmp}
 use Rattle.recording_counts.specs.Timestamps.{is_same_timestamp, timestamp_cmp}
-use Rattle.recording_counts.proofs.Tables.{AreKeys}
+use Rattle.recording_counts.proofs.Tables.{AreKeys, Parts, coded_parts, parts_of}
 
 abbrev stream_key : ℕ → ℕ → StreamKey
 stream_key t s = record { payload_type = t; ssrc = s }
@@ -27,6 +35,9 @@ same_stream k =
 
 pub stream_keys : AreKeys is_same
 stream_keys = record { one = one_stream; itself = same_stream }
+
+pub stream_parts : Parts is_same
+stream_parts = parts_of is_same stream_keys
 
 pub exact_streams : CmpEqualImpliesEq key_cmp
 exact_streams k l h =
@@ -48,8 +59,54 @@ same_timestamp k =
 pub timestamp_keys : AreKeys is_same_timestamp
 timestamp_keys = record { one = one_timestamp; itself = same_timestamp }
 
+pub timestamp_parts : Parts is_same_timestamp
+timestamp_parts = parts_of is_same_timestamp timestamp_keys
+
 pub exact_timestamps : CmpEqualImpliesEq timestamp_cmp
 exact_timestamps k l h =
     ap (λ (p : StreamKey × ℕ). timestamp_key p.0 p.1)
     (exact_pairs key_cmp nat_cmp exact_streams exact_unsigned (k.stream, k.timestamp)
     (l.stream, l.timestamp) h)
+
+-- ---- flows
+
+exact_octets : CmpEqualImpliesEq (λ (v w : ArrayVec ℕ). slice_cmp nat_cmp v.items w.items)
+exact_octets v w e =
+    ap (λ (xs : List ℕ). record { items = xs }) (exact_bytes v.items w.items e)
+
+pub exact_flows : CmpEqualImpliesEq flow_key_cmp
+exact_flows =
+    exact_pairs nat_cmp (λ (v w : ArrayVec ℕ). slice_cmp nat_cmp v.items w.items) exact_unsigned
+    exact_octets
+
+pair_is : (k : FlowKey) (p : ℕ) (o : List ℕ) → k.0 ≡ p → k.1.items ≡ o
+    → ◌≡◌ {A = FlowKey} k (p, record { items = o })
+pair_is k p o e f = ap (λ (x : ℕ). (x, k.1)) e ∙ ap (λ (x : List ℕ). (p, record { items = x })) f
+
+one_flow : (k l : FlowKey) → is_same_key k l ≡ true → k ≡ l
+one_flow k l e =
+    let both = and_parts _ _ e in
+    pair_is k l.0 l.1.items (eqb-true k.0 l.0 both.0)
+    ((bytes_eq-Decides k.1.items l.1.items).0 both.1)
+
+same_flow : (k : FlowKey) → is_same_key k k ≡ true
+same_flow k =
+    and_from _ _ (eq-eqb k.0 k.0 refl) ((bytes_eq-Decides k.1.items k.1.items).1 refl)
+
+pub flow_keys : AreKeys is_same_key
+flow_keys = record { one = one_flow; itself = same_flow }
+
+pub flow_parts : Parts is_same_flow
+flow_parts = coded_parts is_same_key flow_key_of (parts_of is_same_key flow_keys)
+
+-- a flow's place among counts is that of its key
+pub flow_place : (k : FlowKey) (d : SocketAddr) (counts : List FlowCount) → k ≡ flow_key_of d
+    → place_of is_same_flow d (map (λ c. c.destination) counts)
+    ≡ place_of is_same_key k (map (λ c. flow_key_of c.destination) counts)
+flow_place k d [] e = refl
+flow_place k d (c ∷ counts) e =
+    ap (λ (o : Option ℕ). cond (is_same_flow d c.destination) (Some 0) (option_map (λ j. j + 1) o))
+    (flow_place k d counts e)
+    ∙ ap (λ (x : FlowKey). cond (is_same_key x (flow_key_of c.destination)) (Some 0)
+    (option_map (λ j. j + 1)
+    (place_of is_same_key k (map (λ y. flow_key_of y.destination) counts)))) (sym e)

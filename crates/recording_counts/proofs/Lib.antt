@@ -7,8 +7,6 @@ mod BothLaws
 mod StreamLaws
 pub mod Kept
 pub mod Said
-pub mod FlowTables
-pub mod FlowIndex
 pub mod Wide
 pub mod Texts
 pub mod Omissions

@@ -3,8 +3,7 @@ use Rattle.std.proofs.Common.{◌≡◌, ℕ, suc, ◌+◌, ◌<◌, Bool, true,
 use Rattle.std.proofs.Common.{◌∷◌, ◌++◌, map, length, Option, Some, None, option_map, get_or}
 use Rattle.std.proofs.Common.{zero}
 use Rattle.std.proofs.Common.{slice_set, refl, ap, sym, ◌∙◌, arith, append-nil, ◌⊎◌, ⊎_elim, inl}
-use Rattle.std.proofs.Common.{inr, subst, take, ◌-◌}
-use Rattle.std.specs.Map.{lookup}
+use Rattle.std.proofs.Common.{inr, subst}
 use Rattle.std.proofs.lemmas.Bool.{cases_Bool, false_from_ne_true, both_ways, or_parts}
 use Rattle.std.proofs.lemmas.Grind.{common_steps}
 use Rattle.std.proofs.lemmas.List.{map-append, length-map}
@@ -33,20 +32,54 @@ nowhere true o e = absurd (cc)
 nowhere false None e = (refl, refl)
 nowhere false (Some j) e = absurd (cc)
 
+-- a place is one in the list
+within : {K : Type 0} (same : K → K → Bool) (k : K) (ds : List K) (i : ℕ)
+    → place_of same k ds ≡ Some i → i < length ds
+within same k [] i e = absurd (cc)
+within same k (d ∷ ds) i e =
+    ⊎_elim (λ here. let z : i ≡ 0 = here.1 in omega arith)
+    (λ there. let lt : there.1.0 < length ds = within same k ds there.1.0 there.1.1 in
+    let n : i ≡ suc (there.1.0) = there.1.2 in omega arith)
+    (step (same k d) (place_of same k ds) i e)
+
+pub below : {K C : Type 0} (same : K → K → Bool) (of : C → K) (counts : List C) (k : K) (i : ℕ)
+    → place_of same k (map of counts) ≡ Some i → i < length counts
+below same of counts k i e =
+    subst (λ (n : ℕ). i < n) (length-map counts of) (within same k (map of counts) i e)
+
 -- keys that are the same are one
 pub record AreKeys {K : Type 0} (same : K → K → Bool) : Type 0 where
   pub one : (k l : K) → same k l ≡ true → k ≡ l
   pub itself : (k : K) → same k k ≡ true
 
-module _ {K : Type 0} (same : K → K → Bool) (are : AreKeys same) where
-  flips : (d e : K) → same d e ≡ true → same e d ≡ true
-  flips d e p = subst (λ (x : K). same x d ≡ true) (are.one d e p) (are.itself d)
+-- keys fall into parts, each of those that are the same
+pub record Parts {K : Type 0} (same : K → K → Bool) : Type 0 where
+  pub itself : (k : K) → same k k ≡ true
+  pub flips : (k l : K) → same k l ≡ true → same l k ≡ true
+  pub passes : (k l m : K) → same k l ≡ true → same l m ≡ true → same k m ≡ true
 
-  passes : (d e f : K) → same d e ≡ true → same e f ≡ true → same d f ≡ true
-  passes d e f p q = subst (λ (x : K). same d x ≡ true) (are.one e f q) p
+-- each of one key alone
+pub parts_of : {K : Type 0} (same : K → K → Bool) → AreKeys same → Parts same
+parts_of {K = K} same are =
+    record {
+      itself = are.itself;
+      flips = λ d e p. subst (λ (x : K). same x d ≡ true) (are.one d e p) (are.itself d);
+      passes = λ d e f p q. subst (λ (x : K). same d x ≡ true) (are.one e f q) p;
+    }
 
+-- what is told apart by its key falls into parts too
+pub coded_parts : {D K : Type 0} (same : K → K → Bool) (code : D → K) → Parts same
+    → Parts (λ (d e : D). same (code d) (code e))
+coded_parts same code are =
+    record {
+      itself = λ d. are.itself (code d);
+      flips = λ d e. are.flips (code d) (code e);
+      passes = λ d e f. are.passes (code d) (code e) (code f);
+    }
+
+module _ {K : Type 0} (same : K → K → Bool) (are : Parts same) where
   flips_not : (d e : K) → same d e ≡ false → same e d ≡ false
-  flips_not d e p = false_from_ne_true _ (λ q. both_ways _ p (flips e d q))
+  flips_not d e p = false_from_ne_true _ (λ q. both_ways _ p (are.flips e d q))
 
   -- ---- keys that differ
 
@@ -80,14 +113,6 @@ module _ {K : Type 0} (same : K → K → Bool) (are : AreKeys same) where
 
   abbrev place : K → List K → Option ℕ
   place d ds = place_of same d ds
-
-  pub within : (k : K) (ds : List K) (i : ℕ) → place k ds ≡ Some i → i < length ds
-  within k [] i e = absurd (cc)
-  within k (d ∷ ds) i e =
-      ⊎_elim (λ here. let z : i ≡ 0 = here.1 in omega arith)
-      (λ there. let lt : there.1.0 < length ds = within k ds there.1.0 there.1.1 in
-      let n : i ≡ suc (there.1.0) = there.1.2 in omega arith)
-      (step (same k d) (place k ds) i e)
 
   added_there : (d : K) (ds : List K) (i : ℕ) → place d ds ≡ Some i → added same d ds ≡ ds
   added_there d [] i e = absurd (cc)
@@ -127,13 +152,13 @@ module _ {K : Type 0} (same : K → K → Bool) (are : AreKeys same) where
   is_equal Greater e = absurd (cc)
 
   -- one more key, which the index has then
-  pub index_new : (cmp : K → K → Ordering) → CmpEqualImpliesEq cmp → (old new : BTreeMap K ℕ)
+  index_new : (keys : AreKeys same) (cmp : K → K → Ordering) → CmpEqualImpliesEq cmp → (old new : BTreeMap K ℕ)
       (ds : List K) (d : K) → IsIndexOf cmp same old ds → place d ds ≡ None
       → Updates cmp old new d (Some (length ds)) → IsIndexOf cmp same new (ds ++ d ∷ [])
-  index_new cmp exact old new ds d index none updates k =
+  index_new keys cmp exact old new ds d index none updates k =
       ⊎_elim
       (λ here.
-      let e : k ≡ d = are.one k d here in
+      let e : k ≡ d = keys.one k d here in
       ap (get cmp new) e ∙ updates.1
       ∙ sym (place_end k d ds here (ap (λ (x : K). place x ds) e ∙ none)))
       (λ other.
@@ -141,7 +166,7 @@ module _ {K : Type 0} (same : K → K → Bool) (are : AreKeys same) where
       false_from_ne_true _
       (λ t.
       let e : d ≡ k = exact d k (is_equal _ t) in
-      both_ways (same k d) other (subst (λ (x : K). same x d ≡ true) e (are.itself d))) in
+      both_ways (same k d) other (subst (λ (x : K). same x d ≡ true) e (keys.itself d))) in
       updates.2 k apart ∙ index k ∙ sym (place_past k d ds other))
       (cases_Bool (same k d))
 
@@ -177,7 +202,7 @@ module _ {K : Type 0} (same : K → K → Bool) (are : AreKeys same) where
     others_stay all a d (e ∷ ds) s p =
         let q = or_parts (same e d) _ p in
         let other : same e (key a) ≡ false =
-        false_from_ne_true _ (λ r. both_ways _ q.0 (passes e (key a) d r s)) in
+        false_from_ne_true _ (λ r. both_ways _ q.0 (are.passes e (key a) d r s)) in
         ap (λ (x : List R). count e x ∷ map (counted all) ds) (sym (own_other all a e other))
         ∙ ap (λ (t : List C). counted (all ++ a ∷ []) e ∷ t) (others_stay all a d ds s q.1)
 
@@ -199,7 +224,7 @@ module _ {K : Type 0} (same : K → K → Bool) (are : AreKeys same) where
         let was : old ≡ counted all d = at ∙ ap (λ (k : ℕ). get_or cs k old) here.1 in
         ap (λ (k : ℕ). slice_set cs k next) here.1
         ∙ ap (λ (x : C). x ∷ rest)
-        (g d (own d all) was ∙ ap (count d) (sym (own_same all a d (flips (key a) d here.0))))
+        (g d (own d all) was ∙ ap (count d) (sym (own_same all a d (are.flips (key a) d here.0))))
         ∙ ap (λ (t : List C). counted (all ++ a ∷ []) d ∷ t)
         (others_stay all a d ds here.0 p.0))
         (λ there.
@@ -215,7 +240,7 @@ module _ {K : Type 0} (same : K → K → Bool) (are : AreKeys same) where
     keys_more : (all : List R) (a : R) → keys (all ++ a ∷ []) ≡ added same (key a) (keys all)
     keys_more all a =
         ap (different same) (map-append key all (a ∷ []))
-        ∙ different_more same passes (map key all) (key a)
+        ∙ different_more same are.passes (map key all) (key a)
 
     -- where a record is of a key that is there, its count goes on, and the others stay
     pub noted_there : (all : List R) (a : R) (i : ℕ) (old next : C)
@@ -245,7 +270,7 @@ module _ {K : Type 0} (same : K → K → Bool) (are : AreKeys same) where
         ⊎_elim
         (λ gone.
         let here : same d f ≡ false =
-        false_from_ne_true _ (λ r. both_ways _ p (passes d f e r gone)) in
+        false_from_ne_true _ (λ r. both_ways _ p (are.passes d f e r gone)) in
         let rest : place d ds ≡ None =
         behind_without d e ds p
         (sym (ap (λ (b : Bool). place d (cond (not b) (f ∷ without same e ds)
@@ -307,18 +332,13 @@ module _ {K : Type 0} (same : K → K → Bool) (are : AreKeys same) where
 
 -- ---- in the words of a table's calls
 
-module _ {K R C : Type 0} (same : K → K → Bool) (are : AreKeys same) (key : R → K)
+module _ {K R C : Type 0} (same : K → K → Bool) (are : Parts same) (key : R → K)
     (count : K → List R → C) (of : C → K) where
   abbrev Going : C → C → R → Type 0
   Going old next a = GoesOn same are key count old next a
 
   abbrev all_of : List R → List C
   all_of all = counted_by same key count all
-
-  pub below : (counts : List C) (k : K) (i : ℕ) → place_of same k (map of counts) ≡ Some i
-      → i < length counts
-  below counts k i e =
-      subst (λ (n : ℕ). i < n) (length-map counts of) (within same are k (map of counts) i e)
 
   pub note_there : ((d : K) (rs : List R) → of (count d rs) ≡ d) → (all : List R) (a : R)
       (counts : List C) (i : ℕ) (old next : C) (k : K) → counts ≡ all_of all → k ≡ key a
@@ -343,13 +363,13 @@ module _ {K R C : Type 0} (same : K → K → Bool) (are : AreKeys same) (key : 
       ∙ ap (place_of same k) (sym (table_keys same are key count of is all counts e)) ∙ none)
 
 module _ {K C : Type 0} (cmp : K → K → Ordering) (exact : CmpEqualImpliesEq cmp)
-    (same : K → K → Bool) (are : AreKeys same) (of : C → K) where
+    (same : K → K → Bool) (keys : AreKeys same) (of : C → K) where
   -- the index of a table where a count goes on
   pub index_kept : (places : BTreeMap K ℕ) (cs : List C) (i : ℕ) (old next : C)
       → IsIndexOf cmp same places (map of cs) → i < length cs → old ≡ get_or cs i old
       → of next ≡ of old → IsIndexOf cmp same places (map of (slice_set cs i next))
   index_kept places cs i old next index lt at e =
-      subst (IsIndexOf cmp same places) (sym (same_keys same are of cs i old next lt at e)) index
+      subst (IsIndexOf cmp same places) (sym (same_keys same (parts_of same keys) of cs i old next lt at e)) index
 
   -- the index of a table with one count more
   pub index_grown : (old new : BTreeMap K ℕ) (cs grown : List C) (c : C) (k : K) (n : ℕ)
@@ -364,29 +384,9 @@ module _ {K C : Type 0} (cmp : K → K → Ordering) (exact : CmpEqualImpliesEq 
       (sym
       (ap (map of) g ∙ map-append of cs (c ∷ [])
       ∙ ap (λ (x : K). map of cs ++ x ∷ []) (sym k_is)))
-      (index_new same are cmp exact old new (map of cs) k index none u)
+      (index_new same (parts_of same keys) keys cmp exact old new (map of cs) k index none u)
 
 pub grown : {C : Type 0} (new counts old : List C) (c d : C) → new ≡ counts ++ c ∷ []
     → counts ≡ old → c ≡ d → new ≡ old ++ d ∷ []
 grown {C = C} new counts old c d n e f =
     n ∙ ap (λ (x : List C). x ++ c ∷ []) e ∙ ap (λ (x : C). old ++ x ∷ []) f
-
--- ---- what is taken back
-
-take_front : {X : Type 0} (xs : List X) (x : X) → take (length xs) (xs ++ x ∷ []) ≡ xs
-take_front [] x = refl
-take_front {X = X} (y ∷ xs) x = ap (λ (t : List X). y ∷ t) (take_front xs x)
-
-pub popped : {X : Type 0} (xs : List X) (x : X) (ys zs : List X) (n : ℕ) → ys ≡ xs ++ x ∷ []
-    → n ≡ length xs + 1 → zs ≡ take (n - 1) ys → zs ≡ xs
-popped {X = X} xs x ys zs n e l t =
-    let k : n - 1 ≡ length xs = omega arith in
-    t ∙ ap (λ (i : ℕ). take i ys) k ∙ ap (λ (v : List X). take (length xs) v) e
-    ∙ take_front xs x
-
-pub index_same : {K : Type 0} (cmp : K → K → Ordering) (same : K → K → Bool)
-    (old new : BTreeMap K ℕ) (ks ls : List K) → IsIndexOf cmp same old ks
-    → new.entries ≡ old.entries → ls ≡ ks → IsIndexOf cmp same new ls
-index_same {K = K} cmp same old new ks ls index e f k =
-    ap (λ (es : List (K × ℕ)). lookup (is_at (cmp k)) es) e ∙ index k
-    ∙ ap (place_of same k) (sym f)

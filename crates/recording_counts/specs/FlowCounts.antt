@@ -10,8 +10,9 @@ use Rattle.recording_counts.specs.Numbering.{capped, highest_of, lowest_of}
 use Rattle.recording_counts.specs.declared.flow_count.FlowCount.{FlowCount}
 use Rattle.recording_counts.specs.declared.rtp_count.RtpCount.{RtpCount}
 use Rattle.recording_counts.specs.declared.times.Times.{Times}
-use Rattle.recording_counts.specs.Flows.{Arrival, flows_of, of_flow}
+use Rattle.recording_counts.specs.Flows.{Arrival, is_same_flow}
 use Rattle.recording_counts.specs.FlowStreams.{rtp_streams_of}
+use Rattle.recording_counts.specs.Tables.{counted_by}
 
 -- A datagram on a stream's port is of RTCP: version 2, and a packet type of 200 to 204, where RTP
 -- would have the marker and a payload type of 72 to 76. RFC 5761, section 4; RFC 3550, 6.4.1
@@ -62,4 +63,4 @@ flow_count_of d own =
 
 -- what is counted of all datagrams, flow by flow, in the order of their first coming
 abbrev pub flow_counts : List Arrival → List FlowCount
-flow_counts arrivals = map (λ d. flow_count_of d (of_flow d arrivals)) (flows_of arrivals)
+flow_counts arrivals = counted_by is_same_flow (λ a. a.destination) flow_count_of arrivals

@@ -1,12 +1,10 @@
--- Datagrams that arrived, and the flows among them.
-use Rattle.std.specs.Prelude.{ℕ, Bool, ◌==◌, ◌&&◌, List, Option, bytes_eq, map}
-use Rattle.std.specs.List.{filter}
+-- Datagrams that arrived, and which are of one flow.
+use Rattle.std.specs.Prelude.{ℕ, Bool, ◌==◌, ◌&&◌, List, Option, bytes_eq}
 use Rattle.std.specs.declared.net.ip_addr.IpAddr.{IpAddr}
 use Rattle.std.specs.declared.net.ip_addr.IpAddr.TheVariants.{V4, V6}
 use Rattle.std.specs.declared.net.socket_addr.SocketAddr.{SocketAddr}
 use Rattle.std.specs.Net.Addr.{ipv4_octets, ipv6_octets}
 use Rattle.std.specs.Net.Socket.{socket_ip, socket_port}
-use Rattle.recording_counts.specs.Tables.{different}
 use Rattle.recording_counts.specs.declared.noted.Noted.{Noted}
 
 -- A UDP datagram that arrived: when it was recorded, if that is known, where it was sent to, and its
@@ -32,11 +30,3 @@ abbrev pub is_same_flow : SocketAddr → SocketAddr → Bool
 is_same_flow d e =
     socket_port d == socket_port e
     && bytes_eq (ip_octets (socket_ip d)) (ip_octets (socket_ip e))
-
--- the datagrams of a flow: those to its destination, in their order
-abbrev pub of_flow : SocketAddr → List Arrival → List Arrival
-of_flow d arrivals = filter (λ a. is_same_flow d a.destination) arrivals
-
--- the flows of datagrams: their destinations, in the order of their first coming
-abbrev pub flows_of : List Arrival → List SocketAddr
-flows_of arrivals = different is_same_flow (map (λ a. a.destination) arrivals)

@@ -2,6 +2,7 @@
 ghost use Rattle.std.specs.Prelude.{◌≡◌, ◌++◌, ◌∷◌, List, []};
 ghost use Rattle.recording_counts.specs.Flows.{Arrival, arrival_of};
 ghost use Rattle.recording_counts.specs.FlowCounts.{flow_count_of};
+ghost use Rattle.std.specs.declared.net.socket_addr.SocketAddr.{SocketAddr as Destination};
 
 use crate::noted::Noted;
 use crate::rtp_count::RtpCount;
@@ -40,8 +41,8 @@ impl FlowCount {
 
     /// Notes one more datagram of the flow.
     pub(crate) fn note(&mut self, datagram: &Noted<'_>)
-        ensures counted { (own : List Arrival) → self.old ≡ flow_count_of self.old.destination own
-            → self.new ≡ flow_count_of self.old.destination (own ++ arrival_of datagram.now ∷ []) }
+        ensures counted { (to : Destination) (own : List Arrival) → self.old ≡ flow_count_of to own
+            → self.new ≡ flow_count_of to (own ++ arrival_of datagram.now ∷ []) }
         ensures same { self.new.destination ≡ self.old.destination }
     {
         self.datagrams = self.datagrams.saturating_add(1);

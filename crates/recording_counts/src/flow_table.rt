@@ -3,10 +3,12 @@ ghost use Rattle.std.specs.Prelude.{◌≡◌, ◌++◌, ◌∷◌, List, [], On
 ghost use Rattle.std.specs.Prelude.{None, map, length, ◌≤◌};
 ghost use Rattle.recording_counts.specs.FlowCounts.{flow_count_of, flow_counts};
 ghost use Rattle.recording_counts.specs.Flows.{Arrival, arrival_of};
-ghost use Rattle.recording_counts.specs.FlowPlaces.{flow_key_of, flow_place_of};
+ghost use Rattle.recording_counts.specs.FlowPlaces.{flow_key_of, is_same_key};
+ghost use Rattle.recording_counts.specs.Tables.{place_of};
 
 use crate::flow_count::FlowCount;
 use crate::noted::Noted;
+use crate::table::append;
 use arrayvec::ArrayVec;
 use std::alloc::{AllocError, Allocator};
 use std::collections::BTreeMap;
@@ -25,16 +27,18 @@ pub struct FlowTable<A: Allocator> {
 }
 
 impl<A: Allocator> Model for FlowTable<A> {
-    ghost use Rattle.std.specs.Prelude.{List};
+    ghost use Rattle.std.specs.Prelude.{List, map};
     ghost use Rattle.recording_counts.specs.declared.flow_count.FlowCount.{FlowCount as Count};
-    ghost use Rattle.recording_counts.specs.FlowPlaces.{IsFlowIndexOf};
+    ghost use Rattle.recording_counts.specs.FlowPlaces.{flow_key_cmp, flow_key_of, is_same_key};
+    ghost use Rattle.recording_counts.specs.Tables.{IsIndexOf};
 
     // The counts, flow by flow
     ghost Value = { List Count };
 
     ghost view = { λ t. t.counts.items };
 
-    ghost invariant = { λ t. IsFlowIndexOf t.places t.counts.items };
+    ghost invariant = { λ t. IsIndexOf flow_key_cmp is_same_key t.places
+        (map (λ c. flow_key_of c.destination) t.counts.items) };
 }
 
 impl<A: Allocator + Copy> FlowTable<A> {
@@ -72,19 +76,15 @@ impl<A: Allocator + Copy> FlowTable<A> {
     /// Adds a flow that no datagram was of.
     fn open(&mut self, key: FlowKey, datagram: &Noted<'_>) -> Result<(), AllocError>
         requires key { key ≡ flow_key_of datagram.now.destination }
-        requires absent { flow_place_of key (map (λ c. c.destination) self.old) ≡ None }
+        requires absent { place_of is_same_key key
+            (map (λ c. flow_key_of c.destination) self.old) ≡ None }
         ensures added { OnOk result (self.new ≡ self.old
             ++ flow_count_of datagram.now.destination (arrival_of datagram.now ∷ []) ∷ []) }
         ensures kept { OnErr result (self.new ≡ self.old) }
     {
         let mut count = FlowCount::new(datagram.destination);
         count.note(datagram);
-        let place = self.counts.len();
-        self.counts.push(count)?;
-        if self.places.insert(key, place).is_err() {
-            self.counts.pop();
-            return Err(AllocError);
-        }
+        append(&mut self.counts, &mut self.places, key, count)?;
         Ok(())
     }
 

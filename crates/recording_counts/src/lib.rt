@@ -25,6 +25,7 @@ mod rtp_stream;
 mod rtp_streams;
 mod stream;
 mod streams;
+mod table;
 mod times;
 mod timestamp;
 mod timestamps;

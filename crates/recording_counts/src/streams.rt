@@ -7,6 +7,7 @@ ghost use Rattle.recording_counts.specs.Tables.{place_of};
 
 use crate::packet::{Packet, StreamKey};
 use crate::stream::StreamCount;
+use crate::table::append;
 use std::alloc::{AllocError, Allocator};
 use std::collections::BTreeMap;
 use std::marker::Model;
@@ -77,12 +78,7 @@ impl<A: Allocator + Copy> StreamTable<A> {
     {
         let mut count = StreamCount::new(self.alloc, key);
         count.note(packet)?;
-        let place = self.counts.len();
-        self.counts.push(count)?;
-        if self.places.insert(key, place).is_err() {
-            self.counts.pop();
-            return Err(AllocError);
-        }
+        append(&mut self.counts, &mut self.places, key, count)?;
         Ok(())
     }
 

@@ -7,6 +7,7 @@ ghost use Rattle.recording_counts.specs.Timestamps.{timestamp_of, timestamps_of}
 ghost use Rattle.recording_counts.specs.Tables.{place_of};
 
 use crate::packet::{Packet, TimestampKey};
+use crate::table::append;
 use crate::timestamp::TimestampCount;
 use std::alloc::{AllocError, Allocator};
 use std::collections::BTreeMap;
@@ -77,12 +78,7 @@ impl<A: Allocator + Copy> TimestampTable<A> {
     {
         let mut count = TimestampCount::new(key);
         count.note(packet);
-        let place = self.counts.len();
-        self.counts.push(count)?;
-        if self.places.insert(key, place).is_err() {
-            self.counts.pop();
-            return Err(AllocError);
-        }
+        append(&mut self.counts, &mut self.places, key, count)?;
         Ok(())
     }
 
