@@ -1,11 +1,10 @@
 -- What a reading makes of the octets that a source gave: what it makes of those that a source was
 -- to give, whatever is behind them. So each step from a reading to the next is one of both.
-use Rattle.std.proofs.Common.{◌≡◌, ℕ, ◌≤◌, List, [], ◌++◌, length, take, Option, Some, Result, Ok}
+use Rattle.std.proofs.Common.{◌≡◌, ℕ, List, [], ◌++◌, Option, Some, Result, Ok}
 use Rattle.std.proofs.Common.{Err}
-use Rattle.std.proofs.Common.{append_assoc, append-nil, refl, sym, ap, subst, ◌∙◌}
+use Rattle.std.proofs.Common.{append-nil, refl, sym, ◌∙◌}
 use Rattle.std.specs.Prelude.{IfOk, IfErr}
 use Rattle.std.specs.Io.KnownBytes.{Consumes, IsAtEnd}
-use Rattle.std.proofs.lemmas.List.{take_all}
 use Rattle.pcap_file.specs.declared.fault.RecordingFault.{RecordingFault}
 use Rattle.pcap_file.specs.declared.fault.RecordingFault.TheVariants.{Device}
 use Rattle.pcap_file.specs.Fields.{Fails, GaveFault, recording_fault_origin}
