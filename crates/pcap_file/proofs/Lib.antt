@@ -31,3 +31,4 @@ pub mod WholeRuns
 pub mod NextTakes
 pub mod WholeTakes
 pub mod Entering
+pub mod Growing
