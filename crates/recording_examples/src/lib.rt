@@ -32,6 +32,8 @@ mod reading;
 #[cfg(test)]
 mod recordings;
 #[cfg(test)]
+mod sources;
+#[cfg(test)]
 mod streams;
 #[cfg(test)]
 mod written;
