@@ -1,5 +1,5 @@
 //! The fields of a file, what stands at its front, and that nothing is behind it.
-ghost use Rattle.std.specs.Prelude.{◌≡◌, ◌≤◌, ◌<◌, codes, length, take, IfErr, IfOk, OnOk};
+ghost use Rattle.std.specs.Prelude.{◌≡◌, ◌≤◌, ◌<◌, ◌++◌, codes, length, take, IfErr, IfOk, OnOk};
 ghost use Rattle.media_file.specs.Faults.{CountsDevice, IsOfField, IsOfFront};
 ghost use Rattle.media_file.specs.Fields.{Fails, GaveFault, GaveOctets, GavePart, GaveValue};
 ghost use Rattle.media_file.specs.Fields.{GivesPart, Takes};
@@ -161,6 +161,46 @@ pub fn read_front<S: ByteSource>(source: &mut S, text: &mut [u8]) -> Result<usiz
         Version::One => Ok(0),
         Version::Two => read_text(source, text),
     }
+}
+
+/// Reads what stands before the records of a capture of either version, of which the first four
+/// octets were read before; as `read_front` in all else.
+///
+/// # Errors
+///
+/// `Truncated` where the octets end within name and version, or within the text; `BadName`,
+/// `BadVersion`, and `Device`.
+pub fn read_front_behind<S: ByteSource>(
+    source: &mut S,
+    four: &[u8; 4],
+    text: &mut [u8],
+) -> Result<usize, FileFault>
+    requires { 65535 ≤ length text.old }
+    ensures room { length text.new ≡ length text.old }
+    ensures within { IfOk result (λ n. n < 65536) }
+    ensures named { IfErr result IsOfFront }
+    ensures gave { IfOk result (λ n. GaveValue (λ octets. front_at (four.now ++ octets))
+        (S.gave source.old) (S.gave source.new) (take n text.new)) }
+    ensures gave_wrong { IfErr result (λ f. GaveFault (λ octets. front_at (four.now ++ octets))
+        (S.gave source.old) (S.gave source.new) (S.ended source.new) f) }
+    ensures counted { CountsDevice (S.failures source.old) (S.failures source.new) result }
+    ensures names { S.names source.new ≡ S.names source.old }
+{
+    let mut rest = [0u8; 4];
+    read_field(source, &mut rest)?;
+    match version_in(CAPTURE, &eight(four, &rest))? {
+        Version::One => Ok(0),
+        Version::Two => read_text(source, text),
+    }
+}
+
+/// Four octets, and four behind them.
+fn eight(four: &[u8; 4], rest: &[u8; 4]) -> [u8; 8]
+    ensures { result ≡ four.now ++ rest.now }
+{
+    [
+        four[0], four[1], four[2], four[3], rest[0], rest[1], rest[2], rest[3],
+    ]
 }
 
 /// Reads a text behind its length.

@@ -117,7 +117,9 @@ pub mod recordings {
         read_pcap, read_pcap_head, read_record_head, read_udp, record_begins, record_rest,
         write_pcap_head, write_record, write_record6,
     };
-    pub use recording_reader::{OpeningFault, RecordView, RecordingReader, Standing};
+    pub use recording_reader::{
+        DatagramReader, FileOpeningFault, ReadingFault, RecordView, Standing,
+    };
 }
 
 /// Which flows of UDP datagrams have, and that as text.
