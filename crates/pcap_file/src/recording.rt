@@ -113,13 +113,8 @@ fn foreign(octets: &[u8]) -> RecordingFault
     RecordingFault::BadMagic
 }
 
-/// Begins to read a recording of which the first four octets were read before, which say the layout:
-/// reads what stands before all packets behind them. `buf` is where octets go that are passed over.
-///
-/// # Errors
-///
-/// Those of `open_recording`.
-pub fn open_behind<S: ByteSource>(
+/// Reads what stands before all packets, behind its first four octets, which say the layout.
+fn lay_behind<S: ByteSource>(
     source: &mut S,
     four: &[u8],
     buf: &mut [u8],
@@ -132,12 +127,6 @@ pub fn open_behind<S: ByteSource>(
     ensures left { IfOk result (λ l. (layout_seen l).left ≡ most_blocks) }
     ensures gave_wrong { IfErr result (λ f. GaveFault (laid_behind four.now) (S.gave source.old)
         (S.gave source.new) (S.ended source.new) f) }
-    // So it is of all octets, whatever the source gave before those four.
-    ensures read { IfOk result (λ l. (before : List ℕ) → S.gave source.old ≡ before ++ four.now
-        → HasRead (length buf.old) before (S.gave source.new) (layout_seen l) []) }
-    ensures fault { IfErr result (λ f. (before : List ℕ) → S.gave source.old ≡ before ++ four.now
-        → HasFailed (length buf.old) before (S.gave source.new) (S.ended source.new) f []) }
-    ensures grown { GrewFrom (S.gave source.old) (S.gave source.new) }
     ensures counted { CountsDevice (S.failures source.old) (S.failures source.new) result }
     ensures names { S.names source.new ≡ S.names source.old }
 {
@@ -148,6 +137,32 @@ pub fn open_behind<S: ByteSource>(
         Some(_) => open_pcap(source, four),
         None => Err(foreign(four)),
     }
+}
+
+/// Begins to read a recording of which the first four octets were read before: reads what stands
+/// before all packets behind them. `buf` is where octets go that are passed over.
+///
+/// # Errors
+///
+/// Those of [`open_recording`], for the octets behind the four.
+pub fn open_behind<S: ByteSource>(
+    source: &mut S,
+    four: &[u8],
+    buf: &mut [u8],
+) -> Result<Layout, RecordingFault>
+    requires room { 0 < length buf.old }
+    requires four { length four.now ≡ 4 }
+    ensures room { length buf.new ≡ length buf.old }
+    // Whatever the source gave before those four.
+    ensures read { IfOk result (λ l. (before : List ℕ) → S.gave source.old ≡ before ++ four.now
+        → HasRead (length buf.old) before (S.gave source.new) (layout_seen l) []) }
+    ensures fault { IfErr result (λ f. (before : List ℕ) → S.gave source.old ≡ before ++ four.now
+        → HasFailed (length buf.old) before (S.gave source.new) (S.ended source.new) f []) }
+    ensures grown { GrewFrom (S.gave source.old) (S.gave source.new) }
+    ensures counted { CountsDevice (S.failures source.old) (S.failures source.new) result }
+    ensures names { S.names source.new ≡ S.names source.old }
+{
+    lay_behind(source, four, buf)
 }
 
 /// Begins to read a recording: reads what stands before all packets. `buf` is where octets go that
@@ -174,7 +189,7 @@ pub fn open_recording<S: ByteSource>(
 {
     let mut four = [0u8; 4];
     read_field(source, &mut four)?;
-    open_behind(source, &four, buf)
+    lay_behind(source, &four, buf)
 }
 
 /// Reads the next record of the classic layout.
@@ -274,6 +289,7 @@ fn step<S: ByteSource>(
 /// `BadBlock`, `BadInterface`, `TooManyInterfaces`, `BadTime` by what a block says; `PacketTooLong`
 /// where `buf` has no room for a packet of the classic layout, or for a whole block;
 /// `TooManyBlocks` behind 2^64 - 1 records or blocks.
+#[tactic(auto, using(crate::proofs::Growing::grew_on, st_format::proofs::Histories::grew_none))]
 pub fn next_packet<S: ByteSource>(
     source: &mut S,
     layout: &mut Layout,

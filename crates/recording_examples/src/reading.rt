@@ -3,8 +3,8 @@
 use crate::checks::met;
 use crate::engines::source;
 use flow::{Flow, Flows};
-use pcap_file::RecordingFault;
 use media_file::FileFault;
+use pcap_file::RecordingFault;
 use recording_reader::{DatagramReader, FileOpeningFault, ReadingFault, RecordView};
 use refusing::Refusing;
 use st_format::memory::MemorySource;
@@ -98,8 +98,8 @@ fn read_lent(alloc: Global, source: &mut MemorySource) -> Result<Came, AllocErro
     }
 }
 
-/// What comes of a file that isn't opened.
-fn unopened(fault: FileOpeningFault) -> Result<Came, AllocError> {
+/// What comes of a file that isn't opened; `None` where there are no flows for it.
+pub fn unopened(fault: FileOpeningFault) -> Result<Came, AllocError> {
     let told = match fault {
         FileOpeningFault::NoMemory => return Err(AllocError),
         FileOpeningFault::NoFlows => return Ok(None),
@@ -152,7 +152,10 @@ const CUTS: [(usize, usize, Option<u8>); 15] = [
 fn cut(rt: HostRuntime) -> Result<(), Fail> {
     for (count, datagrams, number) in &CUTS {
         let came = read(rt.alloc(), &RECORDING[..*count], 0)?;
-        met(&rt, came == Some((*datagrams, number.map(SourceFault::Content))));
+        met(
+            &rt,
+            came == Some((*datagrams, number.map(SourceFault::Content))),
+        );
     }
     Ok(())
 }

@@ -17,7 +17,8 @@ use Rattle.st_format.specs.Device.{CountsOne, Told}
 use Rattle.st_format.specs.History.{IsRead}
 use Rattle.st_format.specs.declared.device.SourceFault.{SourceFault}
 use Rattle.st_format.specs.declared.device.Turn.{Turn}
-use Rattle.st_format.specs.declared.device.Turn.TheVariants.{Datagram, End}
+use Rattle.st_format.specs.declared.device.Turn.TheVariants.{Datagram, Quiet, End}
+use Rattle.st_format.specs.declared.path.Path.{Path}
 
 -- What is seen of a reader: `before` is what its source told before the file's first octet,
 -- `records` those of the datagrams that it gave, and `at_hand` the last one's, where that can be
@@ -116,8 +117,26 @@ pub record FindsFault {S : Type 0} (f : ReadingFault) (old new : FileReader S) :
   pub failed : new.standing ≡ Failed f
   pub delivered : new.delivered ≡ old.delivered
 
--- A call told the datagram at hand, whose octets stand at the front of a buffer, or the end where
--- there is none.
+-- A call told the datagram of one record more, whose octets stand at the front of a buffer.
+pub record TellsOne {S : Type 0} (path : Path) (count : ℕ) (buf : List ℕ) (old new : FileReader S)
+    : Type 0 where
+  pub entry : Entry
+  pub records : new.records ≡ old.records ++ entry ∷ []
+  pub by : path ≡ entry.path
+  pub octets : take count buf ≡ entry.octets
+  pub few : count < 65536
+  pub at_hand : new.at_hand ≡ None
+  pub reads : new.standing ≡ Reads
+  pub delivered : CountsOne old.delivered new.delivered
+
+-- by the turn that a call told: that, or the end
+abbrev pub TellsNext : {S : Type 0} → Turn → List ℕ → FileReader S → FileReader S → Type 0
+TellsNext (Datagram path count) buf old new = TellsOne path count buf old new
+TellsNext Quiet buf old new = ⊥
+TellsNext End buf old new = FindsNone old new
+
+-- The datagram at hand was told, whose octets stand at the front of a buffer, or the end where there
+-- is none.
 abbrev pub TellsTurn : Option Entry → Turn → List ℕ → Type 0
 TellsTurn None End buf = ⊤
 TellsTurn (Some e) (Datagram path count) buf =

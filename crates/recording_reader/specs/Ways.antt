@@ -1,6 +1,6 @@
 -- Where a reader of a file of datagrams stands, by the kind of the file.
-use Rattle.std.specs.Prelude.{◌≡◌, ℕ, ⊤, Bool, true, false, List, [], ◌++◌, Option, None, Some}
-use Rattle.std.specs.Prelude.{Ok, option_to_list}
+use Rattle.std.specs.Prelude.{◌≡◌, ℕ, ◌≤◌, ⊤, Bool, true, false, List, [], ◌++◌, Option, None, Some}
+use Rattle.std.specs.Prelude.{Ok}
 use Rattle.flow.specs.declared.flows.Flows.{Flows}
 use Rattle.left_out_counts.specs.LeftOut.{left_out_of}
 use Rattle.left_out_counts.specs.declared.left_out.LeftOut.{LeftOut}
@@ -10,8 +10,9 @@ use Rattle.pcap_file.specs.PcapReading.{Recorded}
 use Rattle.pcap_file.specs.Runs.{HasFailed, HasRead, HasReadAll, layout_seen}
 use Rattle.pcap_file.specs.declared.recording.Layout.{Layout}
 use Rattle.recording_reader.specs.Capturing.{FailsRecord, IsNoRecord, ReadsRecord}
+use Rattle.recording_reader.specs.Found.{entry_at}
 use Rattle.recording_reader.specs.Kinds.{is_recording}
-use Rattle.recording_reader.specs.Reading.{FailsNext, ReadsToNext, entry_there}
+use Rattle.recording_reader.specs.Reading.{FailsNext, ReadsToNext}
 use Rattle.recording_reader.specs.Records.{omissions_of, records_of, room}
 use Rattle.recording_reader.specs.declared.fault.ReadingFault.{ReadingFault}
 use Rattle.recording_reader.specs.declared.fault.ReadingFault.TheVariants as fault
@@ -100,9 +101,9 @@ abbrev pub left_out_by : Way → LeftOut
 left_out_by Capture = left_out_of []
 left_out_by (Recording t) = t.left_out
 
--- how much room it needs
+-- there is the room that it needs
 abbrev pub HasRoom : Way → ℕ → Type 0
-HasRoom Capture count = count ≡ 65535
+HasRoom Capture count = 65535 ≤ count
 HasRoom (Recording t) count = count ≡ 1048576
 
 -- a datagram is at hand only between records
@@ -115,8 +116,7 @@ IsAtHand standing (Some f) = standing ≡ Reads
 -- the next record of a capture was read, or its end
 abbrev pub ReadsNextRecord : Option Found → List ℕ → List ℕ → List ℕ → Type 0 → Type 0
 ReadsNextRecord None buffer old new ended = (new ≡ old) × ended
-ReadsNextRecord (Some f) buffer old new ended =
-    (e : Entry) × (entry_there (Some f) buffer ≡ Some e) × ReadsRecord old new e
+ReadsNextRecord (Some f) buffer old new ended = ReadsRecord old new (entry_at f buffer)
 
 -- so of a file, of the kind that it is
 abbrev pub FindsNext : Way → Way → Option Found → List ℕ → List ℕ → List ℕ → Type 0 → Type 0

@@ -7,7 +7,7 @@ ghost use Rattle.recording_reader.specs.Kinds.{is_magic};
 ghost use Rattle.recording_reader.specs.Opening.{CountsOpening, StopsOpening};
 ghost use Rattle.recording_reader.specs.Ways.{Begins, HasRoom, left_out_by};
 
-use crate::fault::FileOpeningFault;
+use crate::fault::{FileOpeningFault, ReadingFault};
 use crate::kinds::is_magic;
 use crate::room::Room;
 use crate::way::{Track, Way};
@@ -52,7 +52,7 @@ pub(crate) fn begin<A: Allocator, S: ByteSource>(
 {
     let mut four = [0u8; 4];
     if read_whole(source, &mut four)? < 4 {
-        return Err(FileFault::Truncated.into());
+        return Err(FileOpeningFault::Reading(ReadingFault::Capture(FileFault::Truncated)));
     }
     if !is_magic(&four) {
         return begin_capture(alloc, source, &four, text);
@@ -67,10 +67,11 @@ pub(crate) fn begin<A: Allocator, S: ByteSource>(
 fn begin_capture<A: Allocator, S: ByteSource>(
     alloc: A,
     source: &mut S,
-    four: &[u8; 4],
+    four: &[u8],
     text: &mut [u8],
 ) -> Result<Begun<A>, FileOpeningFault>
     requires room { 65535 ≤ length text.old }
+    requires four { length four.now ≡ 4 }
     requires other { is_magic four.now ≡ false }
     ensures room { length text.new ≡ length text.old }
     ensures begins { IfOk result (λ b. (before : List ℕ) (flows : Option Ways)
@@ -102,9 +103,10 @@ fn begin_recording<A: Allocator, S: ByteSource>(
     alloc: A,
     flows: Flows,
     source: &mut S,
-    four: &[u8; 4],
+    four: &[u8],
 ) -> Result<Begun<A>, FileOpeningFault>
-    requires { is_magic four.now ≡ true }
+    requires four { length four.now ≡ 4 }
+    requires magic { is_magic four.now ≡ true }
     ensures begins { IfOk result (λ b. (before : List ℕ) → S.gave source.old ≡ before ++ four.now
         → Begins b.way (Some flows) before (S.gave source.new) (S.ended source.new) []) }
     ensures text_len { IfOk result (λ b. b.text_len ≡ 0) }

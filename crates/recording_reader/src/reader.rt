@@ -4,7 +4,7 @@ ghost use Rattle.std.specs.Prelude.{IfErr, IfOk, IfSome, OnErr, OnOk, MatchResul
 ghost use Rattle.std.specs.Option.{option_map};
 ghost use Rattle.recording_reader.specs.FileReader.{CountsDeviceAt, Finds, FindsFault};
 ghost use Rattle.recording_reader.specs.FileReader.{HasGivenFile, IsNewFileReader, IsSameFile};
-ghost use Rattle.recording_reader.specs.FileReader.{TellsTurn, fault_of, last_fault_of};
+ghost use Rattle.recording_reader.specs.FileReader.{TellsNext, TellsTurn, fault_of, last_fault_of};
 ghost use Rattle.recording_reader.specs.FileReader.{octets_at_hand, record_seen};
 ghost use Rattle.recording_reader.specs.Files.{CountsReading, HaveFileRecords, datagrams_of};
 ghost use Rattle.recording_reader.specs.Files.{has_path, source_fault};
@@ -18,6 +18,7 @@ ghost use Rattle.st_format.specs.Turns.{CountsTurn, IsEnd, IsWithin, TakesTurn, 
 use crate::came::Came;
 use crate::fault::{FileOpeningFault, ReadingFault};
 use crate::opening::begin;
+use crate::record::read_record;
 use crate::room::{RecordView, Room};
 use crate::way::{Standing, Way};
 use flow::Flows;
@@ -34,8 +35,9 @@ use std::snapshot::Snapshot;
 /// a recording of another tool: of its packets those are given that are datagrams of the flows of
 /// two paths, and others are left out, and counted by why.
 ///
-/// [`DatagramSource::next`] copies a datagram's octets once. [`DatagramReader::advance`] goes on to
-/// the next one and copies nothing: what it found is borrowed where it lies, until the next call.
+/// [`DatagramReader::advance`] goes on to the next datagram and copies nothing: what it found is
+/// borrowed where it lies, until the next call. [`DatagramSource::next`] puts it into a buffer: of a
+/// recording it copies a datagram's octets once.
 ///
 /// After the end it answers the end, and after a fault that fault: it then asks the source for
 /// nothing more. As a source of datagrams it tells a fault of the file as one of the content, by its
@@ -336,6 +338,96 @@ impl<A: Allocator, S: ByteSource> DatagramReader<A, S> {
             None => Turn::End,
         }
     }
+
+    /// Reads on to the next datagram, and copies it into `buf`. None is at hand then.
+    fn copy_next(&mut self, buf: &mut [u8]) -> Result<Turn, ReadingFault>
+        requires room { 65535 ≤ length buf.old }
+        requires reads { self.old.standing ≡ Reads }
+        ensures room { length buf.new ≡ length buf.old }
+        ensures told { IfOk result (λ t. TellsNext t buf.new self.old self.new) }
+        ensures fault { IfErr result (λ f. FindsFault f self.old self.new) }
+        ensures device { CountsReading (S.failures self.old.source) (S.failures self.new.source)
+            result }
+        ensures counted { CountsFaults self.old.failures self.new.failures result }
+        ensures same { IsSameFile self.old self.new }
+        ensures names { S.names self.new.source ≡ S.names self.old.source }
+    {
+        match self.advance() {
+            Ok(_) => {
+                let turn = self.tell(buf);
+                self.room.found = None;
+                Ok(turn)
+            }
+            Err(fault) => Err(fault),
+        }
+    }
+
+    /// Reads the next record of a capture into `buf`, where its octets stand from the front on. None
+    /// is at hand then.
+    fn read_next(&mut self, buf: &mut [u8]) -> Result<Turn, ReadingFault>
+        requires room { 65535 ≤ length buf.old }
+        requires reads { self.old.standing ≡ Reads }
+        requires kind { self.old.is_recording ≡ false }
+        ensures room { length buf.new ≡ length buf.old }
+        ensures told { IfOk result (λ t. TellsNext t buf.new self.old self.new) }
+        ensures fault { IfErr result (λ f. FindsFault f self.old self.new) }
+        ensures device { CountsReading (S.failures self.old.source) (S.failures self.new.source)
+            result }
+        ensures counted { CountsFaults self.old.failures self.new.failures result }
+        ensures same { IsSameFile self.old self.new }
+        ensures names { S.names self.new.source ≡ S.names self.old.source }
+    {
+        self.room.found = None;
+        match read_record(&mut self.source, buf) {
+            Ok(Some(found)) => {
+                self.last = Snapshot::of(&self.source);
+                self.came.note(found.path);
+                self.delivered = self.delivered.saturating_add(1);
+                Ok(Turn::Datagram(found.path, found.end))
+            }
+            Ok(None) => {
+                self.standing = Standing::Ended;
+                Ok(Turn::End)
+            }
+            Err(fault) => {
+                let wrong = ReadingFault::Capture(fault);
+                self.standing = Standing::Failed(wrong);
+                self.failures = self.failures.saturating_add(1);
+                Err(wrong)
+            }
+        }
+    }
+
+    /// Tells the next datagram, whose octets then stand at the front of `buf`, or the end. None is at
+    /// hand then. A capture's record is read there, and a recording's copied from its packet.
+    fn take_next(&mut self, buf: &mut [u8]) -> Result<Turn, ReadingFault>
+        requires { 65535 ≤ length buf.old }
+        ensures room { length buf.new ≡ length buf.old }
+        ensures told { IfOk result (λ t. TellsNext t buf.new self.old self.new) }
+        ensures fault { IfErr result (λ f. FindsFault f self.old self.new) }
+        ensures device { self.old.standing ≡ Reads
+            → CountsReading (S.failures self.old.source) (S.failures self.new.source) result }
+        ensures counted { CountsFaults self.old.failures self.new.failures result }
+        ensures same { IsSameFile self.old self.new }
+        ensures names { S.names self.new.source ≡ S.names self.old.source }
+        ensures ended { self.old.standing ≡ Ended
+            → (result ≡ Ok Turn.End) × (self.new.source ≡ self.old.source) }
+        ensures failed { (f : Wrong) → self.old.standing ≡ Failed f
+            → (result ≡ Err f) × (self.new.source ≡ self.old.source) }
+    {
+        match self.standing {
+            Standing::Ended => return Ok(Turn::End),
+            Standing::Failed(fault) => {
+                self.failures = self.failures.saturating_add(1);
+                return Err(fault);
+            }
+            Standing::Reads => {}
+        }
+        if self.is_recording() {
+            return self.copy_next(buf);
+        }
+        self.read_next(buf)
+    }
 }
 
 /// A fault as a source of datagrams tells it.
@@ -388,8 +480,11 @@ impl<A: Allocator, S: ByteSource> DatagramSource for DatagramReader<A, S> {
         ensures kept { OnErr result
             (datagrams_of self.new.records ≡ datagrams_of self.old.records) }
 
-        // The datagram is the one at hand, whose record was found.
-        ensures at_hand { IfOk result (λ t. TellsTurn self.new.at_hand t buf.new) }
+        // The datagram is that of the record which was found; none is at hand then.
+        ensures found { IfOk result (λ t. TellsNext t buf.new self.old self.new) }
+        // A fault is the one at which the reader stays.
+        ensures fault { IfErr result
+            (λ e. (f : Wrong) × (e ≡ source_fault f) × FindsFault f self.old self.new) }
         ensures same { IsSameFile self.old self.new }
         // A fault of the device comes only where the source failed in this call.
         ensures device { self.old.standing ≡ Reads → CountsDeviceAt self.new.standing
@@ -402,8 +497,8 @@ impl<A: Allocator, S: ByteSource> DatagramSource for DatagramReader<A, S> {
             → (result ≡ Err (source_fault f)) × (self.new.standing ≡ Failed f)
             × (self.new.source ≡ self.old.source) }
     {
-        match self.advance() {
-            Ok(_) => Ok(self.tell(buf)),
+        match self.take_next(buf) {
+            Ok(turn) => Ok(turn),
             Err(fault) => Err(told(fault)),
         }
     }

@@ -9,7 +9,14 @@ use media_file::{FileFault, RecordHead, record_begins, record_rest};
 use st_format::ByteSource;
 
 /// What a record's head says, whose octets stand at the front of a buffer.
-fn found_of(head: RecordHead) -> Found {
+fn found_of(head: RecordHead) -> Found
+    ensures { result ≡ record {
+      path = head.path;
+      moment = head.moment;
+      start = 0;
+      end = head.length;
+    } }
+{
     Found {
         path: head.path,
         moment: head.moment,
@@ -29,6 +36,7 @@ pub(crate) fn read_record<S: ByteSource>(
     ensures forward { IfOk result (λ r. IfSome r (λ f. f.start ≤ f.end)) }
     ensures inside { IfOk result (λ r. IfSome r (λ f. f.end ≤ length buf.new)) }
     ensures few { IfOk result (λ r. IfSome r (λ f. f.end - f.start ≤ 65535)) }
+    ensures front { IfOk result (λ r. IfSome r (λ f. f.start ≡ 0)) }
     ensures read { IfOk result (λ r. MatchOption r
         ((S.gave source.new ≡ S.gave source.old) × S.ended source.new)
         (λ f. ReadsRecord (S.gave source.old) (S.gave source.new) (entry_at f buf.new))) }
