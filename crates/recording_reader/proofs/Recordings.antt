@@ -7,16 +7,23 @@ use Rattle.left_out_counts.specs.LeftOut.{left_out_of}
 use Rattle.left_out_counts.specs.declared.left_out.LeftOut.{LeftOut}
 use Rattle.left_out_counts.specs.declared.omission.Omission.{Omission}
 use Rattle.media_file.specs.Records.{Entry}
+use Rattle.pcap_file.specs.Fields.{IfContent, IsContent}
 use Rattle.pcap_file.specs.PcapReading.{Recorded}
 use Rattle.pcap_file.specs.Runs.{HasFailed, HasRead, fault_in, layout_seen, packets_behind}
 use Rattle.pcap_file.specs.Runs.{packets_in}
 use Rattle.pcap_file.specs.declared.fault.RecordingFault.{RecordingFault}
+use Rattle.pcap_file.specs.declared.fault.RecordingFault.TheVariants.{Device, Truncated, BadMagic}
+use Rattle.pcap_file.specs.declared.fault.RecordingFault.TheVariants.{BadVersion, BadBlock}
+use Rattle.pcap_file.specs.declared.fault.RecordingFault.TheVariants.{BadInterface, BadTime}
+use Rattle.pcap_file.specs.declared.fault.RecordingFault.TheVariants.{TooManyInterfaces}
+use Rattle.pcap_file.specs.declared.fault.RecordingFault.TheVariants.{PacketTooLong, Packed}
+use Rattle.pcap_file.specs.declared.fault.RecordingFault.TheVariants.{TooManyBlocks}
 use Rattle.pcap_file.specs.declared.recording.Layout.{Layout}
 use Rattle.pcap_file.proofs.Content.{if_content_weaker}
 use Rattle.pcap_file.proofs.Gave.{grew_twice}
 use Rattle.st_format.specs.History.{GrewFrom, IsRead, since}
 use Rattle.st_format.proofs.Histories.{grew_by, since_is}
-use Rattle.recording_reader.specs.FileReader.{IsKnownBy}
+use Rattle.recording_reader.specs.FileReader.{IsExact, IsKnownBy}
 use Rattle.recording_reader.specs.Files.{AreFirst, HaveFileRecords, IsFileFault, records_of_file}
 use Rattle.recording_reader.specs.Files.{text_of_file}
 use Rattle.recording_reader.specs.Found.{entry_at}
@@ -31,6 +38,20 @@ use Rattle.recording_reader.specs.declared.way.Standing.TheVariants.{Reads, Ende
 use Rattle.recording_reader.proofs.Between.{packets_now}
 use Rattle.recording_reader.proofs.Files.{recording_entries, recording_omissions, recording_text}
 use Rattle.recording_reader.proofs.Files.{recording_whole}
+
+-- what is said of a fault of the recording's
+content_holds : (f : RecordingFault) (P : Type 0) → IsContent f → IfContent f P → P
+content_holds Device P content p = absurd content
+content_holds Truncated P content p = p
+content_holds BadMagic P content p = p
+content_holds BadVersion P content p = p
+content_holds BadBlock P content p = p
+content_holds BadInterface P content p = p
+content_holds TooManyInterfaces P content p = p
+content_holds BadTime P content p = p
+content_holds PacketTooLong P content p = p
+content_holds Packed P content p = p
+content_holds TooManyBlocks P content p = p
 
 -- ---- that it is one
 
@@ -140,6 +161,21 @@ read_packets : (standing : Standing) (layout : Layout) (before now : List ℕ) (
 read_packets standing layout before now ended packets is read =
     subst (λ (s : Standing). HasReadPackets s layout before now ended packets) is read
 
+-- the packets of just what was given
+packets_given : (standing : Standing) (layout : Layout) (before now : List ℕ) (ended : Type 0)
+    (packets : List Recorded) → IsExact standing
+    → HasReadPackets standing layout before now ended packets
+    → packets_in room (since before now) ≡ packets
+packets_given Reads layout before now ended packets exact read =
+    packets_now before now (layout_seen layout) packets read
+packets_given Ended layout before now ended packets exact read =
+    ap (packets_in room) (since_is before now read.part read.grown) ∙ read.packets_are
+packets_given (Failed (fault.Capture f)) layout before now ended packets exact read = absurd read
+packets_given (Failed (fault.Recording f)) layout before now ended packets exact read =
+    ap (packets_in room)
+    (since_is before now read.part read.grown ∙ sym (append-nil read.part))
+    ∙ (content_holds f _ exact (read.says [] (λ over. refl))).0
+
 module _ (flows : Flows) (standing : Standing) (layout : Layout) (before now : List ℕ)
     (ended : Type 0) (records : List Entry) (left : LeftOut)
     (s : RecordingStands flows standing layout before now ended records left) where
@@ -149,13 +185,12 @@ module _ (flows : Flows) (standing : Standing) (layout : Layout) (before now : L
   pub recording_text_is : text_of_file (since before now) ≡ []
   recording_text_is = recording_text flows (since before now) (begun_now before now s.begun)
 
-  pub recording_has : standing ≡ Reads
+  pub recording_has : IsExact standing
       → HaveFileRecords (Some flows) (since before now) records left
-  recording_has reads =
+  recording_has exact =
       have_records flows (since before now) s.packets records left
       (begun_now before now s.begun)
-      (packets_now before now (layout_seen layout) s.packets
-      (read_packets standing layout before now ended s.packets reads s.read)) s.records_are
+      (packets_given standing layout before now ended s.packets exact s.read) s.records_are
       s.left_is
 
   module _ (octets : List ℕ) (read : IsRead before now ended octets) where

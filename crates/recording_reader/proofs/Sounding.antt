@@ -25,7 +25,8 @@ use Rattle.recording_reader.specs.declared.way.Standing.{Standing}
 use Rattle.recording_reader.specs.declared.way.Standing.TheVariants.{Reads, Ended, Failed}
 use Rattle.recording_reader.specs.declared.way.Way.{Way}
 use Rattle.recording_reader.specs.declared.way.Way.TheVariants.{Capture, Recording}
-use Rattle.recording_reader.proofs.Standings.{at_hand, same_room, same_room_failed, way_again}
+use Rattle.recording_reader.proofs.Standings.{at_hand, exact_between, same_room}
+use Rattle.recording_reader.proofs.Standings.{same_room_failed, way_again}
 use Rattle.recording_reader.proofs.Standings.{way_end, way_fails, way_has, way_text}
 
 abbrev pub some_path : Path → Option Path
@@ -53,7 +54,7 @@ module _ (way : Way) (flows : Option Flows) (before now : List ℕ) (ended : Typ
   text_first = way_text way flows Reads before now ended text [] begins
 
   pub records_first : records_of_file flows (since before now) ≡ []
-  records_first = (way_has way flows Reads before now ended text [] begins refl).records_are
+  records_first = (way_has way flows Reads before now ended text [] begins tt).records_are
 
   pub sound_first : (found : Option Found) (count : ℕ) (came : Came) (text_len : ℕ)
       → HasRoom way count → AreNoted came [] → length text ≡ text_len
@@ -99,7 +100,7 @@ module _ (was way : Way) (flows : Option Flows) (standing : Standing) (before ol
     pub records_more : records_of_file flows (since before new) ≡ records ++ h.entry ∷ []
     records_more =
         (way_has way flows standing before new ended' text (records ++ h.entry ∷ []) h.stands
-        reads).records_are
+        (exact_between standing reads)).records_are
 
     pub text_same : text_of_file (since before new) ≡ text
     text_same =

@@ -4,7 +4,7 @@ use Rattle.std.proofs.Common.{refl, sym, ap, subst, ◌∙◌}
 use Rattle.flow.specs.declared.flows.Flows.{Flows}
 use Rattle.media_file.specs.Records.{Entry}
 use Rattle.st_format.specs.History.{GrewFrom, IsRead, since}
-use Rattle.recording_reader.specs.FileReader.{IsKnownBy}
+use Rattle.recording_reader.specs.FileReader.{IsExact, IsKnownBy}
 use Rattle.recording_reader.specs.Files.{HaveFileRecords, text_of_file}
 use Rattle.recording_reader.specs.Found.{entry_at}
 use Rattle.recording_reader.specs.Kinds.{is_recording}
@@ -50,13 +50,17 @@ way_text (Recording t) flows standing before now ended text records s =
 
 pub way_has : (way : Way) (flows : Option Flows) (standing : Standing) (before now : List ℕ)
     (ended : Type 0) (text : List ℕ) (records : List Entry)
-    → WayStands way flows standing before now ended text records → standing ≡ Reads
+    → WayStands way flows standing before now ended text records → IsExact standing
     → HaveFileRecords flows (since before now) records (left_out_by way)
-way_has Capture flows standing before now ended text records s reads =
+way_has Capture flows standing before now ended text records s exact =
     capture_has standing before now ended text records s flows
-way_has (Recording t) flows standing before now ended text records s reads =
+way_has (Recording t) flows standing before now ended text records s exact =
     subst (λ (f : Option Flows). HaveFileRecords f (since before now) records t.left_out) (sym s.0)
-    (recording_has t.flows standing t.layout before now ended records t.left_out s.2 reads)
+    (recording_has t.flows standing t.layout before now ended records t.left_out s.2 exact)
+
+-- between records
+pub exact_between : (standing : Standing) → standing ≡ Reads → IsExact standing
+exact_between standing reads = subst (λ (s : Standing). IsExact s) (sym reads) tt
 
 pub way_kind : (way : Way) (flows : Option Flows) (standing : Standing) (before now : List ℕ)
     (ended : Type 0) (text : List ℕ) (records : List Entry) (octets : List ℕ)

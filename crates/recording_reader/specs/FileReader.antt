@@ -5,11 +5,13 @@ use Rattle.flow.specs.declared.flows.Flows.{Flows}
 use Rattle.left_out_counts.specs.LeftOut.{left_out_of}
 use Rattle.left_out_counts.specs.declared.left_out.LeftOut.{LeftOut}
 use Rattle.media_file.specs.Records.{Entry}
+use Rattle.pcap_file.specs.Fields.{IsContent}
 use Rattle.recording_reader.specs.Files.{AreFirst, CountsReadingFault, HaveFileRecords, IfFile}
 use Rattle.recording_reader.specs.Files.{IsFileFault, IsWholeFile, records_of_file, source_fault}
 use Rattle.recording_reader.specs.Files.{text_of_file}
 use Rattle.recording_reader.specs.Kinds.{is_recording}
 use Rattle.recording_reader.specs.declared.fault.ReadingFault.{ReadingFault}
+use Rattle.recording_reader.specs.declared.fault.ReadingFault.TheVariants.{Capture, Recording}
 use Rattle.recording_reader.specs.declared.room.RecordView.{RecordView}
 use Rattle.recording_reader.specs.declared.way.Standing.{Standing}
 use Rattle.recording_reader.specs.declared.way.Standing.TheVariants.{Reads, Ended, Failed}
@@ -70,6 +72,14 @@ pub record IsKnownFile {S : Type 0} (r : FileReader S) (octets : List ℕ) : Typ
 abbrev pub HasGivenFile : {S : Type 0} → (S → List ℕ) → (S → Type 0) → FileReader S → Type 0
 HasGivenFile gave ended r = (octets : List ℕ)
     → IsRead r.before.gave (gave r.source) (ended r.source) octets → IsKnownFile r octets
+
+-- Just what was given is known where a reader stands: but where its source failed within a packet of
+-- a recording, of which it isn't said that the octets so far have no other record.
+abbrev pub IsExact : Standing → Type 0
+IsExact Reads = ⊤
+IsExact Ended = ⊤
+IsExact (Failed (Capture f)) = ⊤
+IsExact (Failed (Recording f)) = IsContent f
 
 -- ---- what a call does
 

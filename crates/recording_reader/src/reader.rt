@@ -3,7 +3,8 @@ ghost use Rattle.std.specs.Prelude.{◌≡◌, ◌≤◌, ◌<◌, ◌↔◌, �
 ghost use Rattle.std.specs.Prelude.{IfErr, IfOk, IfSome, OnErr, OnOk, MatchResult, length, take};
 ghost use Rattle.std.specs.Option.{option_map};
 ghost use Rattle.recording_reader.specs.FileReader.{CountsDeviceAt, Finds, FindsFault};
-ghost use Rattle.recording_reader.specs.FileReader.{HasGivenFile, IsNewFileReader, IsSameFile};
+ghost use Rattle.recording_reader.specs.FileReader.{HasGivenFile, IsExact, IsNewFileReader};
+ghost use Rattle.recording_reader.specs.FileReader.{IsSameFile};
 ghost use Rattle.recording_reader.specs.FileReader.{TellsNext, TellsTurn, fault_of, last_fault_of};
 ghost use Rattle.recording_reader.specs.FileReader.{octets_at_hand, record_seen};
 ghost use Rattle.recording_reader.specs.Files.{CountsReading, HaveFileRecords, datagrams_of};
@@ -305,8 +306,8 @@ impl<A: Allocator, S: ByteSource> DatagramReader<A, S> {
     #[inline(always)]
     pub fn history(&self)
         ensures known { HasGivenFile S.gave S.ended self.now }
-        // Between records the octets that the source gave have these records, and no other.
-        ensures between { self.now.standing ≡ Reads → HaveFileRecords self.now.flows
+        // The octets that the source gave have these records, and no other.
+        ensures given { IsExact self.now.standing → HaveFileRecords self.now.flows
             (since self.now.before.gave (S.gave self.now.source)) self.now.records
             self.now.left_out }
         ensures grown { GrewFrom self.now.before.gave (S.gave self.now.source) }

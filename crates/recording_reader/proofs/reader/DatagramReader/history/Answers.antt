@@ -1,8 +1,7 @@
-use Rattle.std.proofs.Common.{◌≡◌, subst}
+use Rattle.std.proofs.Common.{subst}
 use Rattle.st_format.specs.History.{GrewFrom, since}
-use Rattle.recording_reader.specs.FileReader.{FileReader, HasGivenFile}
+use Rattle.recording_reader.specs.FileReader.{FileReader, HasGivenFile, IsExact}
 use Rattle.recording_reader.specs.Files.{HaveFileRecords}
-use Rattle.recording_reader.specs.declared.way.Standing.TheVariants.{Reads}
 use Rattle.recording_reader.proofs.Standings.{way_grew, way_has, way_kind, way_known, way_said}
 use Rattle.recording_reader.proofs.reader.DatagramReader.history.Goals as goal
 
@@ -24,14 +23,14 @@ returns-clause-known g c =
           (told.gave was.source) (told.ended was.source) _ _ octets s.stands read;
     })
 
-pub returns-clause-between : goal.returns-clause-between
-returns-clause-between g c =
+pub returns-clause-given : goal.returns-clause-given
+returns-clause-given g c =
     let told = g.S.ByteSource in
     let was = c.self.inside in
-    subst (λ (v : FileReader _). v.standing ≡ Reads → HaveFileRecords v.flows
+    subst (λ (v : FileReader _). IsExact v.standing → HaveFileRecords v.flows
     (since v.before.gave (told.gave v.source)) v.records v.left_out) c.self.view_is
-    (λ reads. way_has was.way was.flows was.standing (told.gave was.opened.value)
-    (told.gave was.source) (told.ended was.source) _ _ c.self.invariant.stands reads)
+    (λ exact. way_has was.way was.flows was.standing (told.gave was.opened.value)
+    (told.gave was.source) (told.ended was.source) _ _ c.self.invariant.stands exact)
 
 pub returns-clause-grown : goal.returns-clause-grown
 returns-clause-grown g c =
