@@ -1,11 +1,10 @@
 -- What stands before all records of a file, read behind its first four octets.
-use Rattle.std.proofs.Common.{◌≡◌, ℕ, ◌<◌, List, [], ◌∷◌, ◌++◌, Bool, true, false, Option, None, Some}
+use Rattle.std.proofs.Common.{◌≡◌, ℕ, ◌<◌, List, [], ◌++◌, Bool, true, false, Option, None, Some}
 use Rattle.std.proofs.Common.{Result, Ok, Err, append_assoc, append-nil, refl, sym, ap, subst, ◌∙◌}
 use Rattle.std.proofs.Common.{length, arith}
 use Rattle.std.specs.Prelude.{IfErr, IfOk, take}
 use Rattle.flow.specs.declared.flows.Flows.{Flows}
 use Rattle.left_out_counts.specs.LeftOut.{left_out_of}
-use Rattle.left_out_counts.specs.declared.left_out.LeftOut.{LeftOut}
 use Rattle.media_file.specs.Fields.{GaveFault, GaveValue}
 use Rattle.media_file.specs.Fronts.{front_at}
 use Rattle.media_file.specs.declared.fault.FileFault.{FileFault}
@@ -15,16 +14,15 @@ use Rattle.media_file.proofs.FrontBehind.{few_cut}
 use Rattle.media_file.proofs.Gave.{fault_read}
 use Rattle.pcap_file.specs.Runs.{HasFailed, HasRead, fault_in, layout_seen, packets_in}
 use Rattle.pcap_file.specs.declared.fault.RecordingFault.{RecordingFault}
-use Rattle.pcap_file.specs.declared.recording.Layout.{Layout}
 use Rattle.pcap_file.proofs.Content.{if_content_weaker as if_recording_weaker}
 use Rattle.pcap_file.proofs.Gave.{grew_twice}
 use Rattle.st_format.specs.History.{GrewFrom, IsRead, since}
 use Rattle.st_format.proofs.Histories.{since_is}
-use Rattle.recording_reader.specs.Files.{IfFile, IsFrontFault}
+use Rattle.recording_reader.specs.Files.{IsFrontFault}
 use Rattle.recording_reader.specs.Kinds.{is_magic, is_recording}
 use Rattle.recording_reader.specs.Opening.{HasGivenFour, StopsOpening}
 use Rattle.recording_reader.specs.Records.{room}
-use Rattle.recording_reader.specs.Ways.{Begins, HasBegun}
+use Rattle.recording_reader.specs.Ways.{Begins}
 use Rattle.recording_reader.specs.declared.fault.FileOpeningFault.{FileOpeningFault}
 use Rattle.recording_reader.specs.declared.fault.FileOpeningFault.TheVariants as opening
 use Rattle.recording_reader.specs.declared.fault.ReadingFault.TheVariants as fault
@@ -32,7 +30,7 @@ use Rattle.recording_reader.specs.declared.way.Track.{Track}
 use Rattle.recording_reader.specs.declared.way.Way.{Way}
 use Rattle.recording_reader.specs.declared.way.Way.TheVariants.{Capture, Recording}
 use Rattle.recording_reader.proofs.Captures.{capture_first}
-use Rattle.recording_reader.proofs.Magic.{kind_behind, kind_of_few, kind_of_four}
+use Rattle.recording_reader.proofs.Magic.{kind_behind, kind_of_few}
 use Rattle.recording_reader.proofs.Recordings.{read_part, recording_first}
 
 -- ---- fewer than four octets

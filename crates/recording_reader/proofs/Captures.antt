@@ -4,7 +4,6 @@ use Rattle.std.proofs.Common.{Err, append_assoc, append-nil, refl, sym, ap, subs
 use Rattle.flow.specs.declared.flows.Flows.{Flows}
 use Rattle.left_out_counts.specs.LeftOut.{left_out_of}
 use Rattle.left_out_counts.specs.declared.omission.Omission.{Omission}
-use Rattle.media_file.specs.Faults.{IfContent}
 use Rattle.media_file.specs.Fronts.{front_at}
 use Rattle.media_file.specs.Reading.{entries_by, entries_in, entries_up_to, fault_at, fault_by}
 use Rattle.media_file.specs.Reading.{rest_at}
@@ -19,13 +18,12 @@ use Rattle.media_file.proofs.Standings.{both_fit}
 use Rattle.media_file.proofs.Written.{records_append}
 use Rattle.st_format.specs.History.{GrewFrom, IsRead, since}
 use Rattle.st_format.proofs.Histories.{grew_by, since_is}
-use Rattle.recording_reader.specs.Capturing.{FailsRecord, IsNoRecord, ReadsRecord}
+use Rattle.recording_reader.specs.Capturing.{FailsRecord, ReadsRecord}
 use Rattle.recording_reader.specs.FileReader.{IsKnownBy}
-use Rattle.recording_reader.specs.Files.{AreFirst, HasWrongRecord, HaveFileRecords, IsFileFault}
+use Rattle.recording_reader.specs.Files.{AreFirst, HaveFileRecords, IsFileFault}
 use Rattle.recording_reader.specs.Files.{IsWholeFile, records_of_file, text_of_file}
 use Rattle.recording_reader.specs.Kinds.{is_recording}
 use Rattle.recording_reader.specs.Ways.{CaptureStands, IsBehindRecords, IsFront}
-use Rattle.recording_reader.specs.declared.fault.ReadingFault.{ReadingFault}
 use Rattle.recording_reader.specs.declared.fault.ReadingFault.TheVariants as fault
 use Rattle.recording_reader.specs.declared.way.Standing.{Standing}
 use Rattle.recording_reader.specs.declared.way.Standing.TheVariants.{Reads, Ended, Failed}

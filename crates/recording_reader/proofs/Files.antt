@@ -1,13 +1,11 @@
 -- What a file has, by its kind.
-use Rattle.std.proofs.Common.{◌≡◌, ℕ, List, [], ◌++◌, Bool, true, false, Option, Some, Result, Ok}
-use Rattle.std.proofs.Common.{refl, sym, ap, subst, ◌∙◌}
+use Rattle.std.proofs.Common.{◌≡◌, ℕ, List, [], Bool, true, false, Option, Some, Ok}
+use Rattle.std.proofs.Common.{sym, ap, subst, ◌∙◌}
 use Rattle.std.specs.Prelude.{if◌then◌else◌}
 use Rattle.flow.specs.declared.flows.Flows.{Flows}
 use Rattle.left_out_counts.specs.declared.omission.Omission.{Omission}
 use Rattle.media_file.specs.Fronts.{front_at}
 use Rattle.media_file.specs.Reading.{entries_in}
-use Rattle.media_file.specs.Records.{Entry}
-use Rattle.media_file.specs.declared.fault.FileFault.{FileFault}
 use Rattle.pcap_file.specs.Runs.{packets_in}
 use Rattle.recording_reader.specs.Files.{IsWholeBy, IsWholeFile, capture_records, omissions_by}
 use Rattle.recording_reader.specs.Files.{omissions_of_file, records_behind, records_by}

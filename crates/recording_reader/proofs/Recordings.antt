@@ -1,5 +1,5 @@
 -- Where a reader of a recording stands, and what is known of the recording then.
-use Rattle.std.proofs.Common.{◌≡◌, ℕ, List, [], ◌∷◌, ◌++◌, true, Option, None, Some}
+use Rattle.std.proofs.Common.{◌≡◌, ℕ, List, [], ◌∷◌, ◌++◌, true, None, Some}
 use Rattle.std.proofs.Common.{append_assoc, append-nil, refl, sym, ap, subst, ◌∙◌}
 use Rattle.std.proofs.lemmas.List.Elements.{filter_map-append}
 use Rattle.flow.specs.declared.flows.Flows.{Flows}
@@ -9,7 +9,7 @@ use Rattle.left_out_counts.specs.declared.omission.Omission.{Omission}
 use Rattle.media_file.specs.Records.{Entry}
 use Rattle.pcap_file.specs.Fields.{IfContent, IsContent}
 use Rattle.pcap_file.specs.PcapReading.{Recorded}
-use Rattle.pcap_file.specs.Runs.{HasFailed, HasRead, fault_in, layout_seen, packets_behind}
+use Rattle.pcap_file.specs.Runs.{HasRead, fault_in, layout_seen, packets_behind}
 use Rattle.pcap_file.specs.Runs.{packets_in}
 use Rattle.pcap_file.specs.declared.fault.RecordingFault.{RecordingFault}
 use Rattle.pcap_file.specs.declared.fault.RecordingFault.TheVariants.{Device, Truncated, BadMagic}
@@ -24,12 +24,12 @@ use Rattle.pcap_file.proofs.Gave.{grew_twice}
 use Rattle.st_format.specs.History.{GrewFrom, IsRead, since}
 use Rattle.st_format.proofs.Histories.{grew_by, since_is}
 use Rattle.recording_reader.specs.FileReader.{IsExact, IsKnownBy}
-use Rattle.recording_reader.specs.Files.{AreFirst, HaveFileRecords, IsFileFault, records_of_file}
+use Rattle.recording_reader.specs.Files.{AreFirst, HaveFileRecords, records_of_file}
 use Rattle.recording_reader.specs.Files.{text_of_file}
 use Rattle.recording_reader.specs.Found.{entry_at}
 use Rattle.recording_reader.specs.Kinds.{is_recording}
 use Rattle.recording_reader.specs.Reading.{FailsNext, ReadsToNext}
-use Rattle.recording_reader.specs.Records.{omissions_of, record_of, records_in, records_of, room}
+use Rattle.recording_reader.specs.Records.{omissions_of, record_of, records_of, room}
 use Rattle.recording_reader.specs.Ways.{HasBegun, HasReadPackets, RecordingStands}
 use Rattle.recording_reader.specs.declared.fault.ReadingFault.TheVariants as fault
 use Rattle.recording_reader.specs.declared.found.Found.{Found}

@@ -1,5 +1,5 @@
 -- The next record of a capture, read in two steps.
-use Rattle.std.proofs.Common.{◌≡◌, ℕ, ◌-◌, List, [], ◌∷◌, ◌++◌, Option, refl, sym, ap, ◌∙◌, take}
+use Rattle.std.proofs.Common.{◌≡◌, ℕ, ◌-◌, List, [], ◌∷◌, ◌++◌, Option, sym, ap, ◌∙◌, take}
 use Rattle.std.proofs.Common.{append-nil, arith, subst}
 use Rattle.std.specs.Io.KnownBytes.{Consumes}
 use Rattle.media_file.specs.Faults.{IsDevice}

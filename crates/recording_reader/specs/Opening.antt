@@ -1,5 +1,5 @@
 -- Why a file of datagrams was not opened.
-use Rattle.std.specs.Prelude.{◌≡◌, ℕ, List, [], ◌++◌, true, length, Option, None, Some, IsSome}
+use Rattle.std.specs.Prelude.{◌≡◌, ℕ, List, ◌++◌, true, length, Option, None, IsSome}
 use Rattle.flow.specs.declared.flows.Flows.{Flows}
 use Rattle.recording_reader.specs.Files.{CountsReadingFault, IfFile, IsFrontFault}
 use Rattle.recording_reader.specs.Kinds.{is_recording}

@@ -1,4 +1,4 @@
-use Rattle.std.proofs.Common.{◌≡◌, ◌≤◌, ◌<◌, arith, length, take, true}
+use Rattle.std.proofs.Common.{◌≡◌, arith, take, true}
 use Rattle.std.proofs.lemmas.List.{length-take}
 use Rattle.media_file.proofs.Givings.{grew_all}
 use Rattle.recording_reader.specs.Kinds.{is_magic}

@@ -1,4 +1,3 @@
-use Rattle.std.proofs.Common.{[], ◌∷◌}
 use Rattle.std.proofs.lemmas.Result.{err_from_is_err_and}
 use Rattle.recording_reader.proofs.RecordsRead.{no_record_behind, no_record_first, record_found}
 use Rattle.recording_reader.proofs.record.read_record.Goals as goal

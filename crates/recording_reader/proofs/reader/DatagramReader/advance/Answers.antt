@@ -1,8 +1,6 @@
 use Rattle.std.proofs.Common.{◌≡◌, ◌∙◌, arith, sym}
-use Rattle.recording_reader.proofs.Sounding.{finds, no_path, none_there, path_there, records_more}
+use Rattle.recording_reader.proofs.Sounding.{finds, no_path, path_there, records_more}
 use Rattle.recording_reader.proofs.Sounding.{some_path, sound_again, sound_end, sound_failed}
-use Rattle.recording_reader.proofs.Sounding.{text_same}
-use Rattle.recording_reader.proofs.Standings.{same_kind, same_kind_failed}
 use Rattle.recording_reader.proofs.reader.DatagramReader.advance.Goals as goal
 
 pub invariant_of-self-in-Ok-Some : goal.invariant_of-self-in-Ok-Some

@@ -1,4 +1,4 @@
-use Rattle.std.proofs.Common.{◌≡◌, ◌≤◌, List, Option, ap, arith, length, refl, take, ℕ}
+use Rattle.std.proofs.Common.{◌≡◌, List, Option, ap, arith, length, refl, take, ℕ}
 use Rattle.std.proofs.lemmas.List.{length-take-le}
 use Rattle.recording_reader.specs.Reading.{entry_there}
 use Rattle.recording_reader.specs.declared.found.Found.{Found}

@@ -1,4 +1,4 @@
-use Rattle.std.proofs.Common.{◌≡◌, ◌∙◌, ◌<◌, None, Some, ap, arith, false, refl, sym}
+use Rattle.std.proofs.Common.{◌≡◌, ◌∙◌, None, Some, ap, arith, false, refl, sym}
 use Rattle.recording_reader.specs.FileReader.{FileReader}
 use Rattle.recording_reader.specs.Ways.{is_recording_way}
 use Rattle.recording_reader.specs.declared.fault.ReadingFault.TheVariants as fault
