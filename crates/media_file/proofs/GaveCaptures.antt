@@ -1,5 +1,5 @@
 -- A capture that was read as one value, by what its source gave.
-use Rattle.std.proofs.Common.{◌≡◌, ℕ, ◌≤◌, List, [], ◌++◌, length, Some, Result, Ok, Err}
+use Rattle.std.proofs.Common.{◌≡◌, ℕ, ◌≤◌, List, [], ◌++◌, length, map, Some, Result, Ok, Err}
 use Rattle.std.proofs.Common.{refl}
 use Rattle.std.specs.Prelude.{IfErr, IfOk, MatchResult, OnOk}
 use Rattle.st_format.specs.Device.{AreOctets}
@@ -7,11 +7,11 @@ use Rattle.st_format.specs.History.{GrewFrom, IsRead}
 use Rattle.media_file.specs.declared.capture.Capture.{Capture}
 use Rattle.media_file.specs.declared.fault.FileFault.{FileFault}
 use Rattle.media_file.specs.declared.fault.FileFault.TheVariants.{NoMemory}
-use Rattle.media_file.specs.Capture.{Content, IsCapture, capture_seen, capture_walk}
+use Rattle.media_file.specs.Capture.{Content, IsCapture, capture_seen, capture_walk, entry_seen}
 use Rattle.media_file.specs.Capture.{records_at}
 use Rattle.media_file.specs.CaptureFaults.{IsCaptureFault}
 use Rattle.media_file.specs.Faults.{IfContent, IsMachine}
-use Rattle.media_file.specs.Fields.{GaveFault, GaveValue, GaveWhole}
+use Rattle.media_file.specs.Fields.{Fails, GaveFault, GaveValue, GaveWhole, Takes}
 use Rattle.media_file.specs.Fronts.{front_at}
 use Rattle.media_file.specs.Records.{Entry}
 use Rattle.media_file.proofs.CaptureFaults.{capture_wrong}

@@ -1,10 +1,10 @@
 -- A loop that reads records up to the end, by what the source gave: at each moment what it is by
 -- what a source was to give, whatever is behind.
-use Rattle.std.proofs.Common.{◌≡◌, ℕ, ◌-◌, ◌<◌, ◌≤◌, ◌⊎◌, inl, inr, Bool, cond, List, []}
+use Rattle.std.proofs.Common.{◌≡◌, ℕ, suc, ◌-◌, ◌+◌, ◌<◌, ◌≤◌, ◌⊎◌, inl, inr, Bool, cond, List, []}
 use Rattle.std.proofs.Common.{◌∷◌, ◌++◌, length, take, drop, Option, None, Some, Result, Ok, Err}
-use Rattle.std.proofs.Common.{append_assoc, append-nil, refl, sym, ap, ◌∙◌, subst}
+use Rattle.std.proofs.Common.{append_assoc, append-nil, refl, sym, ap, ◌∙◌, subst, arith}
 use Rattle.std.proofs.lemmas.Bool.{cases_lt, lt-ltb, le-ltb}
-use Rattle.std.proofs.lemmas.List.{length-take-le, take-append-drop}
+use Rattle.std.proofs.lemmas.List.{length-append, length-take-le, take-append-drop}
 use Rattle.media_file.specs.declared.fault.FileFault.{FileFault}
 use Rattle.media_file.specs.declared.fault.FileFault.TheVariants.{NoMemory, Device, Truncated}
 use Rattle.media_file.specs.declared.fault.FileFault.TheVariants.{BadField, TooManyRecords}
@@ -15,7 +15,7 @@ use Rattle.media_file.specs.Fields.{Fails, GaveFault, GaveWhole, Takes}
 use Rattle.media_file.specs.Given.{GivesWrong}
 use Rattle.media_file.specs.Reading.{fault_at, fault_by, head_at, octets_at, rest_at}
 use Rattle.media_file.specs.Records.{Entry, Fits, entry_of, path_octet, rest_text}
-use Rattle.media_file.specs.Source.{FailsRest, IsOfRecord}
+use Rattle.media_file.specs.Source.{FailsRest, IsOfRecord, ReadsRest}
 use Rattle.media_file.proofs.Content.{of_device}
 use Rattle.media_file.proofs.Givings.{grew_twice}
 use Rattle.media_file.proofs.Loops.{GoesOn, Many, goes_on_end, goes_on_fault, goes_on_many}

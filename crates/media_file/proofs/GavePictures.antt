@@ -14,6 +14,7 @@ use Rattle.st_format.specs.Samples.{Spells, values_in}
 use Rattle.st_format.specs.declared.format.Format.{Format}
 use Rattle.st_format.proofs.Histories.{grew_by, since_is}
 use Rattle.media_file.specs.declared.fault.FileFault.{FileFault}
+use Rattle.media_file.specs.declared.front.Version.{Version}
 use Rattle.media_file.specs.declared.front.Version.TheVariants.{One}
 use Rattle.media_file.specs.Blocks.{block_at}
 use Rattle.media_file.specs.Faults.{IfContent, IsMachine, IsOfField}

@@ -1,6 +1,6 @@
 -- What a source gave of a capture, piece by piece.
 use Rattle.std.proofs.Common.{◌≡◌, ℕ, ◌<◌, ◌≤◌, List, [], ◌∷◌, ◌++◌, length, map, take, Option}
-use Rattle.std.proofs.Common.{Some, Result, Ok, Err, append_assoc, append-nil, refl, sym, ap}
+use Rattle.std.proofs.Common.{None, Some, Result, Ok, Err, append_assoc, append-nil, refl, sym, ap}
 use Rattle.std.proofs.Common.{◌∙◌, subst}
 use Rattle.std.specs.Io.KnownBytes.{Consumes, Keeps}
 use Rattle.std.proofs.KnownBytes.{Consumes-kept, Consumes-nil, Consumes-trans}
@@ -11,12 +11,12 @@ use Rattle.st_format.specs.Turns.{came_of}
 use Rattle.st_format.specs.declared.path.Path.{Path}
 use Rattle.st_format.proofs.Histories.{since_is}
 use Rattle.media_file.specs.declared.fault.FileFault.{FileFault}
-use Rattle.media_file.specs.declared.fault.FileFault.TheVariants.{Truncated}
+use Rattle.media_file.specs.declared.fault.FileFault.TheVariants.{Device, Truncated}
 use Rattle.media_file.specs.declared.reader.Standing.{Standing}
 use Rattle.media_file.specs.declared.reader.Standing.TheVariants.{Reads, Ended, Failed}
 use Rattle.media_file.specs.declared.record.RecordHead.{RecordHead}
 use Rattle.media_file.specs.Faults.{IfContent, IsDevice}
-use Rattle.media_file.specs.Given.{GaveRecords, GivesNone, GivesWrong, HasGiven}
+use Rattle.media_file.specs.Given.{GaveNone, GaveRecords, GivesNone, GivesWrong, HasGiven}
 use Rattle.media_file.specs.Reader.{due_of_entry, dues_in}
 use Rattle.media_file.specs.Reading.{entries_by, entries_in, entries_up_to, fault_at, fault_by}
 use Rattle.media_file.specs.Reading.{head_at, octets_at, rest_at}

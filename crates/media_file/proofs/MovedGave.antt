@@ -12,7 +12,8 @@ use Rattle.media_file.specs.declared.fault.FileFault.TheVariants.{Device, BadVer
 use Rattle.media_file.specs.declared.fault.FileFault.TheVariants.{TooManyRecords}
 use Rattle.media_file.specs.Capture.{records_at}
 use Rattle.media_file.specs.Faults.{CountsFault, IsDevice, IsOfFront}
-use Rattle.media_file.specs.Fields.{Fails, GaveFault, GavePart, GaveValue}
+use Rattle.media_file.specs.Fields.{Fails, GaveFault, GavePart, GaveValue, GaveWhole}
+use Rattle.media_file.specs.Fields.{Takes}
 use Rattle.media_file.specs.Fronts.{capture_name, front_text, kind_at}
 use Rattle.media_file.specs.Given.{GivesWrong}
 use Rattle.media_file.specs.Migrated.{MigratedRead, MovesRead, Stops, StopsRead, devices}
@@ -20,14 +21,14 @@ use Rattle.media_file.specs.Migrated.{new_records, new_text, old_at}
 use Rattle.media_file.specs.Reading.{rest_at}
 use Rattle.media_file.specs.Records.{AllFit, Entry, Fits, path_octet, record_text, records_text}
 use Rattle.media_file.specs.Records.{rest_text}
-use Rattle.media_file.specs.Source.{IsOfRecord}
+use Rattle.media_file.specs.Source.{IsOfRecord, ReadsRest}
 use Rattle.media_file.proofs.GaveLoops.{GoesGave, gave_end, gave_many, gave_record}
 use Rattle.media_file.proofs.GaveLoops.{gave_wrong, goes_first, rest_fails}
 use Rattle.media_file.proofs.Gave.{fault_device, fault_of, fault_one, fault_two}
 use Rattle.media_file.proofs.GaveParts.{behind_part}
 use Rattle.media_file.proofs.Givings.{grew_twice}
 use Rattle.media_file.proofs.Loops.{GoesOn}
-use Rattle.media_file.proofs.Moved.{MovesSoFar, fit_more, old_cut, old_fails, old_gives}
+use Rattle.media_file.proofs.Moved.{MovesSoFar, fit_more, migrates, old_cut, old_fails, old_gives}
 use Rattle.media_file.proofs.Moved.{old_newer, one_text, stops_behind_front, stops_device}
 use Rattle.media_file.proofs.Moved.{stops_front, stops_full, stops_kind, stops_newer, stops_record}
 use Rattle.media_file.proofs.Moved.{stops_write}

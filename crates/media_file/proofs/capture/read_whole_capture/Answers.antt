@@ -6,8 +6,9 @@ use Rattle.std.proofs.lemmas.List.{take_at}
 use Rattle.std.proofs.lemmas.Result.{err_from_is_err_and}
 use Rattle.media_file.proofs.Loops.{capture_cut, capture_fails, capture_gives}
 use Rattle.media_file.specs.Fields.{GaveWhole}
-use Rattle.media_file.proofs.GaveCaptures.{capture_gave, capture_gave_cut}
+use Rattle.media_file.proofs.GaveCaptures.{capture_gave, capture_gave_cut, capture_gave_memory}
 use Rattle.media_file.proofs.GaveCaptures.{capture_gave_wrong}
+use Rattle.media_file.proofs.GaveLoops.{fault_memory}
 use Rattle.media_file.proofs.capture.read_whole_capture.Goals as goal
 
 pub returns-in_err-text_len-clause-fault : goal.returns-in_err-text_len-clause-fault
