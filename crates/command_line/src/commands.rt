@@ -149,8 +149,8 @@ const LOOP: Said = Said {
 
 const IMPORT: Said = Said {
     name: "import",
-    about: "Takes a stream's datagrams out of recordings of other tools, joined by time, into \
-        a capture, and prints how many came by each path",
+    about: "Takes a stream's datagrams out of captures and recordings of other tools, joined by \
+        time, into a capture, and prints how many came by each path",
     words: &[IMPORTED],
 };
 
@@ -442,7 +442,8 @@ const IMPORTED: &[Word] = &[
     Word {
         name: "sdp",
         usage: Usage::Required("FILE"),
-        help: "SDP text that the capture has; it says where the datagrams of each path go",
+        help: "SDP text that the capture has; it says where the datagrams of each path go in \
+            recordings",
     },
     Word {
         name: "a",
@@ -459,7 +460,12 @@ const IMPORTED: &[Word] = &[
         usage: Usage::Required("FILE"),
         help: "Where the capture is written; - is standard output",
     },
-    RECORDINGS,
+    Word {
+        name: "recordings",
+        usage: Usage::Files("RECORDING"),
+        help: "Captures, and recordings of other tools, pcap or pcapng, joined by time; - is \
+            standard input",
+    },
 ];
 
 /// The words of `inspect`.
