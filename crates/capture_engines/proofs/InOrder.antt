@@ -1,26 +1,21 @@
 -- Captures that are taken one after the other.
 use Rattle.std.proofs.Common.{◌≡◌, ℕ, ◌+◌, List, [], ◌∷◌, ◌++◌, length, Option, None, Some}
-use Rattle.std.proofs.Common.{Result, Ok, Err, refl, sym, ap, subst, ◌∙◌, arith, append_assoc}
-use Rattle.std.proofs.Common.{zero, suc, ◌≤◌, ◌<◌, append-nil, drop, get_or, set, take}
+use Rattle.std.proofs.Common.{refl, sym, ap, subst, ◌∙◌, arith, append_assoc}
+use Rattle.std.proofs.Common.{zero, suc, ◌≤◌, append-nil, drop, take}
 use Rattle.std.proofs.lemmas.Grind.{flat_map-append}
 use Rattle.std.proofs.lemmas.List.{take_all}
 use Rattle.capture_engines.specs.Sent.{FirstIs}
 use Rattle.capture_engines.proofs.OneOf.{zip_drop}
 use Rattle.std.specs.List.{flat_map}
-use Rattle.std.specs.Prelude.{IfOk}
 use Rattle.media_file.specs.StateFile.{state_text}
-use Rattle.path_merge.specs.Frames.{Holds}
 use Rattle.receiver_file.specs.Saved.{kept_of}
 use Rattle.run_outcome.specs.Sources.{IsSourceText}
 use Rattle.run_outcome.specs.Timestamps.{AreTimestamps}
 use Rattle.capture_engines.specs.Printed.{received_text, tally_text}
-use Rattle.capture_engines.specs.Tallied.{Tallies}
-use Rattle.capture_engines.specs.Taking.{AreRead, AnnouncesStream, Begins, IsOpeningText, OpensBy}
-use Rattle.capture_engines.specs.Taking.{Receives}
+use Rattle.capture_engines.specs.Taking.{AreRead, AnnouncesStream, ReceivesFiles}
 use Rattle.capture_engines.specs.Taking.{SavesHolding, Stands, TakesFile, TakesFiles}
 use Rattle.std.specs.List.{zip}
 use Rattle.capture_engines.specs.Taking.{capture_datagrams, said_behind}
-use Rattle.run_outcome.specs.declared.fault.Fault.{Fault}
 use Rattle.capture_engines.specs.declared.receiving.Asked.{Asked}
 use Rattle.capture_engines.specs.declared.intake.Intake.{Intake}
 use Rattle.capture_engines.proofs.Printed.{received_text_is}
@@ -208,70 +203,21 @@ saves_held o window source Is (Some said) s ds wanted shown shown' old new is_wi
       taken = taken;
     }
 
-pub receives : {S A : Type 0} (o : Asked A) (window source : List ℕ) (sdp : Option S)
+pub receives : {S A : Type 0} (o : Asked A) (window source : List ℕ) (sdp : Option (List ℕ))
     (f : S → List ℕ → Type 0) (captures : List S)
     (begun : Option (Intake A)) (s : Intake A) (wanted : Bool)
     (shown shown' old new : List ℕ)
-    → AreTimestamps window o.window.items → IsSourceText source o.ssrc → Begins o f sdp begun
+    → AreTimestamps window o.window.items → IsSourceText source o.ssrc → Stands o begun sdp []
     → TakesFiles o f captures begun (Some s)
     → shown' ≡ shown ++ received_text wanted s.delivered (tally_text s.tally) s.receiver
     → new ≡ old ++ state_text (kept_of s.receiver)
-    → Receives window source sdp f captures wanted shown shown' old new
+    → ReceivesFiles window source sdp f captures wanted shown shown' old new
 receives o window source sdp f captures begun s wanted shown shown' old new is_window is_source
     begins files printed taken =
     record {
       saved = λ octets tell.
-          saves_held o window source (IsOpeningText f sdp octets) (said_behind begins.said octets) s
-          (flat_map capture_datagrams octets) wanted shown shown' old new is_window is_source
-          (files.stands octets begins.said [] tell begins.stands) (begins.opens octets) printed
+          saves_held o window source (λ text. said_behind sdp octets ≡ Some text)
+          (said_behind sdp octets) s (flat_map capture_datagrams octets) wanted shown shown' old new
+          is_window is_source (files.stands octets sdp [] tell begins) (λ text is. is) printed
           taken;
     }
-
--- ---- a run begins
-
--- with no SDP's source
-pub none_begins : {S A : Type 0} (o : Asked A) (f : S → List ℕ → Type 0) (sdp : Option S)
-    → sdp ≡ None → Begins {S = S} {A = A} o f sdp None
-none_begins {S} {A} o f sdp none =
-    subst (λ (x : Option S). Begins {S = S} {A = A} o f x None) (sym none) (record {
-      said = None;
-      stands = refl;
-      opens = λ captures text is. is;
-    })
-
--- by the SDP's source
-pub some_begins : {S A : Type 0} (o : Asked A) (f : S → List ℕ → Type 0) (sdp : Option S)
-    (source : S) (s : Intake A) → sdp ≡ Some source → OpensBy o (f source) s
-    → Begins o f sdp (Some s)
-some_begins {S} {A} o f sdp source s some opens =
-    subst (λ (x : Option S). Begins {S = S} {A = A} o f x (Some s)) (sym some) (record {
-      said = Some opens.text;
-      stands = opens.opened;
-      opens = λ captures text is. ap (λ (t : List ℕ). Some t) (sym (opens.is text is));
-    })
-
--- an intake that was opened by the text that the SDP's source gave
-pub opened_if : {A : Type 0} (o : Asked A) (r : Result (Intake A) Fault)
-    (told : List ℕ → Type 0) (text window : List ℕ)
-    → ((octets : List ℕ) → told octets → octets ≡ text) → window ≡ o.window.items
-    → IfOk r (λ s. s.receiver.opening.window ≡ window)
-    → IfOk r (λ s. s.receiver.opening.ssrc ≡ o.ssrc)
-    → IfOk r (λ s. AnnouncesStream text s.receiver.opening)
-    → IfOk r (λ s. Holds s.receiver []) → IfOk r (λ s. Tallies s.tally [])
-    → IfOk r (λ s. s.delivered ≡ 0)
-    → IfOk r (λ s. OpensBy o told s)
-opened_if o (Ok s) told text window is same of_window of_source announced holds tallied none =
-    record {
-      text = text;
-      is = is;
-      opened = record {
-        window = of_window ∙ same;
-        ssrc = of_source;
-        announced = announced;
-        holds = holds;
-        tallied = tallied;
-        delivered = omega (arith, none);
-      };
-    }
-opened_if o (Err f) told text window is same of_window of_source announced holds tallied none =
-    tt

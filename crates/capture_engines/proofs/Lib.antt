@@ -15,3 +15,4 @@ pub mod Accounting
 pub mod Coming
 pub mod Rescues
 pub mod TypedTexts
+pub mod Said

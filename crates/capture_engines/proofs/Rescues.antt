@@ -1,7 +1,7 @@
 -- Captures that are taken up to a fault.
-use Rattle.std.proofs.Common.{◌≡◌, ℕ, zero, suc, ◌+◌, ◌⊎◌, inl, inr, List, [], ◌∷◌, ◌++◌, Option}
-use Rattle.std.proofs.Common.{None, Some, refl, sym, ap, subst, ◌∙◌, append-nil, append_assoc, drop}
-use Rattle.std.proofs.Common.{take, Bool, arith}
+use Rattle.std.proofs.Common.{◌≡◌, ℕ, zero, suc, ◌⊎◌, inl, inr, List, [], ◌∷◌, ◌++◌, Option}
+use Rattle.std.proofs.Common.{None, Some, refl, sym, ap, subst, ◌∙◌, append-nil, drop}
+use Rattle.std.proofs.Common.{take, Bool}
 use Rattle.std.specs.List.{flat_map, zip}
 use Rattle.std.specs.Prelude.{IfErr, MatchOption, OnErr, OnOk, Result, Ok, Err, ⊤}
 use Rattle.st_format.specs.History.{GrewFrom, IsRead, since}
@@ -22,7 +22,7 @@ use Rattle.capture_engines.specs.Printed.{received_text, tally_text}
 use Rattle.capture_engines.specs.Received.{HasBehind}
 use Rattle.capture_engines.specs.Rescued.{Rescues, TakesPart, TakesUpTo}
 use Rattle.capture_engines.specs.Sent.{FirstIs}
-use Rattle.capture_engines.specs.Taking.{AnnouncesStream, AreRead, Begins, HoldsBy, IsOpeningText}
+use Rattle.capture_engines.specs.Taking.{AnnouncesStream, AreRead, HoldsBy}
 use Rattle.capture_engines.specs.Taking.{Stands, TakesFile, TakesFiles, TakesRecords}
 use Rattle.capture_engines.specs.Taking.{capture_datagrams, said_behind}
 use Rattle.capture_engines.specs.declared.intake.Intake.{Intake}
@@ -197,33 +197,32 @@ counts_held o window source Is (Some said) s ds r is_window is_source stands ope
       delivered = stands.delivered;
     })
 
-pub counts : {S A : Type 0} (o : Asked A) (window source : List ℕ) (sdp : Option S)
+pub counts : {S A : Type 0} (o : Asked A) (window source : List ℕ) (sdp : Option (List ℕ))
     (f : S → List ℕ → Type 0) (captures : List S) (begun : Option (Intake A)) (s : Intake A)
     (r : Reception) → AreTimestamps window o.window.items → IsSourceText source o.ssrc
-    → Begins o f sdp begun → TakesFiles o f captures begun (Some s)
+    → Stands o begun sdp [] → TakesFiles o f captures begun (Some s)
     → r ≡ record { delivered = s.delivered; tally = s.tally }
     → CountsReceived window source sdp f captures r
 counts o window source sdp f captures begun s r is_window is_source begins files is = record {
   counted = λ octets tell.
-      counts_held o window source (IsOpeningText f sdp octets) (said_behind begins.said octets) s
-      (flat_map capture_datagrams octets) r is_window is_source
-      (files.stands octets begins.said [] tell begins.stands) (begins.opens octets) is;
+      counts_held o window source (λ text. said_behind sdp octets ≡ Some text)
+      (said_behind sdp octets) s (flat_map capture_datagrams octets) r is_window is_source
+      (files.stands octets sdp [] tell begins) (λ text is. is) is;
 }
 
-pub rescues : {S A : Type 0} (o : Asked A) (window source : List ℕ) (sdp : Option (S × S))
+pub rescues : {S A : Type 0} (o : Asked A) (window source : List ℕ) (sdp : Option (List ℕ))
     (gave : S → List ℕ) (ended : S → Type 0) (captures : List (S × S))
     (begun : Option (Intake A)) (s : Intake A) (wanted : Bool) (shown shown' old new : List ℕ)
     (r : Reception) → AreTimestamps window o.window.items → IsSourceText source o.ssrc
-    → Begins o (WasRead gave ended) sdp begun → TakesUpTo o gave ended captures begun (Some s)
+    → Stands o begun sdp [] → TakesUpTo o gave ended captures begun (Some s)
     → shown' ≡ shown ++ received_text wanted s.delivered (tally_text s.tally) s.receiver
     → new ≡ old ++ state_text (kept_of s.receiver)
     → r ≡ record { delivered = s.delivered; tally = s.tally }
     → Rescues window source sdp gave ended captures wanted shown shown' old new r
 rescues o window source sdp gave ended captures begun s wanted shown shown' old new r is_window
     is_source begins up printed taken is =
-    let x : PartStands o gave ended up.front up.at begins.said s =
-    part_stands o gave ended up.front up.at begins.said begun up.between s begins.stands up.whole
-    up.part in
+    let x : PartStands o gave ended up.front up.at sdp s =
+    part_stands o gave ended up.front up.at sdp begun up.between s begins up.whole up.part in
     record {
       front = up.front;
       at = up.at;
@@ -232,13 +231,13 @@ rescues o window source sdp gave ended captures begun s wanted shown shown' old 
       part = x.part;
       part_is = x.part_is;
       saved = λ octets tell.
-          saves_held o window source (IsOpeningText (WasRead gave ended) sdp (octets ++ x.part))
-          (said_behind begins.said (octets ++ x.part)) s
+          saves_held o window source (λ text. said_behind sdp (octets ++ x.part) ≡ Some text)
+          (said_behind sdp (octets ++ x.part)) s
           (flat_map capture_datagrams (octets ++ x.part)) wanted shown shown' old new is_window
-          is_source (x.stands octets tell) (begins.opens (octets ++ x.part)) printed taken;
+          is_source (x.stands octets tell) (λ text is. is) printed taken;
       counted = λ octets tell.
-          counts_held o window source (IsOpeningText (WasRead gave ended) sdp (octets ++ x.part))
-          (said_behind begins.said (octets ++ x.part)) s
+          counts_held o window source (λ text. said_behind sdp (octets ++ x.part) ≡ Some text)
+          (said_behind sdp (octets ++ x.part)) s
           (flat_map capture_datagrams (octets ++ x.part)) r is_window is_source
-          (x.stands octets tell) (begins.opens (octets ++ x.part)) is;
+          (x.stands octets tell) (λ text is. is) is;
     }

@@ -120,3 +120,11 @@ abbrev pub IsReceiveRefusal : {S : Type 0} → List ℕ → List ℕ → Option 
     → List S → Refusal → Type 0
 IsReceiveRefusal window ssrc sdp f captures r = IsWordRefusal window ssrc r
     ⊎ ((ts : List ℕ) × AreTimestamps window ts × IsFilesRefusal ts sdp f captures r)
+
+-- the same where the SDP text is given itself
+abbrev pub IsReceivingRefusal : {S : Type 0} → List ℕ → List ℕ → Option (List ℕ)
+    → (S → List ℕ → Type 0) → List S → Refusal → Type 0
+IsReceivingRefusal window ssrc sdp f captures r = IsWordRefusal window ssrc r
+    ⊎ ((ts : List ℕ) × AreTimestamps window ts
+    × (MatchOption sdp ⊥ (λ text. IsOpeningRefusal ts text r)
+    ⊎ IsCapturesRefusal ts sdp f captures r))

@@ -4,12 +4,11 @@ use Rattle.std.specs.List.{flat_map}
 use Rattle.run_outcome.specs.Fault.{Blames, Failures, NoneFailed}
 use Rattle.run_outcome.specs.Moments.{WasRead}
 use Rattle.run_outcome.specs.Refusing.{OfRefusal}
-use Rattle.run_outcome.specs.declared.fault.Fault.{Fault}
 use Rattle.st_format.specs.History.{since}
 use Rattle.capture_engines.specs.Counted.{CountsHolding}
 use Rattle.capture_engines.specs.Received.{IsCapturesRefusal}
-use Rattle.capture_engines.specs.Taking.{AreRead, IsOpeningText, SavesHolding, TakesFile, TakesFiles}
-use Rattle.capture_engines.specs.Taking.{capture_datagrams}
+use Rattle.capture_engines.specs.Taking.{AreRead, SavesHolding, TakesFile, TakesFiles}
+use Rattle.capture_engines.specs.Taking.{capture_datagrams, said_behind}
 use Rattle.capture_engines.specs.declared.intake.Intake.{Intake}
 use Rattle.capture_engines.specs.declared.receiving.Asked.{Asked}
 use Rattle.capture_engines.specs.declared.reception.Reception.{Reception}
@@ -53,7 +52,7 @@ RescueAccounts (Part s f) devices = Blames devices f
 
 -- What was saved and printed of captures of which one is at fault: what was read of those before
 -- it, and of that one, is what a receiver was given.
-pub record Rescues {S : Type 0} (window source : List ℕ) (sdp : Option (S × S))
+pub record Rescues {S : Type 0} (window source : List ℕ) (sdp : Option (List ℕ))
     (gave : S → List ℕ) (ended : S → Type 0) (captures : List (S × S)) (wanted : Bool)
     (shown shown' old new : List ℕ) (r : Reception) : Type 0 where
   pub front : List (S × S)
@@ -63,8 +62,8 @@ pub record Rescues {S : Type 0} (window source : List ℕ) (sdp : Option (S × S
   pub part : List (List ℕ)
   pub part_is : (part ≡ since (gave at.0) (gave at.1) ∷ []) ⊎ (part ≡ [])
   pub saved : (octets : List (List ℕ)) → AreRead (WasRead gave ended) front octets
-      → SavesHolding window source (IsOpeningText (WasRead gave ended) sdp (octets ++ part))
+      → SavesHolding window source (λ text. said_behind sdp (octets ++ part) ≡ Some text)
       (flat_map capture_datagrams (octets ++ part)) wanted shown shown' old new
   pub counted : (octets : List (List ℕ)) → AreRead (WasRead gave ended) front octets
-      → CountsHolding window source (IsOpeningText (WasRead gave ended) sdp (octets ++ part))
+      → CountsHolding window source (λ text. said_behind sdp (octets ++ part) ≡ Some text)
       (flat_map capture_datagrams (octets ++ part)) r

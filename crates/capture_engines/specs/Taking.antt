@@ -117,27 +117,19 @@ pub record TakesFiles {S A : Type 0} (o : Asked A) (told : S → List ℕ → Ty
 
 -- ---- the run
 
+-- the SDP text that was read of a source, where one is given
+abbrev pub IsSaid : {S : Type 0} → (S → List ℕ → Type 0) → Option S → Option (List ℕ) → Type 0
+IsSaid told None None = ⊤
+IsSaid told None (Some text) = ⊥
+IsSaid told (Some sdp) None = ⊥
+IsSaid told (Some sdp) (Some text) = (octets : List ℕ) → told sdp octets → octets ≡ text
+
 -- the SDP text by which a run opens its receiver: that which was read of the source that is given;
 -- or, where none is given, that of the first capture
 abbrev pub IsOpeningText : {S : Type 0} → (S → List ℕ → Type 0) → Option S → List (List ℕ)
     → List ℕ → Type 0
 IsOpeningText told None captures text = said_behind None captures ≡ Some text
 IsOpeningText told (Some sdp) captures text = told sdp text
-
--- an intake was opened by the SDP text that was read
-pub record OpensBy {A : Type 0} (o : Asked A) (told : List ℕ → Type 0) (s : Intake A) : Type 0
-  where
-    pub text : List ℕ
-    pub is : (octets : List ℕ) → told octets → octets ≡ text
-    pub opened : HoldsBy o text s []
-
--- an intake has begun by the SDP's source where one is given, and else none has
-pub record Begins {S A : Type 0} (o : Asked A) (told : S → List ℕ → Type 0) (sdp : Option S)
-    (begun : Option (Intake A)) : Type 0 where
-  pub said : Option (List ℕ)
-  pub stands : Stands o begun said []
-  pub opens : (captures : List (List ℕ)) (text : List ℕ)
-      → IsOpeningText told sdp captures text → said_behind said captures ≡ Some text
 
 -- The lines of a receiver were printed, and a sink took its file: it was opened with this window
 -- and source, and by the SDP text that is so, and was given these datagrams, of which it holds the
@@ -158,4 +150,12 @@ pub record Receives {S : Type 0} (window source : List ℕ) (sdp : Option S)
     (shown shown' old new : List ℕ) : Type 0 where
   pub saved : (octets : List (List ℕ)) → AreRead told captures octets
       → SavesHolding window source (IsOpeningText told sdp octets)
+      (flat_map capture_datagrams octets) wanted shown shown' old new
+
+-- the same where the SDP text is given itself
+pub record ReceivesFiles {S : Type 0} (window source : List ℕ) (sdp : Option (List ℕ))
+    (told : S → List ℕ → Type 0) (captures : List S) (wanted : Bool)
+    (shown shown' old new : List ℕ) : Type 0 where
+  pub saved : (octets : List (List ℕ)) → AreRead told captures octets
+      → SavesHolding window source (λ text. said_behind sdp octets ≡ Some text)
       (flat_map capture_datagrams octets) wanted shown shown' old new

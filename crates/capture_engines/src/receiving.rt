@@ -3,6 +3,7 @@ ghost use Rattle.std.specs.Prelude.{◌≡◌, ◌≢◌, ◌≤◌, ◌<◌, �
 ghost use Rattle.std.specs.Prelude.{◌⊎◌, ⊤, IfErr, IfOk, OnErr, OnOk};
 ghost use Rattle.std.specs.Prelude.{MatchOption, Option, None, Some, drop, length, sum_by, take};
 ghost use Rattle.std.specs.List.{zip};
+ghost use Rattle.std.specs.Option.{option_copied, option_map};
 ghost use Rattle.run_outcome.specs.Moments.{WasRead, pair};
 ghost use Rattle.media_file.specs.Reader.{IsNewReader};
 ghost use Rattle.media_file.specs.StateFile.{state_text};
@@ -11,16 +12,18 @@ ghost use Rattle.capture_engines.specs.Rescued.{TakesPart, TakesUpTo};
 ghost use Rattle.run_outcome.specs.Fault.{Accounts, IfRefused, counts, failures_in};
 ghost use Rattle.capture_engines.specs.Printed.{if_wanted, received_text, tally_text};
 ghost use Rattle.capture_engines.specs.Received.{HasBehind, IsCapturesRefusal, IsFrontRefusal};
-ghost use Rattle.capture_engines.specs.Received.{IsGivenRefusal, IsReceiveRefusal, IsTakeRefusal};
+ghost use Rattle.capture_engines.specs.Received.{IsOpeningRefusal, IsReceiveRefusal, IsTakeRefusal};
 ghost use Rattle.capture_engines.specs.Received.{IsWordRefusal};
 ghost use Rattle.capture_engines.specs.Receiving.{SavesShown};
 ghost use Rattle.run_outcome.specs.Refusing.{OfRefusal};
 ghost use Rattle.capture_engines.specs.Sent.{FirstIs};
-ghost use Rattle.capture_engines.specs.Taking.{Begins, HoldsBy, OpensBy, Receives, TakesFile};
+ghost use Rattle.capture_engines.specs.Taking.{HoldsBy, IsSaid, Receives, Stands, TakesFile};
 ghost use Rattle.capture_engines.specs.Taking.{TakesFiles};
 ghost use Rattle.receiver_file.specs.Saved.{IsWritable, kept_of};
 ghost use Rattle.run_outcome.specs.Sources.{IsSourceText};
+ghost use Rattle.run_outcome.specs.TextRefusals.{GivesAbove};
 ghost use Rattle.run_outcome.specs.Timestamps.{AreTimestamps};
+ghost use Rattle.run_outcome.specs.declared.refusal.Refusal.TheVariants.{ReceiveSdp};
 ghost use Rattle.st_format.specs.History.{GrewFrom, IsRead};
 
 use crate::intake::Intake;
@@ -112,17 +115,67 @@ where
         ∷ counts (K.failures state.old) (K.failures state.new)
         ∷ counts (O.failures output.old) (O.failures output.new) ∷ []) }
 {
+    check_words(alloc, wanted)?;
+    let said = read_said(alloc, sdp)?;
     let mut reception = None;
     receive_files(
         alloc,
         wanted,
         false,
-        sdp,
+        octets_of(&said),
         captures,
         state,
         output,
         &mut reception,
     )
+}
+
+/// Reads the SDP's text, where a source of it is given.
+fn read_said<A: Allocator, S: ByteSource>(
+    alloc: A,
+    sdp: &mut Option<S>,
+) -> Result<Option<Vec<u8, A>>, Fault>
+    ensures said { IfOk result (λ said. IsSaid (WasRead S.gave S.ended) (pair sdp.old sdp.new)
+        (option_map (λ text. text.items) said)) }
+    ensures refusal { IfErr result (λ f. OfRefusal f (λ r. (r ≡ ReceiveSdp)
+        × MatchOption (pair sdp.old sdp.new) ⊥
+        (λ s. GivesAbove 16777216 (WasRead S.gave S.ended s)))) }
+    ensures failures { Accounts result (counts (failures_in S.failures sdp.old)
+        (failures_in S.failures sdp.new) ∷ []) }
+{
+    match sdp {
+        None => Ok(None),
+        Some(source) => match read_given(alloc, source) {
+            Ok(text) => Ok(Some(text)),
+            Err(fault) => Err(fault),
+        },
+    }
+}
+
+/// Reads the SDP's text.
+fn read_given<A: Allocator, S: ByteSource>(alloc: A, source: &mut S) -> Result<Vec<u8, A>, Fault>
+    ensures said { IfOk result (λ text. (octets : List ℕ)
+        → IsRead (S.gave source.old) (S.gave source.new) (S.ended source.new) octets
+        → octets ≡ text.items) }
+    ensures refusal { IfErr result (λ f. OfRefusal f (λ r. (r ≡ ReceiveSdp) × GivesAbove 16777216
+        (IsRead (S.gave source.old) (S.gave source.new) (S.ended source.new)))) }
+    ensures failures { Accounts result (counts (S.failures source.old) (S.failures source.new)
+        ∷ []) }
+{
+    match read_text(alloc, source, SDP)? {
+        Some(text) => Ok(text),
+        None => Err(Fault::Refused(Refusal::ReceiveSdp)),
+    }
+}
+
+/// The octets of a text, where there is one.
+fn octets_of<A: Allocator>(said: &Option<Vec<u8, A>>) -> Option<&[u8]>
+    ensures { option_copied result ≡ option_map (λ text. text.items) said.now }
+{
+    match said {
+        Some(text) => Some(text.as_slice()),
+        None => None,
+    }
 }
 
 /// Reads the words that a receiver is opened by: its timestamps and its source.
@@ -145,23 +198,21 @@ pub(crate) fn read_opening<A: Allocator + Copy>(
     Ok(Asked { window, ssrc })
 }
 
-/// Opens a receiver by the SDP, where there is one.
-pub(crate) fn begin<A: Allocator + Copy, S: ByteSource>(
+/// Opens a receiver by the SDP text, where one is given.
+pub(crate) fn begin<A: Allocator + Copy>(
     alloc: A,
     opening: &Asked<A>,
-    sdp: &mut Option<S>,
+    sdp: Option<&[u8]>,
 ) -> Result<Option<Intake<A>>, Fault>
-    ensures begun { IfOk result (λ begun. Begins opening.now (WasRead S.gave S.ended)
-        (pair sdp.old sdp.new) begun) }
-    ensures none { IfOk result (λ begun. begun ≡ None → sdp.old ≡ None) }
-    ensures refusal { IfErr result (λ f. OfRefusal f (λ r. MatchOption (pair sdp.old sdp.new) ⊥
-        (λ s. IsGivenRefusal opening.now.window.items (WasRead S.gave S.ended s) r))) }
-    ensures failures { Accounts result (counts (failures_in S.failures sdp.old)
-        (failures_in S.failures sdp.new) ∷ []) }
+    ensures begun { IfOk result (λ begun. Stands opening.now begun (option_copied sdp.entry) []) }
+    ensures none { IfOk result (λ begun. begun ≡ None → option_copied sdp.entry ≡ None) }
+    ensures refusal { IfErr result (λ f. OfRefusal f (λ r. MatchOption (option_copied sdp.entry) ⊥
+        (λ text. IsOpeningRefusal opening.now.window.items text r))) }
+    ensures failures { Accounts result [] }
 {
     match sdp {
         None => Ok(None),
-        Some(source) => match open_by_sdp(alloc, opening, source) {
+        Some(text) => match open_by(alloc, opening, text) {
             Ok(intake) => Ok(Some(intake)),
             Err(fault) => Err(fault),
         },
@@ -169,22 +220,17 @@ pub(crate) fn begin<A: Allocator + Copy, S: ByteSource>(
 }
 
 /// Opens a receiver by an SDP text.
-fn open_by_sdp<A: Allocator + Copy, S: ByteSource>(
+fn open_by<A: Allocator + Copy>(
     alloc: A,
     opening: &Asked<A>,
-    source: &mut S,
+    said: &[u8],
 ) -> Result<Intake<A>, Fault>
-    ensures opened { IfOk result (λ s. OpensBy opening.now
-        (IsRead (S.gave source.old) (S.gave source.new) (S.ended source.new)) s) }
-    ensures refusal { IfErr result (λ f. OfRefusal f (IsGivenRefusal opening.now.window.items
-        (IsRead (S.gave source.old) (S.gave source.new) (S.ended source.new)))) }
-    ensures failures { Accounts result (counts (S.failures source.old) (S.failures source.new)
-        ∷ []) }
+    ensures opened { IfOk result (λ s. HoldsBy opening.now said.now s []) }
+    ensures refusal { IfErr result (λ f. OfRefusal f
+        (IsOpeningRefusal opening.now.window.items said.now)) }
+    ensures failures { Accounts result [] }
 {
-    let Some(said) = read_text(alloc, source, SDP)? else {
-        return Err(Fault::Refused(Refusal::ReceiveSdp));
-    };
-    Intake::open(alloc, &said, opening.ssrc, &opening.window)
+    Intake::open(alloc, said, opening.ssrc, &opening.window)
 }
 
 /// Takes all captures, each by way of the two rooms: one for its text, and one for its datagrams.
@@ -336,5 +382,5 @@ fn open_by_text<A: Allocator + Copy>(
     if said.is_empty() {
         return Err(Fault::Refused(Refusal::ReceiveNoSdp));
     }
-    Intake::open(alloc, said, opening.ssrc, &opening.window)
+    open_by(alloc, opening, said)
 }

@@ -3,17 +3,17 @@ ghost use Rattle.std.specs.Prelude.{◌≡◌, ◌≢◌, ◌⊎◌, ◌∷◌, 
 ghost use Rattle.std.specs.Prelude.{IsTrue, MatchOption, MatchResult, None, OnErr, OnOk, Some};
 ghost use Rattle.std.specs.Prelude.{length, sum_by};
 ghost use Rattle.std.specs.List.{zip};
+ghost use Rattle.std.specs.Option.{option_copied};
 ghost use Rattle.capture_engines.specs.Counted.{CountsReceived};
 ghost use Rattle.capture_engines.specs.Printed.{if_wanted, received_text, tally_text};
-ghost use Rattle.capture_engines.specs.Received.{IsCapturesRefusal, IsReceiveRefusal};
+ghost use Rattle.capture_engines.specs.Received.{IsCapturesRefusal, IsReceivingRefusal};
 ghost use Rattle.capture_engines.specs.Receiving.{SavesShown};
 ghost use Rattle.capture_engines.specs.Rescued.{IsRescue, RescueAccounts, Rescues};
-ghost use Rattle.capture_engines.specs.Taking.{Receives};
+ghost use Rattle.capture_engines.specs.Taking.{ReceivesFiles};
 ghost use Rattle.media_file.specs.StateFile.{state_text};
 ghost use Rattle.receiver_file.specs.Saved.{IsWritable, kept_of};
 ghost use Rattle.run_outcome.specs.Fault.{Accounts, Blames, Failures, IfRefused, counts};
-ghost use Rattle.run_outcome.specs.Fault.{failures_in};
-ghost use Rattle.run_outcome.specs.Moments.{WasRead, pair};
+ghost use Rattle.run_outcome.specs.Moments.{WasRead};
 ghost use Rattle.run_outcome.specs.Refusing.{OfRefusal};
 ghost use Rattle.run_outcome.specs.declared.fault.Fault.TheVariants.{Device};
 
@@ -37,9 +37,9 @@ pub(crate) enum Rescue<A: Allocator> {
     Part(Intake<A>, Fault),
 }
 
-/// Takes the datagrams of captures into one receiver, as [`crate::receive`] does. Where `is_sound`,
-/// what came before a capture's fault is printed and saved too, and no capture behind that one is
-/// read.
+/// Takes the datagrams of captures into one receiver, as [`crate::receive`] does, by the SDP text
+/// `sdp`, where one is given. Where `is_sound`, what came before a capture's fault is printed and
+/// saved too, and no capture behind that one is read.
 ///
 /// What a receiver was given is answered by `reception` once the receiver is written: where the run
 /// ends well, or where `is_sound` and a capture's fault alone ends it.
@@ -52,7 +52,7 @@ pub fn receive_files<A, S, K, O>(
     alloc: A,
     wanted: Wanted<'_>,
     is_sound: bool,
-    sdp: &mut Option<S>,
+    sdp: Option<&[u8]>,
     captures: &mut [S],
     state: &mut K,
     output: &mut O,
@@ -67,26 +67,25 @@ where
     ensures saved { OnOk result (SavesShown wanted.entry.tells_refusals
         (O.took output.old) (O.took output.new) (K.took state.old) (K.took state.new)) }
     ensures len { length captures.new ≡ length captures.old }
-    ensures taken { OnOk result (Receives wanted.entry.window.now wanted.entry.ssrc.now
-        (pair sdp.old sdp.new) (WasRead S.gave S.ended) (zip captures.old captures.new)
+    ensures taken { OnOk result (ReceivesFiles wanted.entry.window.now wanted.entry.ssrc.now
+        (option_copied sdp.entry) (WasRead S.gave S.ended) (zip captures.old captures.new)
         wanted.entry.tells_refusals
         (O.took output.old) (O.took output.new) (K.took state.old) (K.took state.new)) }
     ensures counted { OnOk result (MatchOption reception.new ⊥
         (CountsReceived wanted.entry.window.now wanted.entry.ssrc.now
-        (pair sdp.old sdp.new) (WasRead S.gave S.ended) (zip captures.old captures.new))) }
+        (option_copied sdp.entry) (WasRead S.gave S.ended) (zip captures.old captures.new))) }
     // Where it ends by a fault behind what it saved, that is what was read before the fault.
     ensures rescued { OnErr result (MatchOption reception.new ⊤ (λ r. IsTrue is_sound
         × Rescues wanted.entry.window.now wanted.entry.ssrc.now
-        (pair sdp.old sdp.new) S.gave S.ended (zip captures.old captures.new)
+        (option_copied sdp.entry) S.gave S.ended (zip captures.old captures.new)
         wanted.entry.tells_refusals
         (O.took output.old) (O.took output.new) (K.took state.old) (K.took state.new) r)) }
     ensures refused { IfErr result (λ f. IfRefused f (IsFalse is_sound
         → state.new ≡ state.old)) }
-    ensures refusal { IfErr result (λ f. OfRefusal f (IsReceiveRefusal wanted.entry.window.now
-        wanted.entry.ssrc.now (pair sdp.old sdp.new) (WasRead S.gave S.ended)
+    ensures refusal { IfErr result (λ f. OfRefusal f (IsReceivingRefusal wanted.entry.window.now
+        wanted.entry.ssrc.now (option_copied sdp.entry) (WasRead S.gave S.ended)
         (zip captures.old captures.new))) }
-    ensures failures { Accounts result (counts (failures_in S.failures sdp.old)
-        (failures_in S.failures sdp.new) ∷ counts (sum_by S.failures captures.old)
+    ensures failures { Accounts result (counts (sum_by S.failures captures.old)
         (sum_by S.failures captures.new)
         ∷ counts (K.failures state.old) (K.failures state.new)
         ∷ counts (O.failures output.old) (O.failures output.new) ∷ []) }

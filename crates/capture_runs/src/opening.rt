@@ -321,7 +321,7 @@ fn read_said(rt: &HostRuntime, file: &mut Replayed<'_>) -> Result<Vec<u8>, Fault
 }
 
 /// The text of the SDP, where one was read.
-fn text_of<'s>(sdp: &'s Option<Source<'_>>) -> Option<&'s [u8]>
+pub(crate) fn text_of<'s>(sdp: &'s Option<Source<'_>>) -> Option<&'s [u8]>
     ensures { option_copied result ≡ said_text sdp.now }
 {
     match sdp {

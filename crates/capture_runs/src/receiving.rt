@@ -4,9 +4,9 @@ ghost use Rattle.std.specs.Prelude.{IsTrue, MatchOption, None, OnErr, OnOk, sum_
 ghost use Rattle.std.specs.List.{zip};
 ghost use Rattle.std.specs.Option.{option_copied};
 ghost use Rattle.capture_engines.specs.Counted.{CountsReceived};
-ghost use Rattle.capture_engines.specs.Received.{IsReceiveRefusal};
+ghost use Rattle.capture_engines.specs.Received.{IsReceivingRefusal};
 ghost use Rattle.capture_engines.specs.Rescued.{Rescues};
-ghost use Rattle.capture_engines.specs.Taking.{Receives};
+ghost use Rattle.capture_engines.specs.Taking.{ReceivesFiles};
 ghost use Rattle.capture_runs.specs.Opened.{AreUnread};
 ghost use Rattle.capture_runs.specs.Received.{AccountsFiles, EndsRecording, IsErrOf};
 ghost use Rattle.capture_runs.specs.Refused.{IsOpeningRefusal};
@@ -14,13 +14,13 @@ ghost use Rattle.capture_runs.specs.Window.{IsWindow, said_text, window_text};
 ghost use Rattle.devices.specs.Passed.{HasNoPart, IsInPlace, IsUnplaced, LeavesNoPart};
 ghost use Rattle.devices.specs.Passed.{file_took, output_failures, output_took, sink_failures};
 ghost use Rattle.devices.specs.Passed.{sink_took, writing_failures};
-ghost use Rattle.run_outcome.specs.Fault.{counts, failures_in};
-ghost use Rattle.run_outcome.specs.Moments.{WasRead, pair};
+ghost use Rattle.run_outcome.specs.Fault.{counts};
+ghost use Rattle.run_outcome.specs.Moments.{WasRead};
 ghost use Rattle.run_outcome.specs.Refusing.{OfRefusal};
 ghost use Rattle.run_outcome.specs.declared.fault.Fault.TheVariants.{Refused};
 ghost use Rattle.recorded_capture.specs.Source.{IsOver};
 
-use crate::opening::{Asked, Files, Source, is_asked};
+use crate::opening::{Asked, Files, Source, is_asked, text_of};
 use crate::room::room_of;
 use crate::window::window_of;
 use capture_engines::{Reception, Wanted};
@@ -113,34 +113,32 @@ fn take(
     reception: &mut Option<Reception>,
 ) -> Result<(), Fault>
     requires { reception.old ≡ None }
-    ensures taken { OnOk result (Receives (window_text files.old.found wanted.entry.window.now)
+    ensures taken { OnOk result (ReceivesFiles (window_text files.old.found wanted.entry.window.now)
         wanted.entry.ssrc.now
-        (pair files.old.sdp files.new.sdp) (WasRead (λ s. s.gave) (λ s. IsOver s.place))
+        (said_text files.old.sdp) (WasRead (λ s. s.gave) (λ s. IsOver s.place))
         (zip files.old.captures.items files.new.captures.items) wanted.entry.tells_refusals
         (output_took output.old) (output_took output.new)
         (sink_took state.old) (sink_took state.new)) }
     ensures counted { OnOk result (MatchOption reception.new ⊥
         (CountsReceived (window_text files.old.found wanted.entry.window.now)
         wanted.entry.ssrc.now
-        (pair files.old.sdp files.new.sdp) (WasRead (λ s. s.gave) (λ s. IsOver s.place))
+        (said_text files.old.sdp) (WasRead (λ s. s.gave) (λ s. IsOver s.place))
         (zip files.old.captures.items files.new.captures.items))) }
     ensures rescued { OnErr result (MatchOption reception.new ⊤ (λ r. IsTrue is_sound
         × Rescues (window_text files.old.found wanted.entry.window.now)
         wanted.entry.ssrc.now
-        (pair files.old.sdp files.new.sdp) (λ s. s.gave) (λ s. IsOver s.place)
+        (said_text files.old.sdp) (λ s. s.gave) (λ s. IsOver s.place)
         (zip files.old.captures.items files.new.captures.items) wanted.entry.tells_refusals
         (output_took output.old) (output_took output.new)
         (sink_took state.old) (sink_took state.new) r)) }
     ensures refusal { IfErr result (λ f. OfRefusal f (λ r.
-        IsReceiveRefusal (window_text files.old.found wanted.entry.window.now)
+        IsReceivingRefusal (window_text files.old.found wanted.entry.window.now)
         wanted.entry.ssrc.now
-        (pair files.old.sdp files.new.sdp) (WasRead (λ s. s.gave) (λ s. IsOver s.place))
+        (said_text files.old.sdp) (WasRead (λ s. s.gave) (λ s. IsOver s.place))
         (zip files.old.captures.items files.new.captures.items) r
         ⊎ Any (EndsRecording r) files.new.captures.items)) }
     ensures owed { AccountsFiles result
-        (counts (failures_in (λ s. s.failures) files.old.sdp)
-        (failures_in (λ s. s.failures) files.new.sdp)
-        ∷ counts (sum_by (λ s. s.failures) files.old.captures.items)
+        (counts (sum_by (λ s. s.failures) files.old.captures.items)
         (sum_by (λ s. s.failures) files.new.captures.items)
         ∷ counts (sink_failures state.old) (sink_failures state.new)
         ∷ counts (output_failures output.old) (output_failures output.new) ∷ []) }
@@ -153,7 +151,7 @@ fn take(
         rt.alloc(),
         wanted,
         is_sound,
-        &mut files.sdp,
+        text_of(&files.sdp),
         files.captures.as_mut_slice(),
         state,
         output,
@@ -234,24 +232,24 @@ impl<'a> Command for ReceiveCommand<'a> {
     // recordings that were read; what is printed counts those, and so does what is kept. The window
     // is that of the words, or, where they ask for the first timestamps, of these, as `is_new`
     // says.
-    ghost does = { λ old new. Receives (window_text old.files.found old.asked.wanted.window.now)
+    ghost does = { λ old new. ReceivesFiles (window_text old.files.found old.asked.wanted.window.now)
         old.asked.wanted.ssrc.now
-        (pair old.files.sdp new.files.sdp) (WasRead (λ s. s.gave) (λ s. IsOver s.place))
+        (said_text old.files.sdp) (WasRead (λ s. s.gave) (λ s. IsOver s.place))
         (zip old.files.captures.items new.files.captures.items)
         old.asked.wanted.tells_refusals (output_took old.output) (output_took new.output)
         (file_took old.state) (file_took new.state)
         × MatchOption new.reception ⊥ (CountsReceived
         (window_text old.files.found old.asked.wanted.window.now) old.asked.wanted.ssrc.now
-        (pair old.files.sdp new.files.sdp)
+        (said_text old.files.sdp)
         (WasRead (λ s. s.gave) (λ s. IsOver s.place))
         (zip old.files.captures.items new.files.captures.items)) };
 
     // A refusal before datagrams were taken, one of the words or of what was read, or the fault of
     // a recording.
     ghost is_refused = { λ old new r. (old.opened ≡ Err (Refused r))
-        ⊎ IsReceiveRefusal (window_text old.files.found old.asked.wanted.window.now)
+        ⊎ IsReceivingRefusal (window_text old.files.found old.asked.wanted.window.now)
         old.asked.wanted.ssrc.now
-        (pair old.files.sdp new.files.sdp) (WasRead (λ s. s.gave) (λ s. IsOver s.place))
+        (said_text old.files.sdp) (WasRead (λ s. s.gave) (λ s. IsOver s.place))
         (zip old.files.captures.items new.files.captures.items) r
         ⊎ Any (EndsRecording r) new.files.captures.items };
 
@@ -264,7 +262,7 @@ impl<'a> Command for ReceiveCommand<'a> {
     ghost leaves = { λ old new. MatchOption new.reception ⊤ (λ r. IsTrue old.is_sound
         × Rescues (window_text old.files.found old.asked.wanted.window.now)
         old.asked.wanted.ssrc.now
-        (pair old.files.sdp new.files.sdp) (λ s. s.gave) (λ s. IsOver s.place)
+        (said_text old.files.sdp) (λ s. s.gave) (λ s. IsOver s.place)
         (zip old.files.captures.items new.files.captures.items)
         old.asked.wanted.tells_refusals (output_took old.output) (output_took new.output)
         (file_took old.state) (file_took new.state) r) };
@@ -272,9 +270,7 @@ impl<'a> Command for ReceiveCommand<'a> {
     // (where it could not begin, it came to what stopped it)
     ghost owes = { λ old new outcome. (IsErr old.opened × (outcome ≡ old.opened))
         ⊎ AccountsFiles outcome
-        (counts (failures_in (λ s. s.failures) old.files.sdp)
-        (failures_in (λ s. s.failures) new.files.sdp)
-        ∷ counts (sum_by (λ s. s.failures) old.files.captures.items)
+        (counts (sum_by (λ s. s.failures) old.files.captures.items)
         (sum_by (λ s. s.failures) new.files.captures.items)
         ∷ counts (writing_failures old.state) (writing_failures new.state)
         ∷ counts (output_failures old.output) (output_failures new.output) ∷ []) };

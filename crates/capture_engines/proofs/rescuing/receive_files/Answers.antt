@@ -1,11 +1,10 @@
-use Rattle.std.proofs.Common.{ap, inr, Option, refl}
+use Rattle.std.proofs.Common.{inr, refl}
 use Rattle.std.proofs.lemmas.Result.{err_from_is_err_and}
 use Rattle.std.specs.List.{zip}
-use Rattle.run_outcome.specs.Moments.{WasRead, pair}
+use Rattle.std.specs.Option.{option_copied}
+use Rattle.run_outcome.specs.Moments.{WasRead}
 use Rattle.run_outcome.proofs.Refusals.{of_refusal_map}
 use Rattle.capture_engines.specs.Counted.{CountsReceived}
-use Rattle.capture_engines.specs.Received.{IsReceiveRefusal}
-use Rattle.capture_engines.proofs.Accounting.{accounts_front}
 use Rattle.capture_engines.proofs.InOrder.{receives}
 use Rattle.capture_engines.proofs.ReceivedRefusals.{captures_refused}
 use Rattle.capture_engines.proofs.Rescues.{counted_if, counts, on_ok_both, on_ok_each}
@@ -31,7 +30,7 @@ returns-in-Whole-clause-taken g c =
     let told = g.S.ByteSource in
     on_ok_both c.put_out.result _ _ _
     (receives c.in_ok-opening.opening c.args.wanted.window.now c.args.wanted.ssrc.now
-    (pair c.args.sdp.now c.begin.new.sdp) (WasRead told.gave told.ended)
+    (option_copied c.args.sdp) (WasRead told.gave told.ended)
     (zip c.args.captures.now c.rescue_captures.new.captures) c.in_ok-begun.begun
     c.in-Whole.intake c.args.wanted.tells_refusals _ _ _ _ c.in_ok-opening.ensures.window
     c.in_ok-opening.ensures.source c.in_ok-begun.ensures.begun
@@ -43,7 +42,7 @@ returns-in-Whole-clause-counted g c =
     let told = g.S.ByteSource in
     let window = c.args.wanted.window.now in
     let source = c.args.wanted.ssrc.now in
-    let sdp = pair c.args.sdp.now c.begin.new.sdp in
+    let sdp = option_copied c.args.sdp in
     let read = WasRead told.gave told.ended in
     let captures = zip c.args.captures.now c.rescue_captures.new.captures in
     counted_if c.put_out.result c.put_out.new.reception _
@@ -61,7 +60,7 @@ returns-in-Part-clause-rescued g c =
     (λ printed whole r is. (
       c.if-is_sound.true,
       rescues c.in_ok-opening.opening c.args.wanted.window.now c.args.wanted.ssrc.now
-          (pair c.args.sdp.now c.begin.new.sdp) told.gave told.ended
+          (option_copied c.args.sdp) told.gave told.ended
           (zip c.args.captures.now c.rescue_captures.new.captures) c.in_ok-begun.begun
           c.in-Part.intake c.args.wanted.tells_refusals _ _ _ _ r c.in_ok-opening.ensures.window
           c.in_ok-opening.ensures.source c.in_ok-begun.ensures.begun taken.0 printed whole is,
@@ -79,18 +78,16 @@ returns-in-Part-clause-refusal g c =
       window,
       c.in_ok-opening.ensures.window,
       inr (captures_refused window
-          c.in_ok-begun.begun (pair c.args.sdp.now c.begin.new.sdp) (WasRead told.gave told.ended)
+          c.in_ok-begun.begun (option_copied c.args.sdp) (WasRead told.gave told.ended)
           (zip c.args.captures.now c.rescue_captures.new.captures)
-          (λ none. ap (λ (s : Option _). pair s c.begin.new.sdp) (c.in_ok-begun.ensures.none none))
-          r is),
+          c.in_ok-begun.ensures.none r is),
     ))
     taken.1)
     c.put_part.ensures.refused
 
 pub returns-in-Part-clause-failures : goal.returns-in-Part-clause-failures
 returns-in-Part-clause-failures g c =
-    accounts_front c.put_part.result _ _ _ _ c.in_ok-begun.ensures.failures
-    (c.put_part.ensures.failures _ (rw c.in-Part.is at c.in_ok-intake.ensures.failures))
+    c.put_part.ensures.failures _ (rw c.in-Part.is at c.in_ok-intake.ensures.failures)
 
 pub returns-clause-refusal : goal.returns-clause-refusal
 returns-clause-refusal g c =
@@ -102,10 +99,9 @@ returns-clause-refusal g c =
       window,
       c.in_ok-opening.ensures.window,
       inr (captures_refused window
-          c.in_ok-begun.begun (pair c.args.sdp.now c.begin.new.sdp) (WasRead told.gave told.ended)
+          c.in_ok-begun.begun (option_copied c.args.sdp) (WasRead told.gave told.ended)
           (zip c.args.captures.now c.rescue_captures.new.captures)
-          (λ none. ap (λ (s : Option _). pair s c.begin.new.sdp) (c.in_ok-begun.ensures.none none))
-          r is),
+          c.in_ok-begun.ensures.none r is),
     ))
     taken.1
 
@@ -120,9 +116,8 @@ returns-in_err-intake-clause-refusal g c =
       window,
       c.in_ok-opening.ensures.window,
       inr (captures_refused window
-          c.in_ok-begun.begun (pair c.args.sdp.now c.begin.new.sdp) (WasRead told.gave told.ended)
+          c.in_ok-begun.begun (option_copied c.args.sdp) (WasRead told.gave told.ended)
           (zip c.args.captures.now c.rescue_captures.new.captures)
-          (λ none. ap (λ (s : Option _). pair s c.begin.new.sdp) (c.in_ok-begun.ensures.none none))
-          r is),
+          c.in_ok-begun.ensures.none r is),
     ))
     c.in_err-intake.ensures.refusal)

@@ -10,7 +10,7 @@ returns-clause-taken c =
     c.receive_files-outcome.new.captures (sym c.as_mut_slice.ensures.len ∙ same)
     (c.receive_files-outcome.ensures.len ∙ same))
     (told_ok c.receive_files-outcome.result c.told_by.result _ _ c.told_by.ensures
-    (rw (c.as_mut_slice.ensures.value, c.window_of.ensures) at c.receive_files-outcome.ensures.taken))
+    (rw (c.as_mut_slice.ensures.value, c.window_of.ensures, c.text_of.ensures) at c.receive_files-outcome.ensures.taken))
 
 pub returns-clause-refusal : goal.returns-clause-refusal
 returns-clause-refusal c =
@@ -21,7 +21,7 @@ returns-clause-refusal c =
     rw back
     (told_refused c.receive_files-outcome.result c.told_by.result c.receive_files-outcome.new.captures _
     (rw (c.as_slice.ensures.value, back) at c.told_by.ensures)
-    (rw (c.as_mut_slice.ensures.value, c.window_of.ensures) at c.receive_files-outcome.ensures.refusal))
+    (rw (c.as_mut_slice.ensures.value, c.window_of.ensures, c.text_of.ensures) at c.receive_files-outcome.ensures.refusal))
 
 pub returns-clause-counted : goal.returns-clause-counted
 returns-clause-counted c =
@@ -30,7 +30,7 @@ returns-clause-counted c =
     c.receive_files-outcome.new.captures (sym c.as_mut_slice.ensures.len ∙ same)
     (c.receive_files-outcome.ensures.len ∙ same))
     (told_ok c.receive_files-outcome.result c.told_by.result _ _ c.told_by.ensures
-    (rw (c.as_mut_slice.ensures.value, c.window_of.ensures) at c.receive_files-outcome.ensures.counted))
+    (rw (c.as_mut_slice.ensures.value, c.window_of.ensures, c.text_of.ensures) at c.receive_files-outcome.ensures.counted))
 
 pub returns-clause-rescued : goal.returns-clause-rescued
 returns-clause-rescued c =
@@ -39,4 +39,4 @@ returns-clause-rescued c =
     c.receive_files-outcome.new.captures (sym c.as_mut_slice.ensures.len ∙ same)
     (c.receive_files-outcome.ensures.len ∙ same))
     (told_err c.receive_files-outcome.result c.told_by.result _ _ c.told_by.ensures
-    (rw (c.as_mut_slice.ensures.value, c.window_of.ensures) at c.receive_files-outcome.ensures.rescued))
+    (rw (c.as_mut_slice.ensures.value, c.window_of.ensures, c.text_of.ensures) at c.receive_files-outcome.ensures.rescued))

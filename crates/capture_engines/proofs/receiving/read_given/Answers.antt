@@ -1,0 +1,16 @@
+use Rattle.std.proofs.Common.{rules, ◌∙◌}
+use Rattle.run_outcome.specs.Text.{GivesText}
+use Rattle.st_format.proofs.Histories.{since_is}
+use Rattle.capture_engines.proofs.CaptureRuns.{read_all}
+use Rattle.capture_engines.proofs.receiving.read_given.Goals as goal
+
+pub returns-in-Some-clause-said : goal.returns-in-Some-clause-said
+returns-in-Some-clause-said g c =
+    let told = g.S.ByteSource in
+    let said = c.in-Some.text.items in
+    let old = told.gave c.args.source.now in
+    let new = told.gave c.read_text.new.source in
+    let over = told.ended c.read_text.new.source in
+    let gives : GivesText 16777216 old new over said = search rules in
+    λ octets read. read_all old new octets over read gives.ended
+    ∙ since_is old new said gives.given

@@ -1,0 +1,45 @@
+use Rattle.std.proofs.lemmas.Result.{err_from_is_err_and}
+use Rattle.std.specs.List.{zip}
+use Rattle.run_outcome.specs.Moments.{WasRead, pair}
+use Rattle.run_outcome.proofs.Printed.{on_ok}
+use Rattle.run_outcome.proofs.Refusals.{if_err_map, of_refusal_map}
+use Rattle.capture_engines.proofs.Accounting.{accounts_front}
+use Rattle.capture_engines.proofs.Said.{long_refused, said_receives, said_refused}
+use Rattle.capture_engines.proofs.receiving.receive.Goals as goal
+
+pub returns-in_err-said-clause-refusal : goal.returns-in_err-said-clause-refusal
+returns-in_err-said-clause-refusal g c =
+    let told = g.S.ByteSource in
+    let p = err_from_is_err_and c.from_residual-in_err-said.result
+    c.from_residual-in_err-said.ensures.1 in
+    rw (p.1, p.2) (of_refusal_map c.in_err-said.field-0.0
+    (long_refused c.args.wanted.window.now c.args.wanted.ssrc.now
+    c.in_ok-check_words.ensures.window.0 (pair c.args.sdp.now c.read_said.new.sdp)
+    (WasRead told.gave told.ended) (zip c.args.captures.now c.args.captures.now)
+    c.in_ok-check_words.ensures.window.1)
+    c.in_err-said.ensures.refusal)
+
+pub returns-clause-taken : goal.returns-clause-taken
+returns-clause-taken g c =
+    let told = g.S.ByteSource in
+    on_ok c.receive_files.result _ _
+    (said_receives c.args.wanted.window.now c.args.wanted.ssrc.now
+    (pair c.args.sdp.now c.read_said.new.sdp) _ (WasRead told.gave told.ended)
+    (zip c.args.captures.now c.receive_files.new.captures) c.args.wanted.tells_refusals _ _ _ _
+    c.in_ok-said.ensures.said)
+    (rw c.octets_of.ensures at c.receive_files.ensures.taken)
+
+pub returns-clause-refusal : goal.returns-clause-refusal
+returns-clause-refusal g c =
+    let told = g.S.ByteSource in
+    if_err_map c.receive_files.result
+    (λ f. of_refusal_map f
+    (said_refused c.args.wanted.window.now c.args.wanted.ssrc.now
+    (pair c.args.sdp.now c.read_said.new.sdp) _ (WasRead told.gave told.ended)
+    (zip c.args.captures.now c.receive_files.new.captures) c.in_ok-said.ensures.said))
+    (rw c.octets_of.ensures at c.receive_files.ensures.refusal)
+
+pub returns-clause-failures : goal.returns-clause-failures
+returns-clause-failures g c =
+    accounts_front c.receive_files.result _ _ _ _ c.in_ok-said.ensures.failures
+    c.receive_files.ensures.failures
