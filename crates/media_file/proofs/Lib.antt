@@ -39,3 +39,4 @@ pub mod GaveParts
 pub mod GaveLoops
 pub mod MovedGave
 pub mod GaveCaptures
+pub mod FrontBehind

@@ -1,11 +1,13 @@
 //! The fields of a file, what stands at its front, and that nothing is behind it.
-ghost use Rattle.std.specs.Prelude.{◌≡◌, ◌≤◌, ◌<◌, codes, length, take, IfErr, IfOk, OnOk};
+ghost use Rattle.std.specs.Prelude.{◌≡◌, ◌≤◌, ◌<◌, ◌++◌, ℕ, List, codes, length, take};
+ghost use Rattle.std.specs.Prelude.{IfErr, IfOk, OnOk};
 ghost use Rattle.media_file.specs.Faults.{CountsDevice, IsOfField, IsOfFront};
 ghost use Rattle.media_file.specs.Fields.{Fails, GaveFault, GaveOctets, GavePart, GaveValue};
 ghost use Rattle.media_file.specs.Fields.{GivesPart, Takes};
 ghost use Rattle.media_file.specs.Fields.{field_at, nothing_at};
 ghost use Rattle.media_file.specs.Fronts.{front_at, kind_at, kind_of, text_at, version_of};
 ghost use Rattle.st_format.specs.Device.{TellsOctets};
+ghost use Rattle.st_format.specs.History.{GrewFrom};
 
 use crate::fault::FileFault;
 use st_format::{ByteSource, read_whole};
@@ -161,6 +163,52 @@ pub fn read_front<S: ByteSource>(source: &mut S, text: &mut [u8]) -> Result<usiz
         Version::One => Ok(0),
         Version::Two => read_text(source, text),
     }
+}
+
+/// Reads what stands before the records of a capture of either version, of which the first four
+/// octets were read before: what is behind them. All else is as [`read_front`] has it.
+///
+/// # Errors
+///
+/// Those of [`read_front`], for the octets behind the four.
+pub fn read_front_behind<S: ByteSource>(
+    source: &mut S,
+    four: &[u8],
+    text: &mut [u8],
+) -> Result<usize, FileFault>
+    requires four { length four.now ≡ 4 }
+    requires room { 65535 ≤ length text.old }
+    ensures room { length text.new ≡ length text.old }
+    ensures within { IfOk result (λ n. n < 65536) }
+    ensures named { IfErr result IsOfFront }
+    // Whatever the source gave before those four.
+    ensures gave { IfOk result (λ n. (before : List ℕ) → S.gave source.old ≡ before ++ four.now
+        → GaveValue front_at before (S.gave source.new) (take n text.new)) }
+    ensures gave_wrong { IfErr result (λ f. (before : List ℕ)
+        → S.gave source.old ≡ before ++ four.now
+        → GaveFault front_at before (S.gave source.new) (S.ended source.new) f) }
+    ensures grown { GrewFrom (S.gave source.old) (S.gave source.new) }
+    ensures counted { CountsDevice (S.failures source.old) (S.failures source.new) result }
+    ensures names { S.names source.new ≡ S.names source.old }
+{
+    let mut rest = [0u8; 4];
+    if read_whole(source, &mut rest)? < 4 {
+        return Err(FileFault::Truncated);
+    }
+    match version_in(CAPTURE, &eight(four, &rest))? {
+        Version::One => Ok(0),
+        Version::Two => read_text(source, text),
+    }
+}
+
+/// Four octets, and four behind them.
+fn eight(four: &[u8], rest: &[u8; 4]) -> [u8; 8]
+    requires { length four.now ≡ 4 }
+    ensures { result ≡ four.now ++ rest.now }
+{
+    [
+        four[0], four[1], four[2], four[3], rest[0], rest[1], rest[2], rest[3],
+    ]
 }
 
 /// Reads a text behind its length.

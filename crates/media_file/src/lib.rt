@@ -21,7 +21,7 @@ mod writing;
 pub use block::{format_block, read_format};
 pub use capture::{Capture, read_capture};
 pub use fault::FileFault;
-pub use front::{Version, read_end, read_field, read_front, read_kind};
+pub use front::{Version, read_end, read_field, read_front, read_front_behind, read_kind};
 pub use migrating::migrate_capture;
 pub use packed_reading::read_packed_picture;
 pub use paths::Paths;

@@ -33,3 +33,4 @@ pub mod WholeRuns
 pub mod NextTakes
 pub mod WholeTakes
 pub mod Entering
+pub mod Growing

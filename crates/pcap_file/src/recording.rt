@@ -1,12 +1,14 @@
 //! Reading a recording of either layout, packet by packet. Its first octets say which it is; none
 //! is read twice.
-ghost use Rattle.std.specs.Prelude.{◌≡◌, ◌≤◌, ◌<◌, ◌+◌, ◌-◌, [], length, IfErr, IfOk, IfSome, OnOk};
+ghost use Rattle.std.specs.Prelude.{◌≡◌, ◌≤◌, ◌<◌, ◌+◌, ◌-◌, ◌++◌, ℕ, List, [], length};
+ghost use Rattle.std.specs.Prelude.{IfErr, IfOk, IfSome, OnOk};
 ghost use Rattle.pcap_file.specs.Fields.{CountsDevice, GaveFault, GaveValue};
 ghost use Rattle.pcap_file.specs.NgSteps.{IsWithin, known};
 ghost use Rattle.pcap_file.specs.Openings.{behind_at, blocks_laid, laid_behind, pcap_laid};
 ghost use Rattle.pcap_file.specs.Pcap.{foreign_of};
 ghost use Rattle.pcap_file.specs.Runs.{HasFailed, HasRead, ReadsFault, ReadsNext, ReadsStep};
 ghost use Rattle.pcap_file.specs.Runs.{in_blocks, in_pcap, layout_seen, most_blocks};
+ghost use Rattle.st_format.specs.History.{GrewFrom};
 
 use crate::blocks::SECTION;
 use crate::blocks_reading::read_section_block;
@@ -112,7 +114,7 @@ fn foreign(octets: &[u8]) -> RecordingFault
 }
 
 /// Reads what stands before all packets, behind its first four octets, which say the layout.
-fn open_behind<S: ByteSource>(
+fn lay_behind<S: ByteSource>(
     source: &mut S,
     four: &[u8],
     buf: &mut [u8],
@@ -135,6 +137,32 @@ fn open_behind<S: ByteSource>(
         Some(_) => open_pcap(source, four),
         None => Err(foreign(four)),
     }
+}
+
+/// Begins to read a recording of which the first four octets were read before: reads what stands
+/// before all packets behind them. `buf` is where octets go that are passed over.
+///
+/// # Errors
+///
+/// Those of [`open_recording`], for the octets behind the four.
+pub fn open_behind<S: ByteSource>(
+    source: &mut S,
+    four: &[u8],
+    buf: &mut [u8],
+) -> Result<Layout, RecordingFault>
+    requires room { 0 < length buf.old }
+    requires four { length four.now ≡ 4 }
+    ensures room { length buf.new ≡ length buf.old }
+    // Whatever the source gave before those four.
+    ensures read { IfOk result (λ l. (before : List ℕ) → S.gave source.old ≡ before ++ four.now
+        → HasRead (length buf.old) before (S.gave source.new) (layout_seen l) []) }
+    ensures fault { IfErr result (λ f. (before : List ℕ) → S.gave source.old ≡ before ++ four.now
+        → HasFailed (length buf.old) before (S.gave source.new) (S.ended source.new) f []) }
+    ensures grown { GrewFrom (S.gave source.old) (S.gave source.new) }
+    ensures counted { CountsDevice (S.failures source.old) (S.failures source.new) result }
+    ensures names { S.names source.new ≡ S.names source.old }
+{
+    lay_behind(source, four, buf)
 }
 
 /// Begins to read a recording: reads what stands before all packets. `buf` is where octets go that
@@ -161,7 +189,7 @@ pub fn open_recording<S: ByteSource>(
 {
     let mut four = [0u8; 4];
     read_field(source, &mut four)?;
-    open_behind(source, &four, buf)
+    lay_behind(source, &four, buf)
 }
 
 /// Reads the next record of the classic layout.
@@ -180,6 +208,7 @@ fn pcap_step<S: ByteSource>(
     ensures fewer { IfOk result (λ _. left.new < left.old) }
     ensures fault { IfErr result (λ f. ReadsFault (length buf.old) (S.gave source.old)
         (S.gave source.new) (S.ended source.new) (in_pcap file.now left.old) f) }
+    ensures grown { GrewFrom (S.gave source.old) (S.gave source.new) }
     ensures counted { CountsDevice (S.failures source.old) (S.failures source.new) result }
     ensures names { S.names source.new ≡ S.names source.old }
 {
@@ -210,6 +239,7 @@ fn block_step<S: ByteSource>(
     ensures fewer { IfOk result (λ _. left.new < left.old) }
     ensures fault { IfErr result (λ f. ReadsFault (length buf.old) (S.gave source.old)
         (S.gave source.new) (S.ended source.new) (in_blocks (known section.old) left.old) f) }
+    ensures grown { GrewFrom (S.gave source.old) (S.gave source.new) }
     ensures counted { CountsDevice (S.failures source.old) (S.failures source.new) result }
     ensures names { S.names source.new ≡ S.names source.old }
 {
@@ -236,6 +266,7 @@ fn step<S: ByteSource>(
         (λ _. (layout_seen layout.new).left < (layout_seen layout.old).left) }
     ensures fault { IfErr result (λ f. ReadsFault (length buf.old) (S.gave source.old)
         (S.gave source.new) (S.ended source.new) (layout_seen layout.old) f) }
+    ensures grown { GrewFrom (S.gave source.old) (S.gave source.new) }
     ensures counted { CountsDevice (S.failures source.old) (S.failures source.new) result }
     ensures names { S.names source.new ≡ S.names source.old }
 {
@@ -258,6 +289,7 @@ fn step<S: ByteSource>(
 /// `BadBlock`, `BadInterface`, `TooManyInterfaces`, `BadTime` by what a block says; `PacketTooLong`
 /// where `buf` has no room for a packet of the classic layout, or for a whole block;
 /// `TooManyBlocks` behind 2^64 - 1 records or blocks.
+#[tactic(auto, using(crate::proofs::Growing::grew_on, st_format::proofs::Histories::grew_none))]
 pub fn next_packet<S: ByteSource>(
     source: &mut S,
     layout: &mut Layout,
@@ -274,6 +306,7 @@ pub fn next_packet<S: ByteSource>(
         (λ _. (layout_seen layout.new).left < (layout_seen layout.old).left)) }
     ensures fault { IfErr result (λ f. ReadsFault (length buf.old) (S.gave source.old)
         (S.gave source.new) (S.ended source.new) (layout_seen layout.old) f) }
+    ensures grown { GrewFrom (S.gave source.old) (S.gave source.new) }
     ensures counted { CountsDevice (S.failures source.old) (S.failures source.new) result }
     ensures names { S.names source.new ≡ S.names source.old }
 {

@@ -1,4 +1,5 @@
 use Rattle.std.proofs.Common.{◌≡◌, ◌≤◌, length}
+use Rattle.st_format.specs.History.{GrewFrom}
 use Rattle.pcap_file.specs.Runs.{ReadsOn, layout_seen}
 use Rattle.pcap_file.proofs.recording.next_packet.Given as goal
 
@@ -13,3 +14,4 @@ invariant-loop-head g l =
     × ((layout_seen l.layout).left ≤ (layout_seen l.initial.layout).left)
     × (g.S.ByteSource.failures l.source ≡ g.S.ByteSource.failures l.initial.source)
     × (g.S.ByteSource.names l.source ≡ g.S.ByteSource.names l.initial.source)
+    × GrewFrom (g.S.ByteSource.gave l.initial.source) (g.S.ByteSource.gave l.source)

@@ -20,16 +20,16 @@ returns-in_err-read_field-clause-fault g c =
 pub returns-clause-read : goal.returns-clause-read
 returns-clause-read g c =
     let four = c.read_field.new.buf in
-    has_opened_if (length c.args.buf.now) _ _ c.open_behind.result c.open_behind.ensures.left
+    has_opened_if (length c.args.buf.now) _ _ c.lay_behind.result c.lay_behind.ensures.left
     (gave_tail (field_at 4) (laid_behind four) opened_at four (λ l. (layout_seen l).laid)
-    (λ l. (layout_seen l).laid) _ _ _ c.open_behind.result
+    (λ l. (layout_seen l).laid) _ _ _ c.lay_behind.result
     (λ l was mid left p q. opened_gives four (layout_seen l).laid was mid left p q)
-    c.in_ok-read_field.ensures.gave c.open_behind.ensures.gave)
+    c.in_ok-read_field.ensures.gave c.lay_behind.ensures.gave)
 
 pub returns-clause-fault : goal.returns-clause-fault
 returns-clause-fault g c =
     let four = c.read_field.new.buf in
-    has_not_opened_if (length c.args.buf.now) _ _ _ c.open_behind.result
-    (fault_tail (field_at 4) (laid_behind four) opened_at four _ _ _ _ c.open_behind.result
+    has_not_opened_if (length c.args.buf.now) _ _ _ c.lay_behind.result
+    (fault_tail (field_at 4) (laid_behind four) opened_at four _ _ _ _ c.lay_behind.result
     (λ f was mid p q. opened_fails four f was mid p q) c.in_ok-read_field.ensures.gave
-    c.open_behind.ensures.gave_wrong)
+    c.lay_behind.ensures.gave_wrong)
