@@ -1,6 +1,7 @@
 -- Where a reader of a file stands, and what is known of the file then.
 use Rattle.std.proofs.Common.{◌≡◌, ℕ, List, [], ◌∷◌, ◌++◌, Option, None, Some}
-use Rattle.std.proofs.Common.{refl, sym, ap, subst, ◌∙◌}
+use Rattle.std.proofs.Common.{refl, sym, ap, subst, ◌∙◌, false, true}
+use Rattle.std.specs.Prelude.{IsSome}
 use Rattle.flow.specs.declared.flows.Flows.{Flows}
 use Rattle.media_file.specs.Records.{Entry}
 use Rattle.st_format.specs.History.{GrewFrom, IsRead, since}
@@ -57,6 +58,24 @@ way_has Capture flows standing before now ended text records s reads =
 way_has (Recording t) flows standing before now ended text records s reads =
     subst (λ (f : Option Flows). HaveFileRecords f (since before now) records t.left_out) (sym s.0)
     (recording_has t.flows standing t.layout before now ended records t.left_out s.2 reads)
+
+-- of a capture wherever its reader stands
+pub way_given : (way : Way) (flows : Option Flows) (standing : Standing) (before now : List ℕ)
+    (ended : Type 0) (text : List ℕ) (records : List Entry)
+    → WayStands way flows standing before now ended text records → is_recording_way way ≡ false
+    → HaveFileRecords flows (since before now) records (left_out_by way)
+way_given Capture flows standing before now ended text records s kind =
+    capture_has standing before now ended text records s flows
+way_given (Recording t) flows standing before now ended text records s kind = absurd cc
+
+-- a recording is read by flows
+pub way_by_flows : (way : Way) (flows : Option Flows) (standing : Standing)
+    (before now : List ℕ) (ended : Type 0) (text : List ℕ) (records : List Entry)
+    → WayStands way flows standing before now ended text records → is_recording_way way ≡ true
+    → IsSome flows
+way_by_flows Capture flows standing before now ended text records s kind = absurd cc
+way_by_flows (Recording t) flows standing before now ended text records s kind =
+    subst (λ (f : Option Flows). IsSome f) (sym s.0) tt
 
 pub way_kind : (way : Way) (flows : Option Flows) (standing : Standing) (before now : List ℕ)
     (ended : Type 0) (text : List ℕ) (records : List Entry) (octets : List ℕ)

@@ -1,11 +1,12 @@
 -- Why a file of datagrams was not opened.
-use Rattle.std.specs.Prelude.{◌≡◌, ℕ, List, [], ◌++◌, true, length, Option, None, Some, IsSome}
+use Rattle.std.specs.Prelude.{◌≡◌, ℕ, ⊤, List, [], ◌++◌, true, length, Option, None, Some, IsSome}
 use Rattle.flow.specs.declared.flows.Flows.{Flows}
 use Rattle.recording_reader.specs.Files.{CountsReadingFault, IfFile, IsFrontFault}
 use Rattle.recording_reader.specs.Kinds.{is_recording}
 use Rattle.recording_reader.specs.declared.fault.FileOpeningFault.{FileOpeningFault}
 use Rattle.recording_reader.specs.declared.fault.FileOpeningFault.TheVariants.{NoFlows, NoMemory}
 use Rattle.recording_reader.specs.declared.fault.FileOpeningFault.TheVariants.{Reading}
+use Rattle.recording_reader.specs.declared.fault.ReadingFault.TheVariants.{Capture, Recording}
 use Rattle.st_format.specs.History.{IsRead}
 
 -- a source gave four octets, and no other
@@ -32,3 +33,10 @@ abbrev pub CountsOpening : FileOpeningFault → ℕ → ℕ → Type 0
 CountsOpening NoFlows old new = new ≡ old
 CountsOpening NoMemory old new = new ≡ old
 CountsOpening (Reading f) old new = CountsReadingFault f old new
+
+-- a recording's fault comes only where there are flows by which it is read
+abbrev pub IsByFlows : Option Flows → FileOpeningFault → Type 0
+IsByFlows flows NoFlows = ⊤
+IsByFlows flows NoMemory = ⊤
+IsByFlows flows (Reading (Capture f)) = ⊤
+IsByFlows flows (Reading (Recording f)) = IsSome flows

@@ -4,7 +4,7 @@ ghost use Rattle.std.specs.Prelude.{true, false, length, take, vec_len, IfErr, I
 ghost use Rattle.flow.specs.declared.flows.Flows.{Flows as Ways};
 ghost use Rattle.left_out_counts.specs.LeftOut.{left_out_of};
 ghost use Rattle.recording_reader.specs.Kinds.{is_magic};
-ghost use Rattle.recording_reader.specs.Opening.{CountsOpening, StopsOpening};
+ghost use Rattle.recording_reader.specs.Opening.{CountsOpening, IsByFlows, StopsOpening};
 ghost use Rattle.recording_reader.specs.Ways.{Begins, HasRoom, left_out_by};
 
 use crate::fault::{FileOpeningFault, ReadingFault};
@@ -46,6 +46,7 @@ pub(crate) fn begin<A: Allocator, S: ByteSource>(
     ensures left_out { IfOk result (λ b. left_out_by b.way ≡ left_out_of []) }
     ensures fault { IfErr result (λ f. StopsOpening flows (S.gave source.old) (S.gave source.new)
         (S.ended source.new) f) }
+    ensures by_flows { IfErr result (λ f. IsByFlows flows f) }
     ensures counted { MatchResult result (λ _. S.failures source.new ≡ S.failures source.old)
         (λ f. CountsOpening f (S.failures source.old) (S.failures source.new)) }
     ensures names { S.names source.new ≡ S.names source.old }
@@ -85,6 +86,7 @@ fn begin_capture<A: Allocator, S: ByteSource>(
     ensures fault { IfErr result (λ f. (before : List ℕ) (flows : Option Ways)
         → S.gave source.old ≡ before ++ four.now
         → StopsOpening flows before (S.gave source.new) (S.ended source.new) f) }
+    ensures by_flows { IfErr result (λ f. (flows : Option Ways) → IsByFlows flows f) }
     ensures counted { MatchResult result (λ _. S.failures source.new ≡ S.failures source.old)
         (λ f. CountsOpening f (S.failures source.old) (S.failures source.new)) }
     ensures names { S.names source.new ≡ S.names source.old }
@@ -115,6 +117,7 @@ fn begin_recording<A: Allocator, S: ByteSource>(
     ensures left_out { IfOk result (λ b. left_out_by b.way ≡ left_out_of []) }
     ensures fault { IfErr result (λ f. (before : List ℕ) → S.gave source.old ≡ before ++ four.now
         → StopsOpening (Some flows) before (S.gave source.new) (S.ended source.new) f) }
+    ensures by_flows { IfErr result (λ f. IsByFlows (Some flows) f) }
     ensures counted { MatchResult result (λ _. S.failures source.new ≡ S.failures source.old)
         (λ f. CountsOpening f (S.failures source.old) (S.failures source.new)) }
     ensures names { S.names source.new ≡ S.names source.old }

@@ -1,6 +1,6 @@
 //! A file of datagrams as a source of datagrams.
-ghost use Rattle.std.specs.Prelude.{◌≡◌, ◌≤◌, ◌<◌, ◌↔◌, ◌++◌, None, Some, Ok, Err, false};
-ghost use Rattle.std.specs.Prelude.{IfErr, IfOk, IfSome, OnErr, OnOk, MatchResult, length, take};
+ghost use Rattle.std.specs.Prelude.{◌≡◌, ◌≤◌, ◌<◌, ◌↔◌, ◌++◌, None, Some, Ok, Err, true, false};
+ghost use Rattle.std.specs.Prelude.{IfErr, IfOk, IfSome, IsSome, OnErr, OnOk, MatchResult, length, take};
 ghost use Rattle.std.specs.Option.{option_map};
 ghost use Rattle.recording_reader.specs.FileReader.{CountsDeviceAt, Finds, FindsFault};
 ghost use Rattle.recording_reader.specs.FileReader.{HasGivenFile, IsNewFileReader, IsSameFile};
@@ -8,7 +8,7 @@ ghost use Rattle.recording_reader.specs.FileReader.{TellsNext, TellsTurn, fault_
 ghost use Rattle.recording_reader.specs.FileReader.{octets_at_hand, record_seen};
 ghost use Rattle.recording_reader.specs.Files.{CountsReading, HaveFileRecords, datagrams_of};
 ghost use Rattle.recording_reader.specs.Files.{has_path, source_fault};
-ghost use Rattle.recording_reader.specs.Opening.{CountsOpening, StopsOpening};
+ghost use Rattle.recording_reader.specs.Opening.{CountsOpening, IsByFlows, StopsOpening};
 ghost use Rattle.recording_reader.specs.declared.fault.ReadingFault.{ReadingFault as Wrong};
 ghost use Rattle.recording_reader.specs.declared.way.Standing.TheVariants.{Reads, Ended, Failed};
 ghost use Rattle.st_format.specs.Device.{CountsFaults};
@@ -133,6 +133,7 @@ impl<A: Allocator, S: ByteSource> DatagramReader<A, S> {
         }) }
         ensures fault { IfErr result
             (λ e. StopsOpening flows (S.gave source) (S.gave e.1) (S.ended e.1) e.0) }
+        ensures by_flows { IfErr result (λ e. IsByFlows flows e.0) }
         ensures counted { MatchResult result (λ r. S.failures r.source ≡ S.failures source)
             (λ e. CountsOpening e.0 (S.failures source) (S.failures e.1)) }
         ensures names { MatchResult result (λ r. S.names r.source ≡ S.names source)
@@ -309,6 +310,12 @@ impl<A: Allocator, S: ByteSource> DatagramReader<A, S> {
         ensures between { self.now.standing ≡ Reads → HaveFileRecords self.now.flows
             (since self.now.before.gave (S.gave self.now.source)) self.now.records
             self.now.left_out }
+        // So have those of a capture, wherever the reader stands.
+        ensures given { self.now.is_recording ≡ false → HaveFileRecords self.now.flows
+            (since self.now.before.gave (S.gave self.now.source)) self.now.records
+            self.now.left_out }
+        // A recording is read by flows.
+        ensures by_flows { self.now.is_recording ≡ true → IsSome self.now.flows }
         ensures grown { GrewFrom self.now.before.gave (S.gave self.now.source) }
     {
         let _failures = &self.failures;

@@ -1,9 +1,11 @@
-use Rattle.std.proofs.Common.{◌≡◌, subst}
+use Rattle.std.proofs.Common.{◌≡◌, false, subst, true}
+use Rattle.std.specs.Prelude.{IsSome}
 use Rattle.st_format.specs.History.{GrewFrom, since}
 use Rattle.recording_reader.specs.FileReader.{FileReader, HasGivenFile}
 use Rattle.recording_reader.specs.Files.{HaveFileRecords}
 use Rattle.recording_reader.specs.declared.way.Standing.TheVariants.{Reads}
-use Rattle.recording_reader.proofs.Standings.{way_grew, way_has, way_kind, way_known, way_said}
+use Rattle.recording_reader.proofs.Standings.{way_by_flows, way_given, way_grew, way_has, way_kind}
+use Rattle.recording_reader.proofs.Standings.{way_known, way_said}
 use Rattle.recording_reader.proofs.reader.DatagramReader.history.Goals as goal
 
 pub returns-clause-known : goal.returns-clause-known
@@ -32,6 +34,23 @@ returns-clause-between g c =
     (since v.before.gave (told.gave v.source)) v.records v.left_out) c.self.view_is
     (λ reads. way_has was.way was.flows was.standing (told.gave was.opened.value)
     (told.gave was.source) (told.ended was.source) _ _ c.self.invariant.stands reads)
+
+pub returns-clause-given : goal.returns-clause-given
+returns-clause-given g c =
+    let told = g.S.ByteSource in
+    let was = c.self.inside in
+    subst (λ (v : FileReader _). v.is_recording ≡ false → HaveFileRecords v.flows
+    (since v.before.gave (told.gave v.source)) v.records v.left_out) c.self.view_is
+    (λ kind. way_given was.way was.flows was.standing (told.gave was.opened.value)
+    (told.gave was.source) (told.ended was.source) _ _ c.self.invariant.stands kind)
+
+pub returns-clause-by_flows : goal.returns-clause-by_flows
+returns-clause-by_flows g c =
+    let told = g.S.ByteSource in
+    let was = c.self.inside in
+    subst (λ (v : FileReader _). v.is_recording ≡ true → IsSome v.flows) c.self.view_is
+    (λ kind. way_by_flows was.way was.flows was.standing (told.gave was.opened.value)
+    (told.gave was.source) (told.ended was.source) _ _ c.self.invariant.stands kind)
 
 pub returns-clause-grown : goal.returns-clause-grown
 returns-clause-grown g c =
