@@ -8,6 +8,8 @@ mod blocks;
 #[cfg(test)]
 mod checks;
 #[cfg(test)]
+mod either;
+#[cfg(test)]
 mod engines;
 #[cfg(test)]
 mod export;
