@@ -4,8 +4,8 @@ use crate::packing::{sample, turn_bit};
 use pgroup_pack::{blank, differing};
 use st_format::Format;
 use std::test::Fail;
-use test_kit::generator::Generator;
 use test_kit::small_format::KINDS;
+use test_programs::Generator;
 
 const MOST_OCTETS: usize = 15;
 

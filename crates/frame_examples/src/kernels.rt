@@ -1,6 +1,6 @@
 //! The kernels over lanes against their plain definitions, at every length from 0 to 130.
 use lane_kernels::{count_marks, differs, or_marks, select};
-use test_kit::generator::Generator;
+use test_programs::Generator;
 
 /// More than eight times 16 lanes, and four times 32.
 const MOST: usize = 130;

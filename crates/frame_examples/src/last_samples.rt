@@ -9,8 +9,8 @@ use std::alloc::{AllocError, Global};
 use std::process::Abort;
 use std::test::Fail;
 use test_kit::datagrams::{begin, opened, put_head};
-use test_kit::generator::Generator;
 use test_kit::small_format::KINDS;
+use test_programs::Generator;
 
 /// The widths go up to 130.
 const MOST_WIDTH: u32 = 130;

@@ -10,8 +10,8 @@ use st_format::{Cell, Depth, Format, Path, Sampling};
 use std::alloc::{AllocError, Global};
 use std::test::Fail;
 use test_kit::datagrams::{begin, opened, put_head};
-use test_kit::generator::Generator;
 use test_kit::small_format::KINDS;
+use test_programs::Generator;
 
 /// What one segment offers: its place, the number of its first sample, its values, and the octets
 /// that spell them.

@@ -6,7 +6,7 @@ ghost use Rattle.std.specs.Prelude.{◌≤◌, ◌<◌, ◌^◌, EachIndex, IsTr
 use crate::checks::met;
 use std::process::Abort;
 use test_kit::formulas::{cb, clipped, cr, gained, keyed, luma, mixed, scale};
-use test_kit::generator::Generator;
+use test_programs::Generator;
 
 /// How many corners a depth has.
 const CORNERS: usize = 14;

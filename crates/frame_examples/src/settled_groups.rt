@@ -10,8 +10,8 @@ use frame_assembly::{Base, Frame};
 use st_format::{Format, Picture};
 use std::alloc::{AllocError, Global};
 use std::test::Fail;
-use test_kit::generator::Generator;
 use test_kit::small_format::KINDS;
+use test_programs::Generator;
 
 /// The most samples that a frame has: two rows of 108 columns.
 const MOST: usize = 648;

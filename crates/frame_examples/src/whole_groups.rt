@@ -9,8 +9,8 @@ use frame_assembly::Frame;
 use st_format::Format;
 use std::alloc::{AllocError, Global};
 use std::test::Fail;
-use test_kit::generator::Generator;
 use test_kit::small_format::KINDS;
+use test_programs::Generator;
 
 /// How many groups the frames have at most: two rows of 24 columns.
 const MOST_GROUPS: usize = 48;

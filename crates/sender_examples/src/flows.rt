@@ -7,7 +7,7 @@ use std::alloc::{AllocError, Global};
 use std::test::Fail;
 
 /// SDP texts, and the flows of each or its fault.
-const TEXTS: [(&str, &str); 12] = [
+const TEXTS: [(&str, &str); 19] = [
     (
         "m=video 5004 RTP/AVP 96\nc=IN IP4 239.1.1.1/64\nm=video 5006 RTP/AVP 96\n\
          c=IN IP4 239.1.1.2/64/2\nc=IN IP4 239.1.1.3\n",
@@ -50,10 +50,55 @@ const TEXTS: [(&str, &str); 12] = [
         "c=IN IP6 fe80::1%eth0\nm=video 1 RTP/AVP 96\n",
         "BadConnection",
     ),
+    // Two legs to one group and port, told by their sources (RFC 4570, 3.2.1).
+    (
+        "m=video 5004 RTP/AVP 96\r\nc=IN IP4 239.1.1.1/64\r\n\
+         a=source-filter: incl IN IP4 239.1.1.1 192.0.2.1\r\nm=video 5004 RTP/AVP 96\r\n\
+         c=IN IP4 239.1.1.1/64\r\na=source-filter: incl IN IP4 * 192.0.2.2 \r\n",
+        "192.0.2.1>239.1.1.1:5004 192.0.2.2>239.1.1.1:5004",
+    ),
+    // The section's line counts before the session's, which counts where a section has none.
+    (
+        "a=source-filter: incl IN IP6 * 2001:DB8::1\nc=IN IP6 ff3e::1\nm=video 1 RTP/AVP 96\n\
+         m=video 2 RTP/AVP 96\na=source-filter: incl IN IP6 FF3E:0::1 2001:db8::2\n",
+        "[2001:db8::1]>[ff3e::1]:1 [2001:db8::2]>[ff3e::1]:2",
+    ),
+    // A line of another destination or of another type counts for none.
+    (
+        "a=source-filter: incl IN IP4 239.1.1.2 192.0.2.2\nc=IN IP4 239.1.1.1\n\
+         a=source-filter: incl IN IP6 * 2001:db8::1\na=source-filter: incl IN IP4 * 192.0.2.1\n\
+         m=video 1 RTP/AVP 96\n",
+        "192.0.2.1>239.1.1.1:1",
+    ),
+    // Several sources, and a host's name, tell none, nor does the session's line then.
+    (
+        "a=source-filter: incl IN IP4 * 192.0.2.1\nc=IN IP4 239.1.1.1\nm=video 1 RTP/AVP 96\n\
+         a=source-filter: incl IN IP4 239.1.1.1 192.0.2.2 192.0.2.3\nm=video 2 RTP/AVP 96\n\
+         a=source-filter: incl IN IP4 239.1.1.1 studio.example\n",
+        "239.1.1.1:1 239.1.1.1:2",
+    ),
+    // What excludes sources, names its destination by a host or lists none is passed over.
+    (
+        "c=IN IP4 239.1.1.1\nm=video 1 RTP/AVP 96\na=source-filter: excl IN IP4 * 192.0.2.1\n\
+         a=source-filter: incl IN * studio.example 192.0.2.1\n\
+         a=source-filter: incl IN IP4 239.1.1.1\na=source-filter:incl IN IP4 * 192.0.2.1\n",
+        "239.1.1.1:1",
+    ),
+    // Without an address there is no source.
+    (
+        "a=source-filter: incl IN IP4 * 192.0.2.1\nm=video 1 RTP/AVP 96\n",
+        "1",
+    ),
+    // A line of another kind of section counts for none.
+    (
+        "c=IN IP4 239.1.1.1\nm=audio 1 RTP/AVP 97\na=source-filter: incl IN IP4 * 192.0.2.1\n\
+         m=video 1 RTP/AVP 96\nm=audio 1 RTP/AVP 97\na=source-filter: incl IN IP4 * 192.0.2.1\n",
+        "239.1.1.1:1",
+    ),
 ];
 
 /// Texts of flows, and how each is displayed again, or `-` where it is none.
-const FLOWS: [(&str, &str); 14] = [
+const FLOWS: [(&str, &str); 25] = [
     ("5004", "5004"),
     ("0065535", "65535"),
     ("239.1.1.1:5004", "239.1.1.1:5004"),
@@ -68,6 +113,17 @@ const FLOWS: [(&str, &str); 14] = [
     ("[239.1.1.1]:5004", "-"),
     ("[fe80::1%0]:5004", "-"),
     ("studio:5004", "-"),
+    ("192.0.2.1>239.1.1.1:5004", "192.0.2.1>239.1.1.1:5004"),
+    ("[FE80:0::1]>[FF3E::1]:05004", "[fe80::1]>[ff3e::1]:5004"),
+    ("192.0.2.1>5004", "192.0.2.1>5004"),
+    ("[fe80::1]>239.1.1.1:5004", "[fe80::1]>239.1.1.1:5004"),
+    (">239.1.1.1:5004", "-"),
+    ("192.0.2.1>", "-"),
+    ("192.0.2.1>239.1.1.1", "-"),
+    ("192.0.2.1:5004>239.1.1.1:5004", "-"),
+    ("fe80::1>[ff3e::1]:5004", "-"),
+    ("192.0.2.1>192.0.2.2>239.1.1.1:5004", "-"),
+    ("192.0.2.1 > 239.1.1.1:5004", "-"),
 ];
 
 /// The flows of an SDP text, or its fault's name.
@@ -121,11 +177,16 @@ fn flows_of_texts(rt: HostRuntime) -> Result<(), Fail> {
     Ok(())
 }
 
-/// Texts of two flows, the address and the port that a datagram was sent to, and its path.
-const SENT: [(&str, &str, &[u8], u16, Option<Path>); 5] = [
+/// The address of which datagrams come that another isn't said of.
+const CAMERA: &[u8] = &[192, 0, 2, 1];
+
+/// Texts of two flows, the address that a datagram came from, the address and the port that it was
+/// sent to, and its path.
+const SENT: [(&str, &str, &[u8], &[u8], u16, Option<Path>); 11] = [
     (
         "5004",
         "239.1.1.2:5006",
+        CAMERA,
         &[239, 1, 1, 1],
         5004,
         Some(Path::A),
@@ -133,14 +194,23 @@ const SENT: [(&str, &str, &[u8], u16, Option<Path>); 5] = [
     (
         "5004",
         "239.1.1.2:5006",
+        CAMERA,
         &[239, 1, 1, 2],
         5006,
         Some(Path::B),
     ),
-    ("5004", "239.1.1.2:5006", &[239, 1, 1, 1], 5006, None),
+    (
+        "5004",
+        "239.1.1.2:5006",
+        CAMERA,
+        &[239, 1, 1, 1],
+        5006,
+        None,
+    ),
     (
         "[ff3e::1]:5004",
         "5004",
+        CAMERA,
         &[0xff, 0x3e, 0, 0, 0, 0, 0, 0, 0, 0, 0, 0, 0, 0, 0, 1],
         5004,
         Some(Path::A),
@@ -148,18 +218,70 @@ const SENT: [(&str, &str, &[u8], u16, Option<Path>); 5] = [
     (
         "[ff3e::1]:5004",
         "5004",
+        CAMERA,
         &[0xff, 0x3e, 0, 0, 0, 0, 0, 0, 0, 0, 0, 0, 0, 0, 0],
         5004,
         Some(Path::B),
     ),
+    (
+        "192.0.2.1>239.1.1.1:5004",
+        "192.0.2.2>239.1.1.1:5004",
+        CAMERA,
+        &[239, 1, 1, 1],
+        5004,
+        Some(Path::A),
+    ),
+    (
+        "192.0.2.1>239.1.1.1:5004",
+        "192.0.2.2>239.1.1.1:5004",
+        &[192, 0, 2, 2],
+        &[239, 1, 1, 1],
+        5004,
+        Some(Path::B),
+    ),
+    (
+        "192.0.2.1>239.1.1.1:5004",
+        "192.0.2.2>239.1.1.1:5004",
+        &[192, 0, 2, 3],
+        &[239, 1, 1, 1],
+        5004,
+        None,
+    ),
+    (
+        "192.0.2.1>239.1.1.1:5004",
+        "239.1.1.1:5004",
+        &[192, 0, 2, 3],
+        &[239, 1, 1, 1],
+        5004,
+        Some(Path::B),
+    ),
+    (
+        "239.1.1.1:5004",
+        "192.0.2.1>239.1.1.1:5004",
+        CAMERA,
+        &[239, 1, 1, 1],
+        5004,
+        Some(Path::A),
+    ),
+    // Source and destination the other way about.
+    (
+        "239.1.1.1>192.0.2.1:5004",
+        "5006",
+        CAMERA,
+        &[239, 1, 1, 1],
+        5004,
+        None,
+    ),
 ];
 
 /// Texts of two flows, and whether both are one place.
-const PLACES: [(&str, &str, bool); 4] = [
+const PLACES: [(&str, &str, bool); 6] = [
     ("[ff3e::1]:5004", "[FF3E:0::1]:5004", true),
     ("[ff3e::1]:5004", "5004", false),
     ("5004", "239.1.1.2:5006", false),
     ("x", "x", false),
+    ("192.0.2.1>5004", "192.0.2.1>5004", true),
+    ("192.0.2.1>5004", "192.0.2.2>5004", false),
 ];
 
 /// The flows of two texts.
@@ -173,8 +295,8 @@ fn flows_of(a: &str, b: &str) -> Flows {
 /// The place of the first datagram that comes by another path.
 fn comes_otherwise() -> Option<u64> {
     let mut place = 0u64;
-    for (a, b, address, port, path) in &SENT {
-        if flows_of(a, b).path_of(address, *port) != *path {
+    for (a, b, source, address, port, path) in &SENT {
+        if flows_of(a, b).path_of(source, address, *port) != *path {
             return Some(place);
         }
         place = place.wrapping_add(1);

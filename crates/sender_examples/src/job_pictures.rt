@@ -8,9 +8,9 @@ use st_format::{Depth, Format, Picture, Sampling};
 use std::alloc::Global;
 use std::test::Fail;
 use test_kit::formulas::{cb, clipped, cr, gained, keyed, luma, mixed, scale};
-use test_kit::generator::Generator;
 use test_kit::picture_values::{set, value};
 use test_kit::small_format::KINDS;
+use test_programs::Generator;
 
 /// Columns and rows of the pictures: no whole number of lanes.
 const WIDTH: u32 = 20;

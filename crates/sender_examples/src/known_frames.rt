@@ -5,7 +5,7 @@ ghost use Rattle.st_format.specs.Position.{group_count};
 use frame_assembly::Frame;
 use st_format::Format;
 use std::alloc::{AllocError, Global};
-use test_kit::generator::Generator;
+use test_programs::Generator;
 
 /// Octets without order, of which groups are given.
 const OCTETS: usize = 4096;

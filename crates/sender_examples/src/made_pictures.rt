@@ -14,9 +14,9 @@ use st_format::memory::MemoryDatagrams;
 use st_format::{Depth, Format, Picture, Sampling};
 use std::alloc::{AllocError, Allocator, Global};
 use std::test::Fail;
-use test_kit::generator::Generator;
 use test_kit::sending::{STAMP, sink_of};
 use test_kit::wanting::{Wanting, growths};
+use test_programs::Generator;
 
 /// Columns, rows and most octets of a packet.
 type Case = (u32, u32, u32);

@@ -6,7 +6,6 @@
 pub mod camera;
 pub mod datagrams;
 pub mod formulas;
-pub mod generator;
 pub mod picture_values;
 pub mod sending;
 pub mod small_format;

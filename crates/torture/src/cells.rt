@@ -1,9 +1,9 @@
 //! A frame as a list of cells, one for each sample in the order in which they are sent: no packed
 //! rows and no mark words.
-use crate::fault::Fault;
 use path_merge::Receiver;
 use st_format::{Cell, Format, Sampling};
 use std::alloc::Global;
+use test_programs::Fault;
 
 /// A cell of which nothing came.
 pub const MISSING: u32 = 0x10000;

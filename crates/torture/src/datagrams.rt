@@ -1,6 +1,5 @@
 //! Hostile datagrams given to a receiver, and what it is to answer and to hold by a second reading.
-use crate::fault::Fault;
-use crate::generator::Generator;
+use crate::fields::Fields;
 use crate::hostile;
 use crate::hostile_lines::any_format;
 use crate::plain::Plain;
@@ -9,6 +8,7 @@ use crate::text::Text;
 use path_merge::{Receiver, Refusal, Taken};
 use st_format::Path;
 use std::alloc::Global;
+use test_programs::{Fault, Generator};
 
 /// How many datagrams a receiver is given.
 pub const ROUND: u64 = 64;

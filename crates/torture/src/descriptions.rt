@@ -1,12 +1,12 @@
 //! Hostile SDP texts: sections that go wrong in chosen places, so that the first fault is known
 //! from how the text was made; and such texts with octets turned, cut off and put in, of which what
 //! is read has a canonical line that reads back.
-use crate::fault::Fault;
-use crate::generator::Generator;
+use crate::fields::Fields;
 use crate::hostile::spoil;
 use crate::text::Text;
 use sdp_format::{Sdp, fmtp_text, read_sdp};
 use std::alloc::Global;
+use test_programs::{Fault, Generator};
 
 /// How often each answer came: faults 2 to 17 by their numbers, and 0 where there was none.
 pub type Totals = [u64; 18];

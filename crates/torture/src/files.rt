@@ -1,8 +1,7 @@
 //! Hostile files given to their readers: the fault that is to be answered by a second reading; a
 //! capture says what it says by that reading, and other files are written again as the same octets.
-use crate::fault::Fault;
+use crate::fields::Fields;
 use crate::file_reading::{self, Content, Entry, LIMIT};
-use crate::generator::Generator;
 use crate::hostile_files::write;
 use crate::text::Text;
 use capture_file::{Capture, FileFault, Record, read_capture, read_picture, write_picture};
@@ -10,6 +9,7 @@ use receiver_file::{load_receiver, save_receiver};
 use st_format::Path;
 use st_format::memory::{MemorySink, MemorySource};
 use std::alloc::Global;
+use test_programs::{Fault, Generator};
 
 /// How often each answer came: faults 3 to 9 by their numbers, and 0 where there was none.
 pub type Totals = [u64; 10];

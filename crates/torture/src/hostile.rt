@@ -1,9 +1,10 @@
 //! Hostile datagrams: mostly sound, but each field now and then at a bound or beside it, and octets
 //! turned, cut off and put in.
-use crate::generator::Generator;
+use crate::fields::Fields;
 use crate::reading::Opening;
 use crate::text::Text;
 use st_format::Format;
+use test_programs::Generator;
 
 /// How many segments there are, each as often as it stands here.
 const SEGMENTS: [u32; 16] = [4, 3, 3, 3, 3, 2, 2, 2, 2, 1, 1, 1, 1, 1, 1, 1];

@@ -1,9 +1,10 @@
 //! Hostile files: mostly sound, but fields now and then at a bound or beside it, and octets turned,
 //! cut off and put in.
+use crate::fields::Fields;
 use crate::file_reading::group_of;
-use crate::generator::Generator;
 use crate::hostile::spoil;
 use crate::text::Text;
+use test_programs::Generator;
 
 /// Depths, in bits.
 const DEPTHS: [u32; 4] = [8, 10, 12, 16];

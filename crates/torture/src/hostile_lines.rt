@@ -1,12 +1,12 @@
 //! What hostile scripts of each command share: their first line, windows, and how lines are
 //! spoiled.
-use crate::fault::Fault;
-use crate::generator::Generator;
+use crate::fields::Fields;
 use crate::hostile::spoil;
 use crate::script_text::Pieces;
 use crate::text::Text;
 use st_format::{Depth, Format, Sampling};
 use std::alloc::Global;
+use test_programs::{Fault, Generator};
 
 /// Samplings, in the order of their numbers in files.
 pub const SAMPLINGS: [Sampling; 3] = [Sampling::Ycc422, Sampling::Ycc444, Sampling::Rgb];

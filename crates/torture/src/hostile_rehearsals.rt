@@ -1,12 +1,12 @@
 //! Hostile scripts of `rehearse`: lines of their forms, some of whose numbers are at bounds; and
 //! then fields turned, lines doubled, left out and exchanged, and octets turned, cut off and put
 //! in.
-use crate::fault::Fault;
-use crate::generator::Generator;
+use crate::fields::Fields;
 use crate::hostile_lines::{Script, any_format, put_format, put_window};
 use crate::text::Text;
 use st_format::Format;
 use std::alloc::Global;
+use test_programs::{Fault, Generator};
 
 /// Timestamps of pictures and windows at 60 pictures a second, of which a window has the first
 /// ones.

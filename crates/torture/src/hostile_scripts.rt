@@ -1,12 +1,12 @@
 //! Hostile scripts of `trace`: lines of their forms, some of whose numbers are at bounds; and then
 //! fields turned, lines doubled, left out and exchanged, and octets turned, cut off and put in.
-use crate::fault::Fault;
-use crate::generator::Generator;
+use crate::fields::Fields;
 use crate::hostile;
 use crate::hostile_lines::{Script, any_format, put_format, put_window};
 use crate::reading::{Opening, read};
 use crate::text::Text;
 use std::alloc::Global;
+use test_programs::{Fault, Generator};
 
 /// Timestamps that lines name; a window has the first ones.
 const TIMESTAMPS: [u32; 6] = [900, 0, u32::MAX, 0x8000_0000, 1800, 2700];

@@ -10,10 +10,9 @@ mod answers;
 mod cells;
 mod datagrams;
 mod descriptions;
-mod fault;
+mod fields;
 mod file_reading;
 mod files;
-mod generator;
 mod hostile;
 mod hostile_files;
 mod hostile_lines;
@@ -31,11 +30,10 @@ mod text;
 
 use crate::answers::{OF_DATAGRAMS, OF_FILES, OF_LINES, OF_SCRIPTS, OF_TEXTS};
 use crate::datagrams::ROUND;
-use crate::fault::Fault;
-use crate::generator::Generator;
 use crate::text::Text;
 use std::env;
 use std::process::ExitCode;
+use test_programs::{Fault, Generator};
 
 fn main(rt: HostRuntime) -> ExitCode {
     match run(&rt) {

@@ -1,8 +1,8 @@
 //! What a receiver is to hold, kept plainly: a list of cells for each timestamp of its window.
 use crate::cells::Cells;
-use crate::fault::Fault;
 use crate::reading::{Opening, Wanted, offer, read};
 use std::alloc::Global;
+use test_programs::Fault;
 
 /// A receiver's cells, the frames in the order of the window.
 #[derive(Drop)]

@@ -1,8 +1,6 @@
 //! Hostile scripts given to `trace` and to `rehearse`: what these are to print, to tell and to
 //! answer by a second reading.
 use crate::answers::OF_LINES;
-use crate::fault::Fault;
-use crate::generator::Generator;
 use crate::script_text::Pieces;
 use crate::stop::{LARGE, MEMORY};
 use crate::text::Text;
@@ -10,6 +8,7 @@ use crate::{hostile_rehearsals, hostile_scripts, rehearsal_reading, script_readi
 use st_format::memory::{MemorySink, MemorySource};
 use st2110_tool::{run_rehearse, run_trace};
 use std::alloc::Global;
+use test_programs::{Fault, Generator};
 
 /// How often each end came.
 pub type Ends = [u64; 15];

@@ -3,14 +3,13 @@
 ghost use Rattle.std.specs.Prelude.{◌≤◌, ◌<◌};
 
 use crate::datagram_reading::{self, Said};
-use crate::fault::Fault;
-use crate::generator::Generator;
 use crate::hostile::write;
 use crate::reading::{self, Reading, Recorded};
 use crate::text::Text;
 use pcap_file::{DatagramView, NoDatagram, Packet, next_packet, open_recording, packet_datagram};
 use st_format::memory::MemorySource;
 use std::alloc::Global;
+use test_programs::{Fault, Generator};
 
 /// How many octets of a packet or its block are read at most.
 const ROOM: usize = 1024;

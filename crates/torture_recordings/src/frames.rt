@@ -1,7 +1,8 @@
 //! Hostile packets, mostly sound: a header of the link layer, IPv4 or IPv6, and mostly UDP.
-use crate::generator::Generator;
+use crate::fields::Fields;
 use crate::numbers::Order;
 use crate::text::Text;
+use test_programs::Generator;
 
 /// The link layers, each as often as it stands here; the last ones aren't read.
 const LINKS: [u32; 16] = [

@@ -1,10 +1,11 @@
 //! Hostile recordings: mostly sound, but fields now and then at a bound or beside it, records and
 //! blocks exchanged and repeated, and octets turned, cut off, put in and taken out.
-use crate::generator::Generator;
+use crate::fields::Fields;
 use crate::hostile_blocks::put_blocks;
 use crate::hostile_pcap::put_pcap;
 use crate::numbers::Order;
 use crate::text::Text;
+use test_programs::Generator;
 
 /// How often a recording is spoiled.
 const SPOILS: [u32; 8] = [0, 0, 0, 0, 1, 1, 2, 3];

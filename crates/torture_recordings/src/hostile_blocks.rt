@@ -1,9 +1,10 @@
 //! Hostile recordings in blocks, before they are spoiled.
+use crate::fields::Fields;
 use crate::frames::link;
-use crate::generator::Generator;
 use crate::hostile::{put_kept, set_counts};
 use crate::numbers::Order;
 use crate::text::Text;
+use test_programs::Generator;
 
 /// How many sections there are.
 const SECTIONS: [u32; 8] = [1, 1, 1, 1, 1, 2, 2, 3];

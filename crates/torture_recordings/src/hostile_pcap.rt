@@ -1,9 +1,10 @@
 //! Hostile recordings in the classic layout, before they are spoiled.
+use crate::fields::Fields;
 use crate::frames::link;
-use crate::generator::Generator;
 use crate::hostile::{put_kept, set_counts};
 use crate::numbers::Order;
 use crate::text::Text;
+use test_programs::Generator;
 
 /// How much of a packet is kept.
 const SNAPS: [u32; 4] = [0, 96, 65535, 262_144];

@@ -10,9 +10,8 @@ mod answers;
 mod blocks_reading;
 mod comparing;
 mod datagram_reading;
-mod fault;
+mod fields;
 mod frames;
-mod generator;
 mod hostile;
 mod hostile_blocks;
 mod hostile_pcap;
@@ -22,11 +21,10 @@ mod text;
 
 use crate::answers::{OF_PACKETS, OF_RECORDINGS};
 use crate::comparing::Totals;
-use crate::fault::Fault;
-use crate::generator::Generator;
 use crate::text::Text;
 use std::env;
 use std::process::ExitCode;
+use test_programs::{Fault, Generator};
 
 fn main(rt: HostRuntime) -> ExitCode {
     match run(&rt) {

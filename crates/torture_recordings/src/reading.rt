@@ -2,9 +2,9 @@
 //! first fault, and the number of that (the drafts of pcap and pcapng; docs/FORMATS.md,
 //! "Recordings"; docs/FAULTS.md, `RecordingFault`).
 use crate::blocks_reading::read_blocks;
-use crate::fault::Fault;
 use crate::numbers::{Order, long, part, word};
 use std::alloc::Global;
+use test_programs::Fault;
 
 /// Faults of recordings by their numbers.
 pub const TRUNCATED: u8 = 2;

@@ -1,7 +1,7 @@
 //! Octets that grow, and note where memory was refused: so what writes them goes straight on.
-use crate::generator::Generator;
 use crate::numbers::Order;
 use std::alloc::Global;
+use test_programs::Generator;
 
 /// How many places are noted.
 const PLACES: usize = 16;
