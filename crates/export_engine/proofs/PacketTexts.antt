@@ -1,12 +1,13 @@
 -- The texts of packets, and the texts of flows.
 use Rattle.std.proofs.Common.{◌≡◌, ℕ, ◌≤◌, ◌++◌, List, length, take, drop, sym, ap, ◌∙◌, arith}
 use Rattle.std.proofs.Common.{Option, Some, None, refl, subst}
+use Rattle.std.specs.Prelude.{MatchOption}
 use Rattle.std.proofs.lemmas.List.{length-append, length-drop, take-append-le, take_all}
 use Rattle.std.specs.declared.net.ip_addr.IpAddr.{IpAddr}
 use Rattle.media_file.specs.Records.{Entry}
-use Rattle.flow.specs.FlowText.{Finds, IsFlowText, IsPlaceText}
+use Rattle.flow.specs.FlowText.{Finds, IsFlowText, IsSourceText}
 use Rattle.flow.specs.declared.flows.Flow.{Flow}
-use Rattle.export_engine.specs.Packets.{IsEnvelopeText, datagram_by, envelope_to, packet_by}
+use Rattle.export_engine.specs.Packets.{IsEnvelopeText, datagram_by, envelope_from, packet_by}
 use Rattle.export_engine.specs.Packets.{packet_text, sent_by}
 use Rattle.export_engine.specs.declared.places.Envelopes.{Envelopes}
 use Rattle.export_engine.specs.declared.places.IpEnvelope.{IpEnvelope}
@@ -42,36 +43,63 @@ packet_taken es e envelope text sent is =
 
 -- ---- flows
 
+abbrev flow_at : Option IpAddr → IpAddr → ℕ → Flow
+flow_at source address port =
+    record { source = source; address = Some address; port = port }
+
 -- no flow was found
 pub no_flow : (text : List ℕ) (r : Option Flow) → Finds IsFlowText text r → r ≡ None
     → (e : IpEnvelope) → IsEnvelopeText text e → ⊥
 no_flow text r found none e is =
-    not_some (sym none ∙ (found (record { address = Some is.address; port = is.port })).0 is.flow)
+    not_some (sym none ∙ (found (flow_at is.source is.address is.port)).0 is.flow)
   where
     not_some : {X : Type 0} {x : X} → None ≡ Some x → ⊥
     not_some same = cc
+
+inner : {X : Type 0} (x y : X) → Some x ≡ Some y → x ≡ y
+inner x y same = cc
+
+-- the flow that was found is the one that the text spells
+the_flow : (text : List ℕ) (f : Flow) → Finds IsFlowText text (Some f) → (e : IpEnvelope)
+    → (is : IsEnvelopeText text e) → f ≡ flow_at is.source is.address is.port
+the_flow text f found e is =
+    let wanted : Flow = flow_at is.source is.address is.port in
+    inner f wanted ((found wanted).0 is.flow)
 
 -- the flow that was found names no address
 pub no_envelope : (text : List ℕ) (f : Flow) → Finds IsFlowText text (Some f) → f.address ≡ None
     → (e : IpEnvelope) → IsEnvelopeText text e → ⊥
 no_envelope text f found none e is =
-    let wanted : Flow = record { address = Some is.address; port = is.port } in
-    clash (sym none ∙ ap (λ (g : Flow). g.address) (inner f wanted ((found wanted).0 is.flow)))
+    clash (sym none ∙ ap (λ (g : Flow). g.address) (the_flow text f found e is))
   where
-    inner : (x y : Flow) → Some x ≡ Some y → x ≡ y
-    inner x y same = cc
-
     clash : {x : IpAddr} → None ≡ Some x → ⊥
     clash same = cc
 
--- it does
-pub envelope_found : (text : List ℕ) (f : Flow) (a : IpAddr) (e : IpEnvelope)
-    → Finds IsFlowText text (Some f) → f.address ≡ Some a → e ≡ envelope_to a f.port
-    → IsEnvelopeText text e
-envelope_found text f a e found named is = record {
+-- what is made of the flow that was found
+abbrev IsMade : List ℕ → Option IpEnvelope → Type 0
+IsMade text r = MatchOption r ((e : IpEnvelope) → IsEnvelopeText text e → ⊥) (IsEnvelopeText text)
+
+pub envelope_found : (text : List ℕ) (f : Flow) (a : IpAddr) (r : Option IpEnvelope)
+    → Finds IsFlowText text (Some f) → f.address ≡ Some a
+    → r ≡ envelope_from f.source a f.port → IsMade text r
+envelope_found text f a None found named is = λ e h.
+    let same = the_flow text f found e h in
+    let at : a ≡ h.address =
+    inner a h.address (sym named ∙ ap (λ (g : Flow). g.address) same) in
+    clash (is
+    ∙ ap (λ (s : Option IpAddr). envelope_from s a f.port) (ap (λ (g : Flow). g.source) same)
+    ∙ ap (λ (x : IpAddr). envelope_from h.source x f.port) at
+    ∙ ap (λ (p : ℕ). envelope_from h.source h.address p) (ap (λ (g : Flow). g.port) same)
+    ∙ h.envelope)
+  where
+    clash : {x : IpEnvelope} → None ≡ Some x → ⊥
+    clash same = cc
+envelope_found text f a (Some e) found named is = record {
+  source = f.source;
   address = a;
   port = f.port;
   flow =
-      subst (λ (o : Option IpAddr). IsPlaceText text o f.port) named ((found f).1 refl);
-  envelope = is;
+      subst
+      (λ (o : Option IpAddr). IsSourceText text f.source (o, f.port)) named ((found f).1 refl);
+  envelope = sym is;
 }

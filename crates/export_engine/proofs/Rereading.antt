@@ -3,15 +3,17 @@ use Rattle.std.proofs.Common.{◌≡◌, ℕ, ◌-◌, ◌*◌, ◌^◌, ◌<◌
 use Rattle.std.proofs.Common.{[], ◌∷◌, ◌++◌, length, Option, Some, None, refl, sym, ap, ◌∙◌, subst}
 use Rattle.std.proofs.Common.{arith, inl, inr, replicate}
 use Rattle.std.specs.List.{cons_option}
-use Rattle.std.specs.Net.Addr.{octets_of}
-use Rattle.std.specs.Net.Grammar.{IsColonHex}
+use Rattle.std.specs.Net.Addr.{ipv4_octets, ipv6_octets, octets_of}
+use Rattle.std.specs.Net.Grammar.{IsColonHex, IsIpv4Text, IsIpv6Text}
 use Rattle.std.specs.declared.net.ip_addr.IpAddr.{IpAddr}
 use Rattle.std.specs.declared.net.ip_addr.IpAddr.TheVariants as ip
+use Rattle.std.specs.declared.net.ipv4_addr.Ipv4Addr.{Ipv4Addr}
+use Rattle.std.specs.declared.net.ipv6_addr.Ipv6Addr.{Ipv6Addr}
 use Rattle.std.proofs.lemmas.Bool.Decides.{nat_tests}
 use Rattle.std.proofs.lemmas.List.{length-append, length-replicate}
 use Rattle.st_format.specs.declared.path.Path.{Path}
 use Rattle.st_format.specs.declared.path.Path.TheVariants.{A, B}
-use Rattle.flow.specs.FlowText.{IsHost}
+use Rattle.flow.specs.FlowText.{IsSourceText}
 use Rattle.media_file.specs.Records.{Entry}
 use Rattle.pcap_file.specs.Datagram.{IsDatagram}
 use Rattle.pcap_file.specs.PcapReading.{AreRecords, IsPcap, IsRecord, Recorded}
@@ -21,8 +23,9 @@ use Rattle.pcap_file.specs.declared.link.Link.TheVariants.{Ethernet}
 use Rattle.pcap_file.proofs.Writes.{is_datagram, is_record}
 use Rattle.pcap_file.proofs.Writes6.{is_datagram6, is_record6}
 use Rattle.export_engine.specs.Packets.{AreEnvelopes, IsEnvelopeText, IsSecondText, can_say}
-use Rattle.export_engine.specs.Packets.{datagram_by, envelope_of, envelope_to, if_said}
-use Rattle.export_engine.specs.Packets.{most_payload, packet_by, packets_text, pcap_text, sent_by}
+use Rattle.export_engine.specs.Packets.{datagram_by, envelope_4, envelope_6, envelope_from}
+use Rattle.export_engine.specs.Packets.{envelope_of, if_said, most_payload, packet_by, packets_text}
+use Rattle.export_engine.specs.Packets.{pcap_text, sender, sender6, sent_by}
 use Rattle.export_engine.specs.Reread.{datagram_in, frame_by, packet_of, packets_of, recorded_by}
 use Rattle.export_engine.specs.declared.places.Envelopes.{Envelopes}
 use Rattle.export_engine.specs.declared.places.IpEnvelope.{IpEnvelope}
@@ -52,29 +55,61 @@ eight text segments (inr is) =
       is.room,
     )
 
-to_fits : (host : List ℕ) (address : IpAddr) (port : ℕ) → IsHost host address → port ≤ 65535
-    → Fits (envelope_to address port)
-to_fits host (ip.V4 a) port is small = record {
-  source = refl;
-  destination = ap (λ (o : List ℕ). length o) is.value;
-  source_port = omega (arith, small);
-  destination_port = omega (arith, small);
-}
-to_fits host (ip.V6 a) port is small = record {
-  source = refl;
-  destination =
-      two_each a.segments
-      ∙ ap (λ (n : ℕ). 2 * n) (eight is.0 a.segments is.2);
+four_octets : (text : List ℕ) (a : Ipv4Addr) → IsIpv4Text text a → length (ipv4_octets a) ≡ 4
+four_octets text a is = ap (λ (o : List ℕ). length o) is.value
+
+sixteen_octets : (text : List ℕ) (a : Ipv6Addr) → IsIpv6Text text a → length (ipv6_octets a) ≡ 16
+sixteen_octets text a is =
+    two_each a.segments ∙ ap (λ (n : ℕ). 2 * n) (eight text a.segments is)
+
+fits_4 : (source : List ℕ) (a : Ipv4Addr) (port : ℕ) → length source ≡ 4
+    → length (ipv4_octets a) ≡ 4 → port ≤ 65535 → Fits (envelope_4 source a port)
+fits_4 source a port from to small = record {
+  source = from;
+  destination = to;
   source_port = omega (arith, small);
   destination_port = omega (arith, small);
 }
 
-text_fits : (text : List ℕ) (e : IpEnvelope) → IsEnvelopeText text e → Fits e
-text_fits text e is =
-    subst Fits (sym is.envelope) (to_fits is.flow.0 is.address is.port is.flow.3 is.flow.4.1)
+fits_6 : (source : List ℕ) (a : Ipv6Addr) (port : ℕ) → length source ≡ 16
+    → length (ipv6_octets a) ≡ 16 → port ≤ 65535 → Fits (envelope_6 source a port)
+fits_6 source a port from to small = record {
+  source = from;
+  destination = to;
+  source_port = omega (arith, small);
+  destination_port = omega (arith, small);
+}
 
 some_is : (x y : IpEnvelope) → Some x ≡ Some y → x ≡ y
 some_is x y same = cc
+
+not_some : (x : IpEnvelope) → None ≡ Some x → ⊥
+not_some x same = cc
+
+from_fits : (text : List ℕ) (source : Option IpAddr) (address : IpAddr) (port : ℕ) (e : IpEnvelope)
+    → IsSourceText text source (Some address, port) → envelope_from source address port ≡ Some e
+    → Fits e
+from_fits text None (ip.V4 a) port e is same =
+    subst Fits (some_is (envelope_4 sender a port) e same)
+    (fits_4 sender a port refl (four_octets is.0 a is.3) is.4.1)
+from_fits text None (ip.V6 a) port e is same =
+    subst Fits (some_is (envelope_6 sender6 a port) e same)
+    (fits_6 sender6 a port refl (sixteen_octets is.3.0 a is.3.2) is.4.1)
+from_fits text (Some (ip.V4 s)) (ip.V4 a) port e is same =
+    let to = is.4 in
+    subst Fits (some_is (envelope_4 (ipv4_octets s) a port) e same)
+    (fits_4 (ipv4_octets s) a port (four_octets is.0 s is.3) (four_octets to.0 a to.3) to.4.1)
+from_fits text (Some (ip.V4 s)) (ip.V6 a) port e is same = absurd (not_some e same)
+from_fits text (Some (ip.V6 s)) (ip.V4 a) port e is same = absurd (not_some e same)
+from_fits text (Some (ip.V6 s)) (ip.V6 a) port e is same =
+    let from = is.3 in
+    let to = is.4 in
+    subst Fits (some_is (envelope_6 (ipv6_octets s) a port) e same)
+    (fits_6 (ipv6_octets s) a port (sixteen_octets from.0 s from.2)
+    (sixteen_octets to.3.0 a to.3.2) to.4.1)
+
+text_fits : (text : List ℕ) (e : IpEnvelope) → IsEnvelopeText text e → Fits e
+text_fits text e is = from_fits text is.source is.address is.port e is.flow is.envelope
 
 second_fits : (b : Option (List ℕ)) (o : Option IpEnvelope) (e : IpEnvelope) → IsSecondText b o
     → o ≡ Some e → Fits e

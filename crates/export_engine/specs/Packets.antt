@@ -6,6 +6,8 @@ use Rattle.std.specs.List.{flat_map}
 use Rattle.std.specs.Net.Addr.{ipv4_octets, ipv6_octets}
 use Rattle.std.specs.declared.net.ip_addr.IpAddr.{IpAddr}
 use Rattle.std.specs.declared.net.ip_addr.IpAddr.TheVariants as ip
+use Rattle.std.specs.declared.net.ipv4_addr.Ipv4Addr.{Ipv4Addr}
+use Rattle.std.specs.declared.net.ipv6_addr.Ipv6Addr.{Ipv6Addr}
 use Rattle.st_format.specs.declared.path.Path.{Path}
 use Rattle.st_format.specs.declared.path.Path.TheVariants.{A, B}
 use Rattle.media_file.specs.Records.{Entry}
@@ -23,29 +25,42 @@ sender = 192 ∷ 0 ∷ 2 ∷ 1 ∷ []
 abbrev pub sender6 : List ℕ
 sender6 = 0x20 ∷ 0x01 ∷ 0x0d ∷ 0xb8 ∷ 0 ∷ 0 ∷ 0 ∷ 0 ∷ 0 ∷ 0 ∷ 0 ∷ 0 ∷ 0 ∷ 0 ∷ 0 ∷ 1 ∷ []
 
--- to an address and a port, from the sender of the address's version and the same port
-abbrev pub envelope_to : IpAddr → ℕ → IpEnvelope
-envelope_to (ip.V4 a) port =
+-- from octets of a source to an address and a port, and from the same port
+abbrev pub envelope_4 : List ℕ → Ipv4Addr → ℕ → IpEnvelope
+envelope_4 source a port =
     V4 (record {
-      source = sender;
+      source = source;
       destination = ipv4_octets a;
       source_port = port;
       destination_port = port;
     })
-envelope_to (ip.V6 a) port =
+
+abbrev pub envelope_6 : List ℕ → Ipv6Addr → ℕ → IpEnvelope
+envelope_6 source a port =
     V6 (record {
-      source = sender6;
+      source = source;
       destination = ipv6_octets a;
       source_port = port;
       destination_port = port;
     })
 
+-- From a source to an address and a port, and where none is named from the sender of the address's
+-- version; none where the source is of the other version.
+abbrev pub envelope_from : Option IpAddr → IpAddr → ℕ → Option IpEnvelope
+envelope_from None (ip.V4 a) port = Some (envelope_4 sender a port)
+envelope_from None (ip.V6 a) port = Some (envelope_6 sender6 a port)
+envelope_from (Some (ip.V4 s)) (ip.V4 a) port = Some (envelope_4 (ipv4_octets s) a port)
+envelope_from (Some (ip.V4 s)) (ip.V6 a) port = None
+envelope_from (Some (ip.V6 s)) (ip.V4 a) port = None
+envelope_from (Some (ip.V6 s)) (ip.V6 a) port = Some (envelope_6 (ipv6_octets s) a port)
+
 -- A text is a flow to an address, and so its datagrams are sent.
 pub record IsEnvelopeText (text : List ℕ) (e : IpEnvelope) : Type 0 where
+  pub source : Option IpAddr
   pub address : IpAddr
   pub port : ℕ
-  pub flow : IsFlowText text (record { address = Some address; port = port })
-  pub envelope : e ≡ envelope_to address port
+  pub flow : IsFlowText text (record { source = source; address = Some address; port = port })
+  pub envelope : envelope_from source address port ≡ Some e
 
 -- so of the text of path B, where there is one
 abbrev pub IsSecondText : Option (List ℕ) → Option IpEnvelope → Type 0

@@ -2,7 +2,7 @@
 ghost use Rattle.std.specs.Prelude.{◌≡◌, ◌∷◌, [], IfErr, IfOk, OnOk, vec_len};
 ghost use Rattle.std.specs.Option.{option_copied};
 ghost use Rattle.st_format.specs.History.{IsRead};
-ghost use Rattle.run_outcome.specs.Fault.{Accounts, counts};
+ghost use Rattle.run_outcome.specs.Fault.{Accounts, IfRefused, counts};
 ghost use Rattle.run_outcome.specs.Refusing.{OfRefusal};
 ghost use Rattle.run_outcome.specs.declared.refusal.Refusal.TheVariants.{ExportFlow};
 ghost use Rattle.export_engine.specs.Packets.{AreEnvelopes};
@@ -41,7 +41,8 @@ pub struct Exporting<'a> {
 /// A refusal: `ExportFlow` where a text is no flow to an address, before anything is read;
 /// then the first fault of the capture, which has at most 16,777,216 records. And else that a
 /// device failed or memory was wanted. Nothing is written before the capture's front was read;
-/// where a record is at fault, the packets of those before it are.
+/// where a record is at fault, the packets of those before it are. Where it is refused nothing is
+/// printed.
 pub fn export<A, S, K, O>(
     alloc: A,
     wanted: Exporting<'_>,
@@ -66,6 +67,7 @@ where
         wanted.entry.a.now (option_copied wanted.entry.b)
         (S.gave capture.old) (S.gave capture.new) (S.ended capture.new)
         (K.took sink.old) (K.took sink.new)) }
+    ensures quiet { IfErr result (λ f. IfRefused f (output.new ≡ output.old)) }
     ensures failures { Accounts result (counts (S.failures capture.old) (S.failures capture.new)
         ∷ counts (K.failures sink.old) (K.failures sink.new)
         ∷ counts (O.failures output.old) (O.failures output.new) ∷ []) }

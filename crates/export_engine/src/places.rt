@@ -2,14 +2,15 @@
 ghost use Rattle.std.specs.Prelude.{◌≡◌, ◌≤◌, ◌<◌, ◌*◌, ◌^◌, IfSome, MatchOption, length};
 ghost use Rattle.std.specs.Option.{option_copied};
 ghost use Rattle.export_engine.specs.Packets.{AreEnvelopes, IsEnvelopeText, can_say};
-ghost use Rattle.export_engine.specs.Packets.{envelope_of, envelope_to, most_payload, sent_by};
+ghost use Rattle.export_engine.specs.Packets.{envelope_4, envelope_6, envelope_from, envelope_of};
+ghost use Rattle.export_engine.specs.Packets.{most_payload, sent_by};
 
 use crate::exporting::Exporting;
 use flow::read_flow;
 use media_file::RecordHead;
 use pcap_file::{Envelope, Envelope6};
 use st_format::Path;
-use std::net::IpAddr;
+use std::net::{IpAddr, Ipv4Addr, Ipv6Addr};
 
 /// The address of IPv4 that sends: one for documentation (RFC 5737, 3).
 const SENDER: [u8; 4] = [192, 0, 2, 1];
@@ -42,27 +43,45 @@ pub struct Envelopes {
     pub b: Option<IpEnvelope>,
 }
 
-/// To an address and a port, from the sender of the address's version and the same port.
-fn envelope_to(address: IpAddr, port: u16) -> IpEnvelope
-    ensures { result ≡ envelope_to address port }
+/// From the octets of a source to an address and a port, and from the same port.
+fn envelope_4(source: [u8; 4], address: Ipv4Addr, port: u16) -> IpEnvelope
+    ensures { result ≡ envelope_4 source address port }
 {
-    match address {
-        IpAddr::V4(address) => IpEnvelope::V4(Envelope {
-            source: SENDER,
-            destination: address.octets(),
-            source_port: port,
-            destination_port: port,
-        }),
-        IpAddr::V6(address) => IpEnvelope::V6(Envelope6 {
-            source: SENDER6,
-            destination: address.octets(),
-            source_port: port,
-            destination_port: port,
-        }),
+    IpEnvelope::V4(Envelope {
+        source,
+        destination: address.octets(),
+        source_port: port,
+        destination_port: port,
+    })
+}
+
+/// The same of IPv6.
+fn envelope_6(source: [u8; 16], address: Ipv6Addr, port: u16) -> IpEnvelope
+    ensures { result ≡ envelope_6 source address port }
+{
+    IpEnvelope::V6(Envelope6 {
+        source,
+        destination: address.octets(),
+        source_port: port,
+        destination_port: port,
+    })
+}
+
+/// From a source to an address and a port, and where none is named from the sender of the
+/// address's version; none where the source is of the other version.
+fn envelope_from(source: Option<IpAddr>, address: IpAddr, port: u16) -> Option<IpEnvelope>
+    ensures { result ≡ envelope_from source address port }
+{
+    match (source, address) {
+        (None, IpAddr::V4(to)) => Some(envelope_4(SENDER, to, port)),
+        (None, IpAddr::V6(to)) => Some(envelope_6(SENDER6, to, port)),
+        (Some(IpAddr::V4(from)), IpAddr::V4(to)) => Some(envelope_4(from.octets(), to, port)),
+        (Some(IpAddr::V6(from)), IpAddr::V6(to)) => Some(envelope_6(from.octets(), to, port)),
+        (Some(IpAddr::V4(_)), IpAddr::V6(_)) | (Some(IpAddr::V6(_)), IpAddr::V4(_)) => None,
     }
 }
 
-/// Reads a flow to an address.
+/// Reads a flow to an address, whose source, where it names one, is of the same version.
 fn read_envelope(text: &[u8]) -> Option<IpEnvelope>
     ensures { MatchOption result ((e : IpEnvelope) → IsEnvelopeText text.now e → ⊥)
         (IsEnvelopeText text.now) }
@@ -73,7 +92,7 @@ fn read_envelope(text: &[u8]) -> Option<IpEnvelope>
     let Some(address) = flow.address else {
         return None;
     };
-    Some(envelope_to(address, flow.port))
+    envelope_from(flow.source, address, flow.port)
 }
 
 impl Envelopes {

@@ -1,23 +1,24 @@
--- A text spells one flow at most, which is found behind its last colon and before it.
+-- A text spells one flow at most, whose parts are found before and behind its last > and its last
+-- colon.
 use Rattle.std.proofs.Common.{◌≡◌, ℕ, ◌<◌, ◌^◌, Bool, true, false, cond, ◌&&◌, List}
 use Rattle.std.proofs.Common.{[], ◌∷◌, ◌++◌, length, get_or, Option, Some, None, All, refl, sym, ap}
-use Rattle.std.proofs.Common.{zero, suc, inl, inr, ◌∙◌, subst, arith, append_assoc, codes, decimal}
+use Rattle.std.proofs.Common.{drop, zero, suc, inl, inr, ◌∙◌, subst, arith, append_assoc, codes, decimal}
 use Rattle.std.proofs.Common.{lit<}
 use Rattle.std.specs.Prelude.{◌↔◌, nat_le, IfSome}
-use Rattle.std.specs.Char.{is_ascii_digit}
+use Rattle.std.specs.Char.{digit_value, is_ascii_digit}
 use Rattle.std.specs.List.{list_all}
-use Rattle.std.specs.Str.Parse.{digits_value}
+use Rattle.std.specs.Str.Parse.{AllDigits, digits_value}
 use Rattle.std.proofs.lemmas.Bool.Decides.{nat_tests}
 use Rattle.std.proofs.lemmas.Fmt.{digits_decimal, digits_value-decimal, decimal_nonempty}
 use Rattle.std.proofs.lemmas.Fmt.{length-decimal-le}
-use Rattle.std.proofs.lemmas.List.{append_cancel_left, append_cancel_right}
-use Rattle.std.proofs.lemmas.List.Elements.{All-nil, All-cons, All-head, All-tail}
+use Rattle.std.proofs.lemmas.List.{append_cancel_left, append_cancel_right, drop_at}
+use Rattle.std.proofs.lemmas.List.Elements.{All-append, All-nil, All-cons, All-head, All-tail}
 use Rattle.std.specs.declared.net.ip_addr.IpAddr.{IpAddr}
 use Rattle.std.specs.declared.net.ip_addr.IpAddr.TheVariants.{V4, V6}
 use Rattle.std.specs.declared.net.ipv4_addr.Ipv4Addr.{Ipv4Addr}
 use Rattle.std.specs.declared.net.ipv6_addr.Ipv6Addr.{Ipv6Addr}
 use Rattle.std.specs.Net.Addr.{ipv4_octets, ipv6_segments, IsIpv4Addr, IsIpv6Addr, MatchIp}
-use Rattle.std.specs.Net.Grammar.{IsDotted, IsIpv4Text, IsIpv6Text}
+use Rattle.std.specs.Net.Grammar.{IsColonHex, IsDotted, IsGroupsAfter, IsIpv4Text, IsIpv6Text}
 use Rattle.std.specs.Net.Text.{ipv6_text}
 use Rattle.std.proofs.NetLemmas.Alphabet.{IsDigitOrDot, All-ipv4_text}
 use Rattle.std.proofs.NetLemmas.Texts.{IsDotted-ipv4_text, IsColonHex-ipv6_text}
@@ -26,8 +27,8 @@ use Rattle.st_format.specs.Words.{IsNumber, is_number, number}
 use Rattle.st_format.proofs.Decimals.{digits, passes}
 use Rattle.flow.specs.declared.flows.Flow.{Flow}
 use Rattle.flow.specs.Flow.{IsFlow}
-use Rattle.flow.specs.FlowText.{Finds, IsFlowText, IsHost, IsNoColon, IsPlaceText, IsPort}
-use Rattle.flow.specs.FlowText.{flow_text, host_text, place_text}
+use Rattle.flow.specs.FlowText.{Finds, IsFlowText, IsHost, IsOther, IsPlaceOf, IsPlaceText, IsPort}
+use Rattle.flow.specs.FlowText.{IsSourceText, flow_text, host_text, place_text, source_text}
 
 -- ---- what is found
 
@@ -68,17 +69,20 @@ number_digits text n e =
     (and_parts (nat_le 1 (length text) && nat_le (length text) 10)
     (list_all is_ascii_digit text) whole.0).1
 
-digit_no_colon : (c : ℕ) → is_ascii_digit c ≡ true → IsNoColon c
-digit_no_colon c e = λ same. grind (arith, nat_tests)
+digit_other : (m c : ℕ) → 57 < m → is_ascii_digit c ≡ true → IsOther m c
+digit_other m c above e = λ same. grind (arith, nat_tests)
 
-digits_no_colon : (text : List ℕ) → list_all is_ascii_digit text ≡ true → All IsNoColon text
-digits_no_colon [] e = All-nil IsNoColon
-digits_no_colon (c ∷ cs) e =
+digits_other : (m : ℕ) (text : List ℕ) → 57 < m → list_all is_ascii_digit text ≡ true
+    → All (IsOther m) text
+digits_other m [] above e = All-nil (IsOther m)
+digits_other m (c ∷ cs) above e =
     let h = and_parts (is_ascii_digit c) (list_all is_ascii_digit cs) e in
-    All-cons IsNoColon c cs (digit_no_colon c h.0) (digits_no_colon cs h.1)
+    All-cons (IsOther m) c cs (digit_other m c above h.0) (digits_other m cs above h.1)
 
-pub port_no_colon : (text : List ℕ) (port : ℕ) → IsPort text port → All IsNoColon text
-port_no_colon text port h = digits_no_colon text (number_digits text port h.0)
+-- a port has none of the marks behind the digits
+pub port_other : (m : ℕ) (text : List ℕ) (port : ℕ) → 57 < m → IsPort text port
+    → All (IsOther m) text
+port_other m text port above h = digits_other m text above (number_digits text port h.0)
 
 port_once : (text : List ℕ) (p q : ℕ) → IsPort text p → IsPort text q → p ≡ q
 port_once text p q h k = same_some p q (sym h.0 ∙ k.0)
@@ -97,15 +101,17 @@ small_at x xs h later (suc k) = later k
 small_nil : (k : ℕ) → get_or [] k 0 < 2 ^ 8
 small_nil k = lit< tt
 
-no_dotted : (inside octets : List ℕ) → IsDotted (91 ∷ inside) octets → ⊥
-no_dotted inside octets h =
+dotted_fine : (text octets : List ℕ) → IsDotted text octets → All IsDigitOrDot text
+dotted_fine text octets h =
     let small : (k : ℕ) → get_or (h.a ∷ h.b ∷ h.c ∷ h.d ∷ []) k 0 < 2 ^ 8 =
     small_at h.a (h.b ∷ h.c ∷ h.d ∷ []) h.fit.0
     (small_at h.b (h.c ∷ h.d ∷ []) h.fit.1
     (small_at h.c (h.d ∷ []) h.fit.2 (small_at h.d [] h.fit.3 small_nil))) in
-    let fine : All IsDigitOrDot (91 ∷ inside) =
-    subst (All IsDigitOrDot) (sym h.spelled) (All-ipv4_text (h.a ∷ h.b ∷ h.c ∷ h.d ∷ []) small) in
-    no_bracket 91 (All-head IsDigitOrDot 91 inside fine) refl
+    subst (All IsDigitOrDot) (sym h.spelled) (All-ipv4_text (h.a ∷ h.b ∷ h.c ∷ h.d ∷ []) small)
+
+no_dotted : (inside octets : List ℕ) → IsDotted (91 ∷ inside) octets → ⊥
+no_dotted inside octets h =
+    no_bracket 91 (All-head IsDigitOrDot 91 inside (dotted_fine (91 ∷ inside) octets h)) refl
 
 bracketed_once : (x y : List ℕ) → codes "[" ++ x ++ codes "]" ≡ codes "[" ++ y ++ codes "]" → x ≡ y
 bracketed_once x y e =
@@ -124,100 +130,262 @@ host_once text (V6 a) (V6 b) h k =
     let same : h.0 ≡ k.0 = bracketed_once h.0 k.0 (sym h.1 ∙ k.1) in
     ap V6 (IsIpv6Text_unique h.0 a b h.2 (subst (λ t. IsIpv6Text t b) (sym same) k.2))
 
--- ---- the last colon
+-- ---- no > stands in a host
 
-pub colon_in : (xs ys : List ℕ) → All IsNoColon (xs ++ 58 ∷ ys) → ⊥
-colon_in [] ys h = All-head IsNoColon 58 ys h refl
-colon_in (x ∷ xs) ys h = colon_in xs ys (All-tail IsNoColon x (xs ++ 58 ∷ ys) h)
+abbrev IsNoAngle : ℕ → Type 0
+IsNoAngle = IsOther 62
+
+no_angle_digit : (c : ℕ) → IsDigitOrDot c → IsNoAngle c
+no_angle_digit c (inl h) = λ e. omega (arith, h, e)
+no_angle_digit c (inr h) = λ e. omega (arith, h, e)
+
+dotted_no_angle : (text octets : List ℕ) → IsDotted text octets → All IsNoAngle text
+dotted_no_angle text octets h =
+    λ k d inside. no_angle_digit (get_or text k d) (dotted_fine text octets h k d inside)
+
+no_angle_hex : (c : ℕ) → digit_value c < 16 → IsNoAngle c
+no_angle_hex c h = λ e. let at : digit_value 62 < 16 = subst (λ x. digit_value x < 16) e h in
+    omega (arith, at)
+
+hex_no_angle : (text : List ℕ) → AllDigits 16 text → All IsNoAngle text
+hex_no_angle [] h = All-nil IsNoAngle
+hex_no_angle (c ∷ cs) h =
+    All-cons IsNoAngle c cs (no_angle_hex c h.0) (hex_no_angle cs h.1)
+
+one_no_angle : (c : ℕ) → IsNoAngle c → All IsNoAngle (c ∷ [])
+one_no_angle c h = All-cons IsNoAngle c [] h (All-nil IsNoAngle)
+
+no_colon_angle : IsNoAngle 58
+no_colon_angle = λ e. omega (arith, e)
+
+groups_no_angle : (ipv4 : Bool) (lead text segments : List ℕ) → All IsNoAngle lead
+    → IsGroupsAfter ipv4 lead text segments → All IsNoAngle text
+groups_no_angle ipv4 lead text [] fine h = subst (All IsNoAngle) (sym h) (All-nil IsNoAngle)
+groups_no_angle ipv4 lead text (s ∷ segments) fine (inl h) =
+    let front = All-append IsNoAngle lead h.0 fine (hex_no_angle h.0 h.3.0.0.1) in
+    let rest =
+    groups_no_angle ipv4 (codes ":") h.1 segments (one_no_angle 58 no_colon_angle) h.4 in
+    subst (All IsNoAngle) (sym h.2) (All-append IsNoAngle (lead ++ h.0) h.1 front rest)
+groups_no_angle ipv4 lead text (s ∷ segments) fine (inr h) =
+    subst (All IsNoAngle) (sym h.3)
+    (All-append IsNoAngle lead h.0 fine (dotted_no_angle h.0 h.1 h.4))
+
+colon_hex_no_angle : (text segments : List ℕ) → IsColonHex text segments → All IsNoAngle text
+colon_hex_no_angle text segments (inl h) =
+    groups_no_angle true [] text segments (All-nil IsNoAngle) h.0
+colon_hex_no_angle text segments (inr h) =
+    let front = groups_no_angle false [] h.head_text h.head (All-nil IsNoAngle) h.head_groups in
+    let colons = All-cons IsNoAngle 58 (58 ∷ []) no_colon_angle (one_no_angle 58 no_colon_angle) in
+    let behind = groups_no_angle true [] h.tail_text h.tail (All-nil IsNoAngle) h.tail_groups in
+    subst (All IsNoAngle) (sym h.spelled)
+    (All-append IsNoAngle (h.head_text ++ codes "::") h.tail_text
+    (All-append IsNoAngle h.head_text (codes "::") front colons) behind)
+
+host_no_angle : (text : List ℕ) (a : IpAddr) → IsHost text a → All IsNoAngle text
+host_no_angle text (V4 a) h = dotted_no_angle text (ipv4_octets a) h
+host_no_angle text (V6 a) h =
+    let opening : IsNoAngle 91 = λ e. omega (arith, e) in
+    let closing : IsNoAngle 93 = λ e. omega (arith, e) in
+    let inside = colon_hex_no_angle h.0 (ipv6_segments a) h.2 in
+    subst (All IsNoAngle) (sym h.1)
+    (All-append IsNoAngle (codes "[" ++ h.0) (codes "]")
+    (All-append IsNoAngle (codes "[") h.0 (one_no_angle 91 opening) inside) (one_no_angle 93 closing))
+
+-- ---- the last mark
+
+pub mark_in : (m : ℕ) (xs ys : List ℕ) → All (IsOther m) (xs ++ m ∷ ys) → ⊥
+mark_in m [] ys h = All-head (IsOther m) m ys h refl
+mark_in m (x ∷ xs) ys h = mark_in m xs ys (All-tail (IsOther m) x (xs ++ m ∷ ys) h)
 
 tails : (x y : ℕ) (xs ys : List ℕ) → x ∷ xs ≡ y ∷ ys → (x ≡ y) × (xs ≡ ys)
 tails x y xs ys e = (cc, cc)
 
-pub last_colon : (xs ys us vs : List ℕ) → xs ++ 58 ∷ ys ≡ us ++ 58 ∷ vs → All IsNoColon ys
-    → All IsNoColon vs → (xs ≡ us) × (ys ≡ vs)
-last_colon [] ys [] vs e h k = (refl, (tails 58 58 ys vs e).1)
-last_colon [] ys (u ∷ us) vs e h k =
-    absurd (colon_in us vs (subst (All IsNoColon) (tails 58 u ys (us ++ 58 ∷ vs) e).1 h))
-last_colon (x ∷ xs) ys [] vs e h k =
-    absurd (colon_in xs ys (subst (All IsNoColon) (sym (tails x 58 (xs ++ 58 ∷ ys) vs e).1) k))
-last_colon (x ∷ xs) ys (u ∷ us) vs e h k =
-    let t = tails x u (xs ++ 58 ∷ ys) (us ++ 58 ∷ vs) e in
-    let r = last_colon xs ys us vs t.1 h k in
+pub last_mark : (m : ℕ) (xs ys us vs : List ℕ) → xs ++ m ∷ ys ≡ us ++ m ∷ vs
+    → All (IsOther m) ys → All (IsOther m) vs → (xs ≡ us) × (ys ≡ vs)
+last_mark m [] ys [] vs e h k = (refl, (tails m m ys vs e).1)
+last_mark m [] ys (u ∷ us) vs e h k =
+    absurd (mark_in m us vs (subst (All (IsOther m)) (tails m u ys (us ++ m ∷ vs) e).1 h))
+last_mark m (x ∷ xs) ys [] vs e h k =
+    absurd (mark_in m xs ys (subst (All (IsOther m)) (sym (tails x m (xs ++ m ∷ ys) vs e).1) k))
+last_mark m (x ∷ xs) ys (u ∷ us) vs e h k =
+    let t = tails x u (xs ++ m ∷ ys) (us ++ m ∷ vs) e in
+    let r = last_mark m xs ys us vs t.1 h k in
     (ap (λ z. z ∷ xs) t.0 ∙ ap (λ zs. u ∷ zs) r.0, r.1)
 
--- ---- flows
+-- a text, split behind an octet that isn't the mark, is split before it
+pub one_more : (m : ℕ) (text rest less : List ℕ) (last : ℕ) → rest ≡ less ++ last ∷ []
+    → text ≡ rest ++ drop (length rest) text → All (IsOther m) (drop (length rest) text)
+    → IsOther m last
+    → (text ≡ less ++ drop (length less) text) × All (IsOther m) (drop (length less) text)
+one_more m text rest less last is e fine h =
+    let behind = drop (length rest) text in
+    let whole : text ≡ less ++ last ∷ behind =
+    e ∙ ap (λ (x : List ℕ). x ++ behind) is ∙ append_assoc less (last ∷ []) behind in
+    let dropped : drop (length less) text ≡ last ∷ behind =
+    ap (λ (x : List ℕ). drop (length less) x) whole
+    ∙ drop_at less (last ∷ behind) (length less) refl in (
+      whole ∙ ap (λ (x : List ℕ). less ++ x) (sym dropped),
+      subst (All (IsOther m)) (sym dropped) (All-cons (IsOther m) last behind h fine),
+    )
+
+-- ---- places
+
+above_colon : 57 < 58
+above_colon = omega arith
+
+above_angle : 57 < 62
+above_angle = omega arith
+
+port_no_colon : (text : List ℕ) (port : ℕ) → IsPort text port → All (IsOther 58) text
+port_no_colon text port h = port_other 58 text port above_colon h
 
 place_once : (text : List ℕ) (a b : Option IpAddr) (p q : ℕ) → IsPlaceText text a p
     → IsPlaceText text b q → (a ≡ b) × (p ≡ q)
 place_once text None None p q h k = (refl, port_once text p q h k)
 place_once text None (Some b) p q h k =
-    absurd (colon_in k.0 k.1 (subst (All IsNoColon) k.2 (port_no_colon text p h)))
+    absurd (mark_in 58 k.0 k.1 (subst (All (IsOther 58)) k.2 (port_no_colon text p h)))
 place_once text (Some a) None p q h k =
-    absurd (colon_in h.0 h.1 (subst (All IsNoColon) h.2 (port_no_colon text q k)))
+    absurd (mark_in 58 h.0 h.1 (subst (All (IsOther 58)) h.2 (port_no_colon text q k)))
 place_once text (Some a) (Some b) p q h k =
     let r =
-    last_colon h.0 h.1 k.0 k.1 (sym h.2 ∙ k.2) (port_no_colon h.1 p h.4)
+    last_mark 58 h.0 h.1 k.0 k.1 (sym h.2 ∙ k.2) (port_no_colon h.1 p h.4)
     (port_no_colon k.1 q k.4) in (
       ap Some (host_once h.0 a b h.3 (subst (λ t. IsHost t b) (sym r.0) k.3)),
       port_once h.1 p q h.4 (subst (λ t. IsPort t q) (sym r.1) k.4),
     )
 
-pub flow_once : (text : List ℕ) (f g : Flow) → IsFlowText text f → IsFlowText text g → f ≡ g
-flow_once text f g h k =
-    let r = place_once text f.address g.address f.port g.port h k in
-    λ i. record { address = r.0 i; port = r.1 i }
+pub place_of_once : (text : List ℕ) (x y : Option IpAddr × ℕ) → IsPlaceOf text x → IsPlaceOf text y
+    → x ≡ y
+place_of_once text x y h k =
+    let r = place_once text x.0 y.0 x.1 y.1 h k in λ i. (r.0 i, r.1 i)
 
 -- a text without a colon is a port
-no_host_by : (text : List ℕ) (a : Option IpAddr) (port : ℕ) → All IsNoColon text
+no_host_by : (text : List ℕ) (a : Option IpAddr) (port : ℕ) → All (IsOther 58) text
     → IsPlaceText text a port → (a ≡ None) × IsPort text port
 no_host_by text None port none h = (refl, h)
 no_host_by text (Some a) port none h =
-    absurd (colon_in h.0 h.1 (subst (All IsNoColon) h.2 none))
+    absurd (mark_in 58 h.0 h.1 (subst (All (IsOther 58)) h.2 none))
 
-no_host : (text : List ℕ) (f : Flow) → All IsNoColon text → IsFlowText text f
-    → (f.address ≡ None) × IsPort text f.port
-no_host text f none h = no_host_by text f.address f.port none h
-
-pub no_port_alone : (text : List ℕ) → All IsNoColon text → Finds IsPort text None
-    → Finds IsFlowText text None
+pub no_port_alone : (text : List ℕ) → All (IsOther 58) text → Finds IsPort text None
+    → Finds IsPlaceOf text None
 no_port_alone text none ports =
-    missed IsFlowText text
-    (λ f h. not_none f.port (sym ((ports f.port).0 (no_host text f none h).1)))
+    missed IsPlaceOf text
+    (λ x h. not_none x.1 (sym ((ports x.1).0 (no_host_by text x.0 x.1 none h).1)))
 
 pub port_alone : (text : List ℕ) (port : ℕ) → Finds IsPort text (Some port)
-    → Finds IsFlowText text (Some (record { address = None; port = port }))
+    → Finds IsPlaceOf text (Some (None, port))
 port_alone text port ports =
-    found IsFlowText text (flow_once text) (record { address = None; port = port })
-    ((ports port).1 refl)
+    found IsPlaceOf text (place_of_once text) (None, port) ((ports port).1 refl)
 
 -- of a text with a colon, behind whose last one stand digits
 module _ (text host digits : List ℕ) (parts : text ≡ host ++ 58 ∷ digits)
-    (last : All IsNoColon digits) where
+    (last : All (IsOther 58) digits) where
   at_colon : (a : Option IpAddr) (port : ℕ) → IsPlaceText text a port
       → (b : IpAddr) × (a ≡ Some b) × IsHost host b × IsPort digits port
   at_colon None port h =
-      absurd (colon_in host digits (subst (All IsNoColon) parts (port_no_colon text port h)))
+      absurd (mark_in 58 host digits (subst (All (IsOther 58)) parts (port_no_colon text port h)))
   at_colon (Some b) port h =
       let r =
-      last_colon h.0 h.1 host digits (sym h.2 ∙ parts) (port_no_colon h.1 port h.4) last in
+      last_mark 58 h.0 h.1 host digits (sym h.2 ∙ parts) (port_no_colon h.1 port h.4) last in
       (b, refl, subst (λ t. IsHost t b) r.0 h.3, subst (λ t. IsPort t port) r.1 h.4)
 
-  pub no_host_found : Finds IsHost host None → Finds IsFlowText text None
+  pub no_host_found : Finds IsHost host None → Finds IsPlaceOf text None
   no_host_found hosts =
-      missed IsFlowText text
-      (λ f h. let r = at_colon f.address f.port h in not_none r.0 (sym ((hosts r.0).0 r.2)))
+      missed IsPlaceOf text
+      (λ x h. let r = at_colon x.0 x.1 h in not_none r.0 (sym ((hosts r.0).0 r.2)))
 
-  pub no_port_found : Finds IsPort digits None → Finds IsFlowText text None
+  pub no_port_found : Finds IsPort digits None → Finds IsPlaceOf text None
   no_port_found ports =
-      missed IsFlowText text
-      (λ f h. let r = at_colon f.address f.port h in not_none f.port (sym ((ports f.port).0 r.3)))
+      missed IsPlaceOf text
+      (λ x h. let r = at_colon x.0 x.1 h in not_none x.1 (sym ((ports x.1).0 r.3)))
 
   pub both_found : (a : IpAddr) (port : ℕ) → Finds IsHost host (Some a)
-      → Finds IsPort digits (Some port)
-      → Finds IsFlowText text (Some (record { address = Some a; port = port }))
+      → Finds IsPort digits (Some port) → Finds IsPlaceOf text (Some (Some a, port))
   both_found a port hosts ports =
-      found IsFlowText text (flow_once text) (record { address = Some a; port = port })
+      found IsPlaceOf text (place_of_once text) (Some a, port)
       (host, digits, parts, (hosts a).1 refl, (ports port).1 refl)
+
+-- ---- flows
+
+place_no_angle : (text : List ℕ) (a : Option IpAddr) (port : ℕ) → IsPlaceText text a port
+    → All IsNoAngle text
+place_no_angle text None port h = port_other 62 text port above_angle h
+place_no_angle text (Some a) port h =
+    subst (All IsNoAngle) (sym h.2)
+    (All-append IsNoAngle h.0 (codes ":" ++ h.1) (host_no_angle h.0 a h.3)
+    (All-append IsNoAngle (codes ":") h.1 (one_no_angle 58 no_colon_angle) (port_other 62 h.1 port above_angle h.4)))
+
+source_once : (text : List ℕ) (s t : Option IpAddr) (p q : Option IpAddr × ℕ)
+    → IsSourceText text s p → IsSourceText text t q → (s ≡ t) × (p ≡ q)
+source_once text None None p q h k = (refl, place_of_once text p q h k)
+source_once text None (Some t) p q h k =
+    absurd (mark_in 62 k.0 k.1 (subst (All IsNoAngle) k.2 (place_no_angle text p.0 p.1 h)))
+source_once text (Some s) None p q h k =
+    absurd (mark_in 62 h.0 h.1 (subst (All IsNoAngle) h.2 (place_no_angle text q.0 q.1 k)))
+source_once text (Some s) (Some t) p q h k =
+    let r =
+    last_mark 62 h.0 h.1 k.0 k.1 (sym h.2 ∙ k.2) (place_no_angle h.1 p.0 p.1 h.4)
+    (place_no_angle k.1 q.0 q.1 k.4) in (
+      ap Some (host_once h.0 s t h.3 (subst (λ x. IsHost x t) (sym r.0) k.3)),
+      place_of_once h.1 p q h.4 (subst (λ x. IsPlaceOf x q) (sym r.1) k.4),
+    )
+
+pub flow_once : (text : List ℕ) (f g : Flow) → IsFlowText text f → IsFlowText text g → f ≡ g
+flow_once text f g h k =
+    let r = source_once text f.source g.source (f.address, f.port) (g.address, g.port) h k in
+    λ i. record { source = r.0 i; address = (r.1 i).0; port = (r.1 i).1 }
+
+-- a text without > names no source
+no_source : (text : List ℕ) (s : Option IpAddr) (p : Option IpAddr × ℕ) → All IsNoAngle text
+    → IsSourceText text s p → (s ≡ None) × IsPlaceOf text p
+no_source text None p none h = (refl, h)
+no_source text (Some s) p none h =
+    absurd (mark_in 62 h.0 h.1 (subst (All IsNoAngle) h.2 none))
+
+pub no_place_alone : (text : List ℕ) → All IsNoAngle text → Finds IsPlaceOf text None
+    → Finds IsFlowText text None
+no_place_alone text none places =
+    missed IsFlowText text
+    (λ f h. let p : Option IpAddr × ℕ = (f.address, f.port) in
+    not_none p (sym ((places p).0 (no_source text f.source p none h).1)))
+
+pub place_alone : (text : List ℕ) (p : Option IpAddr × ℕ) → Finds IsPlaceOf text (Some p)
+    → Finds IsFlowText text (Some (record { source = None; address = p.0; port = p.1 }))
+place_alone text p places =
+    found IsFlowText text (flow_once text) (record { source = None; address = p.0; port = p.1 })
+    ((places p).1 refl)
+
+-- of a text with >, behind whose last one stands a place
+module _ (text host rest : List ℕ) (parts : text ≡ host ++ 62 ∷ rest)
+    (last : All IsNoAngle rest) where
+  at_angle : (s : Option IpAddr) (p : Option IpAddr × ℕ) → IsSourceText text s p
+      → (a : IpAddr) × (s ≡ Some a) × IsHost host a × IsPlaceOf rest p
+  at_angle None p h =
+      absurd (mark_in 62 host rest (subst (All IsNoAngle) parts (place_no_angle text p.0 p.1 h)))
+  at_angle (Some a) p h =
+      let r =
+      last_mark 62 h.0 h.1 host rest (sym h.2 ∙ parts) (place_no_angle h.1 p.0 p.1 h.4) last in
+      (a, refl, subst (λ t. IsHost t a) r.0 h.3, subst (λ t. IsPlaceOf t p) r.1 h.4)
+
+  pub no_source_found : Finds IsHost host None → Finds IsFlowText text None
+  no_source_found hosts =
+      missed IsFlowText text
+      (λ f h. let r = at_angle f.source (f.address, f.port) h in
+      not_none r.0 (sym ((hosts r.0).0 r.2)))
+
+  pub no_place_found : Finds IsPlaceOf rest None → Finds IsFlowText text None
+  no_place_found places =
+      missed IsFlowText text
+      (λ f h. let p : Option IpAddr × ℕ = (f.address, f.port) in
+      not_none p (sym ((places p).0 (at_angle f.source p h).3)))
+
+  pub source_found : (a : IpAddr) (p : Option IpAddr × ℕ) → Finds IsHost host (Some a)
+      → Finds IsPlaceOf rest (Some p)
+      → Finds IsFlowText text (Some (record { source = Some a; address = p.0; port = p.1 }))
+  source_found a p hosts places =
+      found IsFlowText text (flow_once text)
+      (record { source = Some a; address = p.0; port = p.1 })
+      (host, rest, parts, (hosts a).1 refl, (places p).1 refl)
 
 -- ---- what is read of hosts
 
@@ -284,9 +452,23 @@ place_again (Some a) port h small = (
   port_decimal port small,
 )
 
+source_again : (s a : Option IpAddr) (port : ℕ)
+    → IfSome s (λ ip. MatchIp ip IsIpv4Addr IsIpv6Addr)
+    → IsPlaceText (place_text a port) a port
+    → IsSourceText (source_text s ++ place_text a port) s (a, port)
+source_again None a port h place = place
+source_again (Some s) a port h place = (
+  host_text s,
+  place_text a port,
+  append_assoc (host_text s) (codes ">") (place_text a port),
+  host_again s h,
+  place,
+)
+
 pub flow_again : (f g : Flow) → IsFlow f → IsFlowText (flow_text f) g ↔ (g ≡ f)
 flow_again f g h =
-    let again : IsFlowText (flow_text f) f = place_again f.address f.port h.0 h.1 in (
+    let again : IsFlowText (flow_text f) f =
+    source_again f.source f.address f.port h.0 (place_again f.address f.port h.1 h.2) in (
       λ k. flow_once (flow_text f) g f k again,
       λ e. subst (IsFlowText (flow_text f)) (sym e) again,
     )

@@ -1,5 +1,5 @@
--- The texts of flows: PORT, or ADDRESS:PORT.
-use Rattle.std.specs.Prelude.{◌≡◌, ◌≢◌, ◌≤◌, ◌↔◌, ℕ, List, ◌++◌, codes, decimal, Option, Some, None}
+-- The texts of flows: PORT, or ADDRESS:PORT, and in front of either SOURCE>.
+use Rattle.std.specs.Prelude.{◌≡◌, ◌≢◌, ◌≤◌, ◌↔◌, ℕ, List, [], ◌++◌, codes, decimal, Option, Some, None}
 use Rattle.std.specs.declared.net.ip_addr.IpAddr.{IpAddr}
 use Rattle.std.specs.declared.net.ip_addr.IpAddr.TheVariants.{V4, V6}
 use Rattle.std.specs.Net.Addr.{ipv4_octets, ipv6_segments}
@@ -18,15 +18,26 @@ IsHost text (V4 a) = IsIpv4Text text a
 IsHost text (V6 a) =
     (inside : List ℕ) × (text ≡ codes "[" ++ inside ++ codes "]") × IsIpv6Text inside a
 
--- a text spells a flow
+-- a text spells where datagrams are sent to
 abbrev pub IsPlaceText : List ℕ → Option IpAddr → ℕ → Type 0
 IsPlaceText text None port = IsPort text port
 IsPlaceText text (Some a) port =
     (host digits : List ℕ) × (text ≡ host ++ (codes ":" ++ digits)) × IsHost host a
     × IsPort digits port
 
+abbrev pub IsPlaceOf : List ℕ → Option IpAddr × ℕ → Type 0
+IsPlaceOf text place = IsPlaceText text place.0 place.1
+
+-- and where they come from, where it names that (own)
+abbrev pub IsSourceText : List ℕ → Option IpAddr → Option IpAddr × ℕ → Type 0
+IsSourceText text None place = IsPlaceOf text place
+IsSourceText text (Some a) place =
+    (host rest : List ℕ) × (text ≡ host ++ (codes ">" ++ rest)) × IsHost host a
+    × IsPlaceOf rest place
+
+-- a text spells a flow
 abbrev pub IsFlowText : List ℕ → Flow → Type 0
-IsFlowText text f = IsPlaceText text f.address f.port
+IsFlowText text f = IsSourceText text f.source (f.address, f.port)
 
 -- What was found is what a text spells: it spells that value, and no other; or it spells none.
 abbrev pub Finds : {X : Type 0} → (List ℕ → X → Type 0) → List ℕ → Option X → Type 0
@@ -41,9 +52,13 @@ abbrev pub place_text : Option IpAddr → ℕ → List ℕ
 place_text None port = decimal port
 place_text (Some a) port = host_text a ++ codes ":" ++ decimal port
 
-abbrev pub flow_text : Flow → List ℕ
-flow_text f = place_text f.address f.port
+abbrev pub source_text : Option IpAddr → List ℕ
+source_text None = []
+source_text (Some a) = host_text a ++ codes ">"
 
--- an octet that is no colon
-abbrev pub IsNoColon : ℕ → Type 0
-IsNoColon octet = octet ≢ 58
+abbrev pub flow_text : Flow → List ℕ
+flow_text f = source_text f.source ++ place_text f.address f.port
+
+-- an octet that isn't a mark
+abbrev pub IsOther : ℕ → ℕ → Type 0
+IsOther mark octet = octet ≢ mark

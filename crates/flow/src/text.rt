@@ -1,8 +1,8 @@
 //! Flows as texts.
 ghost use Rattle.std.specs.Prelude.{◌≡◌, ◌↔◌, ◌∷◌, ◌++◌, ℕ, All, List, MatchOption, Some, codes};
 ghost use Rattle.std.specs.Option.{option_copied};
-ghost use Rattle.flow.specs.FlowText.{Finds, IsFlowText, IsHost, IsNoColon, IsPort};
-ghost use Rattle.flow.specs.FlowText.{flow_text};
+ghost use Rattle.flow.specs.FlowText.{Finds, IsFlowText, IsHost, IsOther, IsPlaceOf, IsPort};
+ghost use Rattle.flow.specs.FlowText.{flow_text, host_text};
 
 use crate::flows::Flow;
 use st_format::read_number;
@@ -42,14 +42,14 @@ fn read_host(text: &[u8]) -> Option<IpAddr>
     }
 }
 
-/// The text before the last colon and the text behind it; none where it has no colon.
-fn split_at_last_colon(text: &[u8]) -> Option<(&[u8], &[u8])>
-    ensures { MatchOption result (All IsNoColon text.now)
-        (λ p. (text.now ≡ p.0.now ++ 58 ∷ p.1.now) × All IsNoColon p.1.now) }
+/// The text before the last mark and the text behind it; none where it has no mark.
+fn split_at_last(text: &[u8], mark: u8) -> Option<(&[u8], &[u8])>
+    ensures { MatchOption result (All (IsOther mark) text.now)
+        (λ p. (text.now ≡ p.0.now ++ mark ∷ p.1.now) × All (IsOther mark) p.1.now) }
 {
     let mut rest = text;
     while let Some((last, less)) = rest.split_last() {
-        if *last == b':' {
+        if *last == mark {
             return Some((less, &text[rest.len()..]));
         }
         rest = less;
@@ -57,43 +57,80 @@ fn split_at_last_colon(text: &[u8]) -> Option<(&[u8], &[u8])>
     None
 }
 
-/// Reads a flow: `PORT`, as `5004`, or `ADDRESS:PORT`, as `239.1.1.1:5004` and `[ff3e::1]:5004`
-/// (square brackets: RFC 3986, 3.2.2; IPv6 addresses: RFC 4291, 2.2). A port is one to ten decimal
-/// digits, of which zeros may lead, of a value up to 65,535. An IPv4 address is four numbers
-/// without leading zeros. Any other text is none, also one whose address has a zone, as
-/// `[fe80::1%eth0]:5004`, or is a host's name.
-pub fn read_flow(text: &[u8]) -> Option<Flow>
-    ensures { Finds IsFlowText text.now result }
+/// Where datagrams are sent to: a port, or an address, a colon and a port.
+fn read_place(text: &[u8]) -> Option<(Option<IpAddr>, u16)>
+    ensures { Finds IsPlaceOf text.now result }
 {
-    match split_at_last_colon(text) {
+    match split_at_last(text, b':') {
         Some((host, port)) => {
             let address = read_host(host)?;
             let port = read_port(port)?;
-            Some(Flow {
-                address: Some(address),
-                port,
-            })
+            Some((Some(address), port))
         }
         None => {
             let port = read_port(text)?;
+            Some((None, port))
+        }
+    }
+}
+
+/// Reads a flow: `PORT`, as `5004`, or `ADDRESS:PORT`, as `239.1.1.1:5004` and `[ff3e::1]:5004`
+/// (square brackets: RFC 3986, 3.2.2; IPv6 addresses: RFC 4291, 2.2), and in front of either may
+/// stand `SOURCE>`, as in `192.0.2.1>239.1.1.1:5004` and `[fe80::1]>[ff3e::1]:5004`. A port is one
+/// to ten decimal digits, of which zeros may lead, of a value up to 65,535. An IPv4 address is
+/// four numbers without leading zeros. Any other text is none, also one whose address has a zone,
+/// as `[fe80::1%eth0]:5004`, or is a host's name.
+pub fn read_flow(text: &[u8]) -> Option<Flow>
+    ensures { Finds IsFlowText text.now result }
+{
+    match split_at_last(text, b'>') {
+        Some((host, rest)) => {
+            let source = read_host(host)?;
+            let place = read_place(rest)?;
             Some(Flow {
-                address: None,
-                port,
+                source: Some(source),
+                address: place.0,
+                port: place.1,
+            })
+        }
+        None => {
+            let place = read_place(text)?;
+            Some(Flow {
+                source: None,
+                address: place.0,
+                port: place.1,
             })
         }
     }
 }
 
-/// As [`read_flow`] reads it: `5004`, `239.1.1.1:5004`, `[ff3e::1]:5004`, the IPv6 address as RFC
-/// 5952 has it.
+/// An address as a flow's text has it, IPv6 addresses in square brackets.
+#[derive(Clone, Copy)]
+struct Host(IpAddr);
+
+impl fmt::Display for Host {
+    ghost output = { λ h. Some (host_text h.0) };
+
+    fn fmt<W: fmt::Write>(&self, f: &mut fmt::Formatter<W>) -> fmt::Result {
+        match self.0 {
+            IpAddr::V4(address) => write!(f, "{address}"),
+            IpAddr::V6(address) => write!(f, "[{address}]"),
+        }
+    }
+}
+
+/// As [`read_flow`] reads it: `5004`, `239.1.1.1:5004`, `[ff3e::1]:5004`,
+/// `192.0.2.1>239.1.1.1:5004`, IPv6 addresses as RFC 5952 has them.
 impl fmt::Display for Flow {
     ghost output = { λ f. Some (flow_text f) };
 
     fn fmt<W: fmt::Write>(&self, f: &mut fmt::Formatter<W>) -> fmt::Result {
-        match self.address {
-            None => write!(f, "{}", self.port),
-            Some(IpAddr::V4(address)) => write!(f, "{address}:{}", self.port),
-            Some(IpAddr::V6(address)) => write!(f, "[{address}]:{}", self.port),
+        let port = self.port;
+        match (self.source, self.address) {
+            (None, None) => write!(f, "{port}"),
+            (None, Some(to)) => write!(f, "{}:{port}", Host(to)),
+            (Some(from), None) => write!(f, "{}>{port}", Host(from)),
+            (Some(from), Some(to)) => write!(f, "{}>{}:{port}", Host(from), Host(to)),
         }
     }
 }

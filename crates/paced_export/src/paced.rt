@@ -3,7 +3,7 @@ ghost use Rattle.std.specs.Prelude.{◌≡◌, ◌≤◌, ◌<◌, ◌*◌, ◌^
 ghost use Rattle.std.specs.Prelude.{unwrap_or, vec_len};
 ghost use Rattle.std.specs.Option.{option_copied};
 ghost use Rattle.st_format.specs.History.{IsRead};
-ghost use Rattle.run_outcome.specs.Fault.{Accounts, counts};
+ghost use Rattle.run_outcome.specs.Fault.{Accounts, IfRefused, counts};
 ghost use Rattle.run_outcome.specs.Refusing.{OfRefusal};
 ghost use Rattle.export_engine.specs.ExportRefused.{IsReadRefusal};
 ghost use Rattle.paced_export.specs.Counts.{counted};
@@ -46,7 +46,7 @@ pub struct Pacing<'a> {
 /// A refusal: `ExportFlow` where a text is no flow to an address, before anything is read; then the
 /// first fault of the capture's front, of its SDP text, of its records, which are at most
 /// 16,777,216; and of the second reading. And else that a device failed or memory was wanted.
-/// Nothing is written before the first reading has ended.
+/// Nothing is written before the first reading has ended. Where it is refused nothing is printed.
 pub fn export_paced<A, S, K, O>(
     alloc: A,
     wanted: Pacing<'_>,
@@ -75,6 +75,7 @@ where
         (S.gave ahead.old) (S.gave ahead.new) (S.ended ahead.new)
         (S.gave capture.old) (S.gave capture.new) (S.ended capture.new)
         (K.took sink.old) (K.took sink.new)) }
+    ensures quiet { IfErr result (λ f. IfRefused f (output.new ≡ output.old)) }
     ensures failures { Accounts result (counts (S.failures ahead.old) (S.failures ahead.new)
         ∷ counts (S.failures capture.old) (S.failures capture.new)
         ∷ counts (K.failures sink.old) (K.failures sink.new)

@@ -36,6 +36,7 @@ pub use flow_table::FlowTable;
 pub use left_out::LeftOut;
 pub use noted::Noted;
 pub use number_set::{NumberSet, Run};
+pub use numbering::number_after;
 pub use omission::Omission;
 pub use packet::{Packet, StreamKey, TimestampKey};
 pub use path_count::{Came, PathCount};

@@ -59,7 +59,7 @@ pub enum Refusal {
     ImportSdp,
     /// A flow's words aren't a port, or an address and a port.
     ImportFlow,
-    /// Both paths have one address and port, and there aren't two recordings to tell them by.
+    /// Both paths have one flow, and there aren't two recordings to tell them by.
     ImportPlaces,
     /// Recordings have too many datagrams of the flows.
     ImportRecords,

@@ -6,7 +6,7 @@ use Rattle.st_format.specs.declared.format.FormatFault.{FormatFault}
 use Rattle.run_outcome.specs.declared.refusal.Refusal.{Refusal}
 use Rattle.run_outcome.specs.declared.refusal.Refusal.TheVariants.{Script}
 use Rattle.run_outcome.specs.declared.script_line.LineFault.TheVariants as line
-use Rattle.sdp_writing.specs.Written.{IsTextOf, legs, usual_description}
+use Rattle.sdp_writing.specs.Written.{IsTextOf, told_legs, usual_description}
 use Rattle.script_runs.specs.declared.announced.AnnouncedStream.{AnnouncedStream}
 
 -- An SDP text that says the stream was printed (RFC 8866; SMPTE ST 2110-20, SDP)
@@ -16,7 +16,7 @@ pub record Announces (stream : AnnouncedStream) (old new : List ℕ) : Type 0 wh
   pub text : List ℕ
   pub says : IsTextOf text
       (usual_description stream.payload_type (fields_of format) stream.a stream.b)
-      (legs stream.a stream.b)
+      (told_legs stream.a stream.b)
   pub printed : new ≡ old ++ text
 
 -- there is no such format: the refusal is that of a script's line

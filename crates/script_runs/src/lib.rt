@@ -13,7 +13,7 @@ mod writing;
 pub use announced::AnnouncedStream;
 pub use describing::SdpCommand;
 pub use rehearsing::RehearseCommand;
-pub use stream_words::read_stream;
+pub use stream_words::{read_format_word, read_stream};
 pub use streams::Streams;
 pub use text_reader::TextReader;
 pub use tracing::TraceCommand;

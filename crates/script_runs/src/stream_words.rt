@@ -20,14 +20,34 @@ fn read_format(text: &str) -> Option<Result<Format, FormatFault>>
     }
 }
 
+/// Reads the word of an option that is a format's, or why there is no such format. The error is a
+/// word that isn't of a format's form.
+pub fn read_format_word<'w>(
+    option: &'static str,
+    text: &'w str,
+) -> Result<Result<Format, FormatFault>, BadValue<'w>>
+    ensures { MatchResult result (λ r. IsFormatOf r (read_format text.now))
+        (λ _. IsNoFormat text.now) }
+{
+    match read_format(text) {
+        Some(format) => Ok(format),
+        None => Err(BadValue {
+            option,
+            value: text,
+            wanted: "sampling, depth, width, height and rate, as YCbCr-4:2:2 10 1920 1080 \
+                60000/1001",
+        }),
+    }
+}
+
 /// Reads where the datagrams of a path go: an address and a port.
 fn read_leg(text: &str) -> Option<Flow>
     ensures { MatchOption result (IsNoLeg text.now) (SaysLeg text.now) }
 {
     let flow = read_flow(text.as_bytes())?;
-    match flow.address {
-        Some(_) => Some(flow),
-        None => None,
+    match (flow.source, flow.address) {
+        (None, Some(_)) => Some(flow),
+        _ => None,
     }
 }
 
@@ -47,13 +67,7 @@ fn no_leg<'w>(option: &'static str, value: &'w str) -> BadValue<'w> {
 pub fn read_stream<'w>(words: &WriteWords<'w>) -> Result<AnnouncedStream, BadValue<'w>>
     ensures { MatchResult result (SaysStream words.now) (λ _. IsNoStream words.now) }
 {
-    let Some(format) = read_format(words.format) else {
-        return Err(BadValue {
-            option: "--write <S B W H N/D>",
-            value: words.format,
-            wanted: "sampling, depth, width, height and rate, as YCbCr-4:2:2 10 1920 1080 60000/1001",
-        });
-    };
+    let format = read_format_word("--write <S B W H N/D>", words.format)?;
     let Some(a) = read_leg(words.a) else {
         return Err(no_leg("--a <ADDR:PORT>", words.a));
     };

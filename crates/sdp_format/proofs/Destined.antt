@@ -21,11 +21,12 @@ use Rattle.sdp_format.specs.declared.flows_fault.FlowsFault.TheVariants.{BadConn
 use Rattle.sdp_format.specs.Bytes.{front, trim_end}
 use Rattle.sdp_format.specs.Destinations.{IsConnectionText, IsConnection, IsAddressOf, NamesNone}
 use Rattle.sdp_format.specs.Destinations.{IsFlowOf, IsFlowFault, SectionsFault, connection_of}
-use Rattle.sdp_format.specs.Destinations.{flows_seen}
+use Rattle.sdp_format.specs.Destinations.{IsSourceOf, flows_seen}
 use Rattle.sdp_format.specs.Reading.{media_of}
 use Rattle.sdp_format.specs.Sections.{Section}
 use Rattle.sdp_format.proofs.LineForms.{media_says, says_media, media_once}
 use Rattle.sdp_format.proofs.Said.{not_none}
+use Rattle.sdp_format.proofs.Sources.{sent_from_once}
 
 -- ---- lines
 
@@ -129,7 +130,10 @@ module _ (lines : List (List ℕ)) (s : Section) where
   flow_once f g h k =
       let port = (media_once s.media f.port h.0.0 g.port k.0.0 h.0.1 k.0.1).0 in
       let address = address_once (connection_of lines s) f.address g.address h.1 k.1 in
-      λ i. record { address = address i; port = port i }
+      let source =
+      sent_from_once lines s f.address f.source g.source h.2
+      (subst (λ (a : Option IpAddr). IsSourceOf lines s a g.source) (sym address) k.2) in
+      λ i. record { source = source i; address = address i; port = port i }
 
   not_both : (f : Flow) (e : FlowsFault) → IsFlowOf lines s f → IsFlowFault lines s e → ⊥
   not_both f NoVideo h k = k
@@ -180,18 +184,20 @@ module _ (lines : List (List ℕ)) (s : Section) where
       (λ port type is. not_none (port, type) (sym (says_media s.media port type is) ∙ e))
 
   pub nowhere : (m : ℕ × ℕ) → media_of s.media ≡ Some m → connection_of lines s ≡ None
-      → IsSectionRead lines s (Ok (record { address = None; port = m.0 }))
+      → IsSectionRead lines s (Ok (record { source = None; address = None; port = m.0 }))
   nowhere m e none =
-      flow_read (record { address = None; port = m.0 })
-      ((m.1, media_says s.media m e), subst (λ o. IsAddressOf o None) (sym none) tt)
+      flow_read (record { source = None; address = None; port = m.0 })
+      ((m.1, media_says s.media m e), subst (λ o. IsAddressOf o None) (sym none) tt, refl)
 
-  pub somewhere : (m : ℕ × ℕ) (line : List ℕ) (a : IpAddr) → media_of s.media ≡ Some m
-      → connection_of lines s ≡ Some line → Finds IsConnection line (Some a)
-      → IsSectionRead lines s (Ok (record { address = Some a; port = m.0 }))
-  somewhere m line a e counts names =
-      flow_read (record { address = Some a; port = m.0 }) (
+  pub somewhere : (m : ℕ × ℕ) (line : List ℕ) (a : IpAddr) (source : Option IpAddr)
+      → media_of s.media ≡ Some m → connection_of lines s ≡ Some line
+      → Finds IsConnection line (Some a) → IsSourceOf lines s (Some a) source
+      → IsSectionRead lines s (Ok (record { source = source; address = Some a; port = m.0 }))
+  somewhere m line a source e counts names from =
+      flow_read (record { source = source; address = Some a; port = m.0 }) (
         (m.1, media_says s.media m e),
         subst (λ o. IsAddressOf o (Some a)) (sym counts) ((names a).1 refl),
+        from,
       )
 
   pub bad_connection : (m : ℕ × ℕ) (line : List ℕ) → media_of s.media ≡ Some m

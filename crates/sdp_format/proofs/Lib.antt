@@ -17,4 +17,5 @@ pub mod SectionFaults
 pub mod TextFaults
 pub mod BackAgain
 pub mod Places
+pub mod Sources
 pub mod Destined

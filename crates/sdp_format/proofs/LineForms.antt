@@ -78,7 +78,7 @@ off_by : (b : ℕ) (bs core spaces : List ℕ) → bs ≡ core ++ spaces → lis
 off_by b bs [] spaces e a = blank_by b bs spaces (is_space b) refl e a
 off_by b bs (c ∷ cs) spaces e a = (spaces, ap (λ zs. b ∷ zs) e, a)
 
-trim_off : (line : List ℕ)
+pub trim_off : (line : List ℕ)
     → (off : List ℕ) × (line ≡ trim_end line ++ off) × (list_all is_space off ≡ true)
 trim_off [] = ([], refl, refl)
 trim_off (b ∷ bs) = let r = trim_off bs in off_by b bs (trim_end bs) r.0 r.1 r.2

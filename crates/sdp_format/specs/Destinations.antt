@@ -1,19 +1,21 @@
--- Where the datagrams of a text's video sections are sent to: the port of a section's line m= and
--- the address of its line c= (RFC 8866, 5.7 and 5.14). Which line c= counts, the spelling and the
--- order of the faults are own.
+-- Where the datagrams of a text's video sections are sent to, and where they come from: the port of
+-- a section's line m= and the address of its line c= (RFC 8866, 5.7 and 5.14), and the source of
+-- its line a=source-filter (RFC 4570, 3). Which of these lines counts, the spelling and the order
+-- of the faults are own.
 use Rattle.std.specs.Prelude.{◌≡◌, ◌⊎◌, ℕ, if◌then◌else◌, List, [], ◌∷◌, ◌++◌, codes}
 use Rattle.std.specs.Prelude.{Option, Some, None, Result, Ok, Err}
 use Rattle.std.specs.Option.{option_or}
 use Rattle.std.specs.declared.net.ip_addr.IpAddr.{IpAddr}
 use Rattle.std.specs.declared.net.ip_addr.IpAddr.TheVariants.{V4, V6}
-use Rattle.std.specs.Net.Grammar.{IsIpv4Text, IsIpv6Text}
+use Rattle.std.specs.Net.Grammar.{IsIpText, IsIpv4Text, IsIpv6Text}
 use Rattle.arrayvec.specs.ArrayVec.{ArrayVec}
+use Rattle.flow.specs.FlowText.{Finds}
 use Rattle.flow.specs.declared.flows.Flow.{Flow}
 use Rattle.sdp_format.specs.declared.flows_fault.FlowsFault.{FlowsFault}
 use Rattle.sdp_format.specs.declared.flows_fault.FlowsFault.TheVariants.{NoVideo, TooManyLegs}
 use Rattle.sdp_format.specs.declared.flows_fault.FlowsFault.TheVariants.{BadMediaLine}
 use Rattle.sdp_format.specs.declared.flows_fault.FlowsFault.TheVariants.{BadConnection}
-use Rattle.sdp_format.specs.Bytes.{begins_with, front, trim_end}
+use Rattle.sdp_format.specs.Bytes.{begins_with, behind, front, trim_end}
 use Rattle.sdp_format.specs.Sections.{Section, section_lines, video_sections}
 use Rattle.sdp_format.specs.Grammar.{IsMediaLine}
 
@@ -42,6 +44,44 @@ IsConnectionText text (V6 a) =
 abbrev pub IsConnection : List ℕ → IpAddr → Type 0
 IsConnection line a = IsConnectionText (front 47 (trim_end line)) a
 
+-- the words before the destination in a line that includes sources, of the address' own type (RFC
+-- 4570, 3)
+abbrev pub filter_word : IpAddr → List ℕ
+filter_word (V4 a) = codes "a=source-filter: incl IN IP4 "
+filter_word (V6 a) = codes "a=source-filter: incl IN IP6 "
+
+-- the destination of such a line is this address, or any
+abbrev pub IsDestination : List ℕ → IpAddr → Type 0
+IsDestination text address = (text ≡ codes "*") ⊎ IsIpText text address
+
+-- A line includes these sources alone, of datagrams to an address: behind the words stand the
+-- destination, a space and the sources; spaces and tabs at its end aside.
+pub record IsFilter (line : List ℕ) (address : IpAddr) (sources : List ℕ) : Type 0 where
+  pub rest : List ℕ
+  pub spelled : trim_end line ≡ filter_word address ++ rest
+  pub destined : IsDestination (front 32 rest) address
+  pub listed : behind 32 rest ≡ Some sources
+
+-- the sources of the first of these lines that includes any; none where no line does
+abbrev pub IsFirstFilter : List (List ℕ) → IpAddr → Option (List ℕ) → Type 0
+IsFirstFilter [] address listed = listed ≡ None
+IsFirstFilter (l ∷ ls) address listed =
+    ((sources : List ℕ) × IsFilter l address sources × (listed ≡ Some sources))
+    ⊎ (((sources : List ℕ) → IsFilter l address sources → ⊥) × IsFirstFilter ls address listed)
+
+-- a text is one address, of the type of another
+abbrev pub IsSource : IpAddr → List ℕ → IpAddr → Type 0
+IsSource (V4 address) text (V4 source) = IsIpv4Text text source
+IsSource (V4 address) text (V6 source) = ⊥
+IsSource (V6 address) text (V4 source) = ⊥
+IsSource (V6 address) text (V6 source) = IsIpv6Text text source
+
+-- the one source that is listed; none where no line lists any, or the line lists several, or a
+-- host's name
+abbrev pub IsOneSource : IpAddr → Option (List ℕ) → Option IpAddr → Type 0
+IsOneSource address None source = source ≡ None
+IsOneSource address (Some listed) source = Finds (IsSource address) listed source
+
 -- SECTIONS
 
 -- the line that counts names this address, or there is none of both
@@ -56,11 +96,19 @@ abbrev pub NamesNone : Option (List ℕ) → Type 0
 NamesNone None = ⊥
 NamesNone (Some line) = (a : IpAddr) → IsConnection line a → ⊥
 
--- where a section is sent to
+-- the source of the datagrams that a section sends to an address: by its own lines, else by those
+-- of the session; none where it names no address
+abbrev pub IsSourceOf : List (List ℕ) → Section → Option IpAddr → Option IpAddr → Type 0
+IsSourceOf lines s None source = source ≡ None
+IsSourceOf lines s (Some address) source =
+    (listed : Option (List ℕ)) × IsFirstFilter (s.lines ++ section_lines lines) address listed
+    × IsOneSource address listed source
+
+-- where a section is sent to, and where from
 abbrev pub IsFlowOf : List (List ℕ) → Section → Flow → Type 0
 IsFlowOf lines s f =
     ((payload_type : ℕ) × IsMediaLine s.media f.port payload_type)
-    × IsAddressOf (connection_of lines s) f.address
+    × IsAddressOf (connection_of lines s) f.address × IsSourceOf lines s f.address f.source
 
 -- the fault of a section
 abbrev pub IsFlowFault : List (List ℕ) → Section → FlowsFault → Type 0

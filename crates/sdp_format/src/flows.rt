@@ -1,5 +1,5 @@
-//! Where the video of a text is sent to.
-ghost use Rattle.std.specs.Prelude.{◌≡◌, ◌≢◌, ◌↔◌, ◌∷◌, ◌++◌, [], ℕ, Err, List, MatchOption, Ok};
+//! Where the video of a text is sent to, and where from.
+ghost use Rattle.std.specs.Prelude.{◌≡◌, ◌↔◌, ◌∷◌, [], Err, List, Ok};
 ghost use Rattle.std.specs.Option.{option_copied};
 ghost use Rattle.sdp_format.specs.Bytes.{lines, split_lines_left};
 ghost use Rattle.sdp_format.specs.Destinations.{AreFlows, IsConnection, IsFlowFault};
@@ -15,7 +15,8 @@ ghost use Rattle.sdp_format.specs.declared.flows_fault.FlowsFault.{FlowsFault as
 use crate::flows_fault::FlowsFault;
 use crate::lines::{begins, media_of, next_line, next_video};
 use crate::sdp::VideoSection;
-use crate::text::{cut, trim_end};
+use crate::source::source_of;
+use crate::text::{after_word, cut, trim_end};
 use arrayvec::ArrayVec;
 use flow::Flow;
 use std::net::{IpAddr, Ipv4Addr, Ipv6Addr};
@@ -51,14 +52,6 @@ fn connection_of<'a>(text: &'a [u8], section: VideoSection<'a>) -> Option<&'a [u
     }
 }
 
-/// The text behind a word, where it begins so.
-fn after_word<'a>(text: &'a [u8], word: &[u8]) -> Option<&'a [u8]>
-    ensures { MatchOption result ((rest : List ℕ) → text.now ≢ word.now ++ rest)
-        (λ rest. text.now ≡ word.now ++ rest.now) }
-{
-    text.strip_prefix(word)
-}
-
 /// The address that a line `c=` names.
 fn read_connection(line: &[u8]) -> Option<IpAddr>
     ensures { Finds IsConnection line.now result }
@@ -79,7 +72,7 @@ fn read_connection(line: &[u8]) -> Option<IpAddr>
     }
 }
 
-/// Where a section is sent to.
+/// Where a section is sent to, and where from.
 fn flow_of<'a>(text: &'a [u8], section: VideoSection<'a>) -> Result<Flow, FlowsFault>
     ensures flow { (f : Place) → (IsFlowOf (lines text.now) (section_at section.entry) f
         ↔ (result ≡ Ok f)) }
@@ -91,12 +84,14 @@ fn flow_of<'a>(text: &'a [u8], section: VideoSection<'a>) -> Result<Flow, FlowsF
     };
     let Some(line) = connection_of(text, section) else {
         return Ok(Flow {
+            source: None,
             address: None,
             port,
         });
     };
     match read_connection(line) {
         Some(address) => Ok(Flow {
+            source: source_of(text, section, address),
             address: Some(address),
             port,
         }),
@@ -140,15 +135,21 @@ fn two<'a>(
     Ok(flows)
 }
 
-/// Reads where the video of an SDP text is sent to (RFC 8866, 5.7 and 5.14): a flow for each of
-/// its one or two video sections, in the order of the text, which [`crate::read_sdp`] sees too;
-/// the first is path A's, the second path B's.
+/// Reads where the video of an SDP text is sent to and comes from (RFC 8866, 5.7 and 5.14; RFC
+/// 4570, 3): a flow for each of its one or two video sections, in the order of the text, which
+/// [`crate::read_sdp`] sees too; the first is path A's, the second path B's.
 ///
 /// The port is that of the section's line `m=`. The address is that of the section's first line
 /// `c=`, else of the session's, the first that stands before the first section of any kind; where
 /// there is none of both, the flow names no address. Such a line is `c=IN IP4 ADDRESS` or `c=IN
 /// IP6 ADDRESS`, with spaces and tabs at its end; what follows from its first `/` on, a time to
 /// live or a count, is passed over.
+///
+/// The source is the one that the section's first line `a=source-filter` includes for that address,
+/// else the session's first. Such a line is `a=source-filter: incl IN IP4 DESTINATION SOURCE`, or
+/// `IP6` where the address is of IPv6, with spaces and tabs at its end; the destination is the
+/// address or `*`. Where the line that counts has several sources, or a host's name, the flow names
+/// no source. A line of another form is passed over.
 ///
 /// The error is the first fault of the text: `NoVideo`, `TooManyLegs`, then `BadMediaLine` and
 /// `BadConnection` of the first section, and those of the second. `BadConnection` comes where the

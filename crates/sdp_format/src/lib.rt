@@ -15,6 +15,7 @@ mod parameters;
 mod place;
 mod read;
 mod sdp;
+mod source;
 mod text;
 
 pub use canonical::fmtp_text;

@@ -11,7 +11,7 @@ use Rattle.st_format.specs.declared.sampling.Depth.{Depth}
 use Rattle.st_format.specs.declared.sampling.Depth.TheVariants.{D8, D10, D12, D16}
 use Rattle.st_format.specs.Words.{sampling_text}
 use Rattle.flow.specs.declared.flows.Flow.{Flow}
-use Rattle.flow.specs.Flow.{IsFlow}
+use Rattle.sdp_writing.specs.Written.{IsTold}
 use Rattle.sdp_format.specs.declared.sdp.Range.{Range}
 use Rattle.sdp_format.specs.declared.sdp.Range.TheVariants.{Narrow, FullProtect, Full}
 use Rattle.sdp_format.specs.Back.{IsLeg}
@@ -140,17 +140,17 @@ parameters_in_line l k =
 
 module _ (payload_type : ℕ) (parameters : List ℕ) (few : payload_type ≤ 127)
     (whole : IsOneLine parameters) where
-  pub leg_in_line : (leg : Flow) (name : List ℕ) → IsFlow leg → IsOneLine (codes "a=mid:" ++ name)
+  pub leg_in_line : (leg : Flow) (name : List ℕ) → IsTold leg → IsOneLine (codes "a=mid:" ++ name)
       → AreOneLine (leg_lines payload_type parameters leg name)
   leg_in_line leg name is named = (
-    media_in_line payload_type leg.port few is.1,
+    media_in_line payload_type leg.port few is.2,
     one_line-append (connection_lines leg.address)
         (map_line payload_type ∷ parameters ∷ (codes "a=mid:" ++ name) ∷ [])
-        (connection_one_line leg.address is.0)
+        (connection_one_line leg.address is.1)
         (map_in_line payload_type few, (whole, (named, tt))),
   )
 
-  pub sdp_in_line : (a : Flow) (b : Option Flow) → IsFlow a → IfSome b IsFlow
+  pub sdp_in_line : (a : Flow) (b : Option Flow) → IsTold a → IfSome b IsTold
       → AreOneLine (sdp_lines payload_type parameters a b)
   sdp_in_line a None is second =
       one_line-append session_lines (leg_lines payload_type parameters a (codes "A"))

@@ -4,7 +4,7 @@ use Rattle.std.proofs.Common.{arith, decimal, Option, Some, None}
 use Rattle.std.specs.Prelude.{IfSome}
 use Rattle.std.specs.List.{AllZip}
 use Rattle.flow.specs.declared.flows.Flow.{Flow}
-use Rattle.flow.specs.Flow.{IsFlow}
+use Rattle.sdp_writing.specs.Written.{IsTold}
 use Rattle.sdp_format.specs.Back.{HasLine, ReadsBack}
 use Rattle.sdp_format.specs.Bytes.{lines}
 use Rattle.sdp_format.specs.Canonical.{canonical_line}
@@ -17,7 +17,7 @@ use Rattle.sdp_format.proofs.BackAgain.{leg_of_sdp}
 use Rattle.sdp_format.proofs.Law.{canonical_spelled}
 use Rattle.sdp_format.proofs.SpelledItems.{spelled, said_items}
 use Rattle.sdp_writing.specs.Lines.{text_of}
-use Rattle.sdp_writing.specs.Written.{legs, ports, sdp_lines}
+use Rattle.sdp_writing.specs.Written.{ports, sdp_lines, told_legs}
 use Rattle.sdp_writing.proofs.OneLines.{parameters_in_line, sdp_in_line}
 use Rattle.sdp_writing.proofs.Sections.{all_have_line, all_sent}
 use Rattle.sdp_writing.proofs.Splits.{lines_of_text}
@@ -26,7 +26,7 @@ some_ports : (a : Flow) (b : Option Flow) → (0 < length (ports a b)) × (lengt
 some_ports a None = (omega arith, omega arith)
 some_ports a (Some b) = (omega arith, omega arith)
 
-module _ (s : Sdp) (a : Flow) (b : Option Flow) (is : IsFlow a) (second : IfSome b IsFlow) where
+module _ (s : Sdp) (a : Flow) (b : Option Flow) (is : IsTold a) (second : IfSome b IsTold) where
   abbrev written : List ℕ
   written = text_of (sdp_lines s.payload_type (canonical_line (description s).leg) a b)
 
@@ -73,8 +73,8 @@ module _ (s : Sdp) (a : Flow) (b : Option Flow) (is : IsFlow a) (second : IfSome
 
   pub sent_again : AreFlows
       (lines (text_of (sdp_lines s.payload_type (canonical_line (description s).leg) a b)))
-      (legs a b)
+      (told_legs a b)
   sent_again =
-      subst (λ (ls : List (List ℕ)). AreFlows ls (legs a b)) (sym read_lines)
+      subst (λ (ls : List (List ℕ)). AreFlows ls (told_legs a b)) (sym read_lines)
       (all_sent s.payload_type (canonical_line (description s).leg) tail
       (canonical_spelled (description s).leg) a b s.small_type is second)

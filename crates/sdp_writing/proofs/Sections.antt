@@ -1,8 +1,9 @@
 -- The sections of a text that is written: each has the line of the parameters, and names its leg.
 use Rattle.std.proofs.Common.{◌≡◌, ℕ, ◌<◌, ◌≤◌, ◌^◌, false, List, [], ◌∷◌, ◌++◌}
 use Rattle.std.proofs.Common.{get_or, refl, ap, ◌∙◌, sym, subst, arith, codes, decimal}
-use Rattle.std.proofs.Common.{append_assoc, Option, Some, None}
-use Rattle.std.specs.Prelude.{IfSome}
+use Rattle.std.proofs.Common.{append_assoc, Option, Some, None, inl, inr}
+use Rattle.std.specs.Prelude.{◌==◌, ◌≢◌, IfSome}
+use Rattle.std.proofs.lemmas.Bool.Decides.{nat_tests}
 use Rattle.std.specs.List.{AllZip}
 use Rattle.std.specs.Option.{option_or}
 use Rattle.std.proofs.lemmas.List.{append-nil}
@@ -10,17 +11,23 @@ use Rattle.std.proofs.lemmas.List.Elements.{All-nil, All-cons}
 use Rattle.std.specs.declared.net.ip_addr.IpAddr.{IpAddr}
 use Rattle.std.specs.declared.net.ip_addr.IpAddr.TheVariants.{V4, V6}
 use Rattle.flow.specs.declared.flows.Flow.{Flow}
-use Rattle.flow.specs.Flow.{IsFlow}
+use Rattle.sdp_writing.specs.Written.{IsTold}
 use Rattle.sdp_format.specs.Back.{HasLine}
 use Rattle.sdp_format.specs.Bytes.{begins_with, trimmed}
-use Rattle.sdp_format.specs.Destinations.{AreFlows, IsAddressOf, IsFlowOf, SectionsFlows}
+use Rattle.sdp_format.specs.Destinations.{AreFlows, IsAddressOf, IsFlowOf, IsSourceOf, SectionsFlows}
 use Rattle.sdp_format.specs.Destinations.{first_connection}
 use Rattle.sdp_format.specs.Grammar.{HasNone, IsAttribute, IsMediaLine}
 use Rattle.sdp_format.specs.Sections.{Section, section_lines, video_sections}
 use Rattle.sdp_format.proofs.Again.{number_decimal}
-use Rattle.sdp_writing.specs.Written.{connection_line, connection_lines, leg_lines, legs, map_line}
-use Rattle.sdp_writing.specs.Written.{media_line, ports, sdp_lines}
+use Rattle.sdp_format.proofs.Sources.{BeginOther, begin_other_both, none_first}
+use Rattle.sdp_writing.specs.Written.{connection_line, connection_lines, leg_lines, map_line}
+use Rattle.sdp_writing.specs.Written.{media_line, ports, sdp_lines, session_lines, told, told_legs}
 use Rattle.sdp_writing.proofs.Connections.{IsAddress, connection_named}
+
+-- ---- octets that differ
+
+unequal : (m n : ℕ) → (m == n) ≡ false → m ≢ n
+unequal m n e = λ same. grind (arith, nat_tests)
 
 -- ---- lines that begin no section
 
@@ -179,12 +186,39 @@ module _ (payload_type : ℕ) (rest : List ℕ) where
   is_address ls (Some (V4 a)) name behind session none is = connection_named (V4 a) is
   is_address ls (Some (V6 a)) name behind session none is = connection_named (V6 a) is
 
+  -- no line of it is a filter
+  named_unlike : (name : List ℕ) → BeginOther (named_lines name)
+  named_unlike name =
+      (inr (unequal 114 115 refl), (inr (unequal 102 115 refl), (inr (unequal 109 115 refl), tt)))
+
+  unlike : (address : Option IpAddr) (name : List ℕ)
+      → BeginOther (connection_lines address ++ named_lines name)
+  unlike None name = named_unlike name
+  unlike (Some (V4 a)) name = (inl (unequal 99 97 refl), named_unlike name)
+  unlike (Some (V6 a)) name = (inl (unequal 99 97 refl), named_unlike name)
+
+  no_source : (ls : List (List ℕ)) (address : Option IpAddr) (port : ℕ) (name : List ℕ)
+      (behind : List (List ℕ)) → BeginOther (section_lines ls) → BeginOther behind
+      → IsSourceOf ls (section_of (record { source = None; address = address; port = port }) name
+      behind) address None
+  no_source ls None port name behind before after = refl
+  no_source ls (Some a) port name behind before after =
+      let own = connection_lines (Some a) ++ named_lines name in (
+        None,
+        none_first ((own ++ behind) ++ section_lines ls) a
+            (begin_other_both (own ++ behind) (section_lines ls)
+            (begin_other_both own behind (unlike (Some a) name) after) before),
+        refl,
+      )
+
   is_flow : (ls : List (List ℕ)) (leg : Flow) (name : List ℕ) (behind : List (List ℕ))
       → first_connection (section_lines ls) ≡ None → first_connection behind ≡ None
-      → payload_type ≤ 127 → IsFlow leg → IsFlowOf ls (section_of leg name behind) leg
-  is_flow ls leg name behind session none few is = (
-    (payload_type, is_media leg few is.1),
-    is_address ls leg.address name behind session none is.0,
+      → BeginOther (section_lines ls) → BeginOther behind → payload_type ≤ 127 → IsTold leg
+      → IsFlowOf ls (section_of leg name behind) (told leg)
+  is_flow ls leg name behind session none before after few is = (
+    (payload_type, is_media leg few is.2),
+    is_address ls leg.address name behind session none is.1,
+    no_source ls leg.address leg.port name behind before after,
   )
 
   -- ---- the sections of a text
@@ -208,28 +242,43 @@ module _ (payload_type : ℕ) (rest : List ℕ) where
       ∙ ap (λ (ss : List Section). section_of a (codes "A") [] ∷ ss)
       (leg_section b (codes "B") ([] ∷ []))
 
-  lines_had : (a : Flow) (b : Option Flow) → payload_type ≤ 127 → IsFlow a → IfSome b IsFlow
+  lines_had : (a : Flow) (b : Option Flow) → payload_type ≤ 127 → IsTold a → IfSome b IsTold
       → AllZip (λ s port. HasLine s parameters payload_type port) (sections_of a b) (ports a b)
-  lines_had a None few is second = (has_line a (codes "A") ([] ∷ []) few is.1, tt)
+  lines_had a None few is second = (has_line a (codes "A") ([] ∷ []) few is.2, tt)
   lines_had a (Some b) few is second = (
-    has_line a (codes "A") [] few is.1,
-    (has_line b (codes "B") ([] ∷ []) few second.1, tt),
+    has_line a (codes "A") [] few is.2,
+    (has_line b (codes "B") ([] ∷ []) few second.2, tt),
   )
 
-  flows_had : (a : Flow) (b : Option Flow) → payload_type ≤ 127 → IsFlow a → IfSome b IsFlow
-      → SectionsFlows (read_lines a b) (sections_of a b) (legs a b)
+  session_before : BeginOther session_lines
+  session_before = (
+    inl (unequal 118 97 refl),
+    (inl (unequal 111 97 refl), (inl (unequal 115 97 refl), (inl (unequal 116 97 refl), tt))),
+  )
+
+  group_before : BeginOther (session_lines ++ codes "a=group:DUP A B" ∷ [])
+  group_before =
+      begin_other_both session_lines (codes "a=group:DUP A B" ∷ []) session_before
+      (inr (unequal 103 115 refl), tt)
+
+  empty_after : BeginOther ([] ∷ [])
+  empty_after = (inl (unequal 0 97 refl), tt)
+
+  flows_had : (a : Flow) (b : Option Flow) → payload_type ≤ 127 → IsTold a → IfSome b IsTold
+      → SectionsFlows (read_lines a b) (sections_of a b) (told_legs a b)
   flows_had a None few is second =
-      is_flow (read_lines a None) a (codes "A") ([] ∷ []) refl refl few is
+      is_flow (read_lines a None) a (codes "A") ([] ∷ []) refl refl session_before empty_after few is
   flows_had a (Some b) few is second = (
-    is_flow (read_lines a (Some b)) a (codes "A") [] refl refl few is,
-    is_flow (read_lines a (Some b)) b (codes "B") ([] ∷ []) refl refl few second,
+    is_flow (read_lines a (Some b)) a (codes "A") [] refl refl group_before tt few is,
+    is_flow (read_lines a (Some b)) b (codes "B") ([] ∷ []) refl refl group_before empty_after few
+        second,
   )
 
 -- ---- of any line of parameters that begins so
 
 module _ (payload_type : ℕ) (line rest : List ℕ) (begins : line ≡ codes "a=fmtp:" ++ rest)
-    (a : Flow) (b : Option Flow) (few : payload_type ≤ 127) (is : IsFlow a)
-    (second : IfSome b IsFlow) where
+    (a : Flow) (b : Option Flow) (few : payload_type ≤ 127) (is : IsTold a)
+    (second : IfSome b IsTold) where
   pub all_have_line : AllZip (λ s port. HasLine s line payload_type port)
       (video_sections (sdp_lines payload_type line a b ++ [] ∷ [])) (ports a b)
   all_have_line =
@@ -242,13 +291,13 @@ module _ (payload_type : ℕ) (line rest : List ℕ) (begins : line ≡ codes "a
       ss (ports a b)) (sym (sections_read payload_type rest a b))
       (lines_had payload_type rest a b few is second))
 
-  pub all_sent : AreFlows (sdp_lines payload_type line a b ++ [] ∷ []) (legs a b)
+  pub all_sent : AreFlows (sdp_lines payload_type line a b ++ [] ∷ []) (told_legs a b)
   all_sent =
       subst
-      (λ (p : List ℕ). AreFlows (sdp_lines payload_type p a b ++ [] ∷ []) (legs a b))
+      (λ (p : List ℕ). AreFlows (sdp_lines payload_type p a b ++ [] ∷ []) (told_legs a b))
       (sym begins)
       (subst
       (λ (ss : List Section). SectionsFlows
-      (sdp_lines payload_type (codes "a=fmtp:" ++ rest) a b ++ [] ∷ []) ss (legs a b))
+      (sdp_lines payload_type (codes "a=fmtp:" ++ rest) a b ++ [] ∷ []) ss (told_legs a b))
       (sym (sections_read payload_type rest a b))
       (flows_had payload_type rest a b few is second))

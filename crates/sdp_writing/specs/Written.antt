@@ -2,12 +2,13 @@
 -- order, of those that RFC 8866, 5 and 6, RFC 7104, 4 (the legs), and SMPTE ST 2110-20, SDP, let
 -- stand.
 use Rattle.std.specs.Prelude.{ℕ, ◌&&◌, nat_le, if◌then◌else◌, List, [], ◌∷◌, ◌++◌, codes, decimal}
-use Rattle.std.specs.Prelude.{slice_index, Option, Some, None}
+use Rattle.std.specs.Prelude.{map, slice_index, Option, Some, None}
 use Rattle.std.specs.declared.net.ip_addr.IpAddr.{IpAddr}
 use Rattle.std.specs.declared.net.ip_addr.IpAddr.TheVariants.{V4, V6}
 use Rattle.std.specs.Net.Addr.{ipv4_octets, ipv6_segments}
 use Rattle.std.specs.Net.Text.{ipv4_text, ipv6_text}
 use Rattle.st_format.specs.Fields.{Fields}
+use Rattle.flow.specs.Flow.{IsFlow}
 use Rattle.flow.specs.declared.flows.Flow.{Flow}
 use Rattle.sdp_format.specs.declared.sdp.Range.TheVariants.{Narrow}
 use Rattle.sdp_format.specs.Bytes.{lines}
@@ -70,6 +71,17 @@ legs a (Some b) = a ∷ b ∷ []
 abbrev pub ports : Flow → Option Flow → List ℕ
 ports a None = a.port ∷ []
 ports a (Some b) = a.port ∷ b.port ∷ []
+
+-- A leg as its section tells it: no line tells a source.
+abbrev pub told : Flow → Flow
+told leg = record leg { source = None }
+
+-- what the type keeps of it
+abbrev pub IsTold : Flow → Type 0
+IsTold leg = IsFlow (told leg)
+
+abbrev pub told_legs : Flow → Option Flow → List Flow
+told_legs a b = map told (legs a b)
 
 -- what is said of a stream in the usual colours (SMPTE ST 2110-20, SDP)
 abbrev pub usual_description : ℕ → Fields → Flow → Option Flow → Description

@@ -4,7 +4,7 @@ ghost use Rattle.std.specs.Net.Addr.{IsIpv4Addr, IsIpv6Addr, MatchIp, ipv4_octet
 ghost use Rattle.sdp_writing.specs.Lines.{ended, text_of};
 ghost use Rattle.sdp_writing.specs.Written.{connection_line, connection_lines, leg_lines};
 ghost use Rattle.sdp_writing.specs.Written.{lifetime_text, map_line, media_line, session_lines};
-ghost use Rattle.flow.specs.Flow.{IsFlow};
+ghost use Rattle.sdp_writing.specs.Written.{IsTold};
 
 use flow::Flow;
 use std::alloc::{AllocError, Allocator};
@@ -93,7 +93,7 @@ pub(crate) fn add_leg<A: Allocator + Copy>(
 ) -> Result<(), AllocError>
     ensures lines { OnOk result (text.new.items ≡ text.old.items
         ++ text_of (leg_lines payload_type parameters.now leg name.now)) }
-    ensures flow { OnOk result (IsFlow leg) }
+    ensures flow { OnOk result (IsTold leg) }
 {
     let port = leg.port;
     let media = format!(in alloc; "m=video {port} RTP/AVP {payload_type}")?;

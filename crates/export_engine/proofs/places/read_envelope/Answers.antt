@@ -11,5 +11,5 @@ returns-in_default-address c =
 
 pub returns : goal.returns
 returns c =
-    envelope_found c.args.text.now c.in-Some.flow c.in-Some-address.address _ c.in-Some.ensures
-    c.in-Some-address.is c.envelope_to.ensures
+    envelope_found c.args.text.now c.in-Some.flow c.in-Some-address.address c.envelope_from.result
+    c.in-Some.ensures c.in-Some-address.is c.envelope_from.ensures

@@ -1,46 +1,46 @@
 use Rattle.std.proofs.Common.{subst, sym}
-use Rattle.flow.specs.FlowText.{Finds, IsFlowText, IsHost, IsPort}
-use Rattle.flow.proofs.FlowTexts.{both_found, no_host_found, no_port_alone, no_port_found}
-use Rattle.flow.proofs.FlowTexts.{port_alone}
+use Rattle.flow.specs.FlowText.{Finds, IsFlowText, IsHost, IsPlaceOf}
+use Rattle.flow.proofs.FlowTexts.{no_place_alone, no_place_found, no_source_found, place_alone}
+use Rattle.flow.proofs.FlowTexts.{source_found}
 use Rattle.flow.proofs.text.read_flow.Goals as goal
 
-pub returns-in_err-address-in-Some : goal.returns-in_err-address-in-Some
-returns-in_err-address-in-Some c =
+pub returns-in_err-source-in-Some : goal.returns-in_err-source-in-Some
+returns-in_err-source-in-Some c =
     let text = c.args.text.now in
     let host = c.in-Some.host.now in
     let split = c.in-Some.ensures in
     subst (Finds IsFlowText text) (sym c.from_residual.ensures)
-    (no_host_found text host c.in-Some.port.now split.0 split.1
-    (subst (Finds IsHost host) c.in_err-address-in-Some.was c.read_host.ensures))
+    (no_source_found text host c.in-Some.rest.now split.0 split.1
+    (subst (Finds IsHost host) c.in_err-source-in-Some.was c.read_host.ensures))
 
-pub returns-in_err-port-in-Some : goal.returns-in_err-port-in-Some
-returns-in_err-port-in-Some c =
+pub returns-in_err-place-in-Some : goal.returns-in_err-place-in-Some
+returns-in_err-place-in-Some c =
     let text = c.args.text.now in
-    let port = c.in-Some.port.now in
+    let rest = c.in-Some.rest.now in
     let split = c.in-Some.ensures in
-    subst (Finds IsFlowText text) (sym c.from_residual-in_err-port-in-Some.ensures)
-    (no_port_found text c.in-Some.host.now port split.0 split.1
-    (subst (Finds IsPort port) c.in_err-port-in-Some.was c.read_port.ensures))
+    subst (Finds IsFlowText text) (sym c.from_residual-in_err-place-in-Some.ensures)
+    (no_place_found text c.in-Some.host.now rest split.0 split.1
+    (subst (Finds IsPlaceOf rest) c.in_err-place-in-Some.was c.read_place.ensures))
 
-pub returns-in_err-port-in-None : goal.returns-in_err-port-in-None
-returns-in_err-port-in-None c =
+pub returns-in_err-place-in-None : goal.returns-in_err-place-in-None
+returns-in_err-place-in-None c =
     let text = c.args.text.now in
-    subst (Finds IsFlowText text) (sym c.from_residual-in_err-port-in-None.ensures)
-    (no_port_alone text c.in-None.ensures
-    (subst (Finds IsPort text) c.in_err-port-in-None.was c.read_port-in-None.ensures))
+    subst (Finds IsFlowText text) (sym c.from_residual-in_err-place-in-None.ensures)
+    (no_place_alone text c.in-None.ensures
+    (subst (Finds IsPlaceOf text) c.in_err-place-in-None.was c.read_place-in-None.ensures))
 
-pub returns-in_ok-port-in-Some : goal.returns-in_ok-port-in-Some
-returns-in_ok-port-in-Some c =
+pub returns-in_ok-place-in-Some : goal.returns-in_ok-place-in-Some
+returns-in_ok-place-in-Some c =
     let host = c.in-Some.host.now in
-    let port = c.in-Some.port.now in
+    let rest = c.in-Some.rest.now in
     let split = c.in-Some.ensures in
-    both_found c.args.text.now host port split.0 split.1 c.in_ok-address-in-Some.address
-    c.in_ok-port-in-Some.port
-    (subst (Finds IsHost host) c.in_ok-address-in-Some.was c.read_host.ensures)
-    (subst (Finds IsPort port) c.in_ok-port-in-Some.was c.read_port.ensures)
+    source_found c.args.text.now host rest split.0 split.1 c.in_ok-source-in-Some.source
+    c.in_ok-place-in-Some.place
+    (subst (Finds IsHost host) c.in_ok-source-in-Some.was c.read_host.ensures)
+    (subst (Finds IsPlaceOf rest) c.in_ok-place-in-Some.was c.read_place.ensures)
 
-pub returns-in_ok-port-in-None : goal.returns-in_ok-port-in-None
-returns-in_ok-port-in-None c =
+pub returns-in_ok-place-in-None : goal.returns-in_ok-place-in-None
+returns-in_ok-place-in-None c =
     let text = c.args.text.now in
-    port_alone text c.in_ok-port-in-None.port
-    (subst (Finds IsPort text) c.in_ok-port-in-None.was c.read_port-in-None.ensures)
+    place_alone text c.in_ok-place-in-None.place
+    (subst (Finds IsPlaceOf text) c.in_ok-place-in-None.was c.read_place-in-None.ensures)

@@ -2,7 +2,7 @@
 use Rattle.std.proofs.Common.{◌≡◌, ℕ, List, ◌++◌, subst, ap, ◌∙◌}
 use Rattle.devices.specs.Passed.{output_took}
 use Rattle.sdp_format.specs.Sections.{Description}
-use Rattle.sdp_writing.specs.Written.{IsTextOf, legs}
+use Rattle.sdp_writing.specs.Written.{IsTextOf, told_legs}
 use Rattle.script_runs.proofs.writing.announce.Goals as goal
 
 pub returns-clause-announced : goal.returns-clause-announced
@@ -14,7 +14,7 @@ returns-clause-announced c =
       says =
           subst
           (λ (d : Description). IsTextOf c.in_ok-text.text.items d
-          (legs c.args.stream.now.a c.args.stream.now.b))
+          (told_legs c.args.stream.now.a c.args.stream.now.b))
           c.usual_sdp-sdp.ensures c.in_ok-text.ensures.says;
       printed =
           c.in_ok-write_whole.ensures.took

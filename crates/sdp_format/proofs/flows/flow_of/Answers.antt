@@ -35,9 +35,11 @@ returns-in-Some-read_connection-clause-flow c =
     let line = c.in-Some-connection_of.line.now in
     (somewhere (lines c.args.text.now) (section_at c.args.section)
     (c.in-Some.port, c.in-Some.field-0-1) line c.in-Some-read_connection.address
+    c.source_of.result
     (sym c.media_of.ensures.value ∙ c.in-Some.is)
     (sym c.connection_of.ensures ∙ ap option_copied c.in-Some-connection_of.is)
-    (subst (Finds IsConnection line) c.in-Some-read_connection.is c.read_connection.ensures)).0
+    (subst (Finds IsConnection line) c.in-Some-read_connection.is c.read_connection.ensures)
+    c.source_of.ensures).0
 
 pub returns-in-Some-read_connection-clause-fault :
     goal.returns-in-Some-read_connection-clause-fault
@@ -45,9 +47,11 @@ returns-in-Some-read_connection-clause-fault c =
     let line = c.in-Some-connection_of.line.now in
     (somewhere (lines c.args.text.now) (section_at c.args.section)
     (c.in-Some.port, c.in-Some.field-0-1) line c.in-Some-read_connection.address
+    c.source_of.result
     (sym c.media_of.ensures.value ∙ c.in-Some.is)
     (sym c.connection_of.ensures ∙ ap option_copied c.in-Some-connection_of.is)
-    (subst (Finds IsConnection line) c.in-Some-read_connection.is c.read_connection.ensures)).1
+    (subst (Finds IsConnection line) c.in-Some-read_connection.is c.read_connection.ensures)
+    c.source_of.ensures).1
 
 pub returns-in-None-clause-flow : goal.returns-in-None-clause-flow
 returns-in-None-clause-flow c =

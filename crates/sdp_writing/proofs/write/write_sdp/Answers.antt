@@ -7,9 +7,9 @@ use Rattle.sdp_format.specs.Canonical.{canonical_line}
 use Rattle.sdp_format.specs.Views.{description}
 use Rattle.sdp_format.specs.declared.sdp.Sdp.{Sdp}
 use Rattle.flow.specs.declared.flows.Flow.{Flow}
-use Rattle.flow.specs.Flow.{IsFlow}
+use Rattle.sdp_writing.specs.Written.{IsTold}
 use Rattle.sdp_writing.specs.Lines.{text_of}
-use Rattle.sdp_writing.specs.Written.{IsTextOf, legs, ports, sdp_lines}
+use Rattle.sdp_writing.specs.Written.{IsTextOf, ports, sdp_lines, told_legs}
 use Rattle.sdp_writing.proofs.ReadAgain.{described_again, sent_again}
 use Rattle.sdp_writing.proofs.write.write_sdp.Goals as goal
 
@@ -18,13 +18,13 @@ says : {X : Type 0} (r : Result X AllocError) (view : X → List ℕ) (s : Sdp) 
     → ReadsBack (canonical_line (description s).leg) (description s).leg
     → s.ports.items ≡ ports a b
     → IfOk r (λ t. view t ≡ text_of (sdp_lines s.payload_type line a b))
-    → OnOk r (IsFlow a) → OnOk r (IfSome b IsFlow)
-    → IfOk r (λ t. IsTextOf (view t) (description s) (legs a b))
+    → OnOk r (IsTold a) → OnOk r (IfSome b IsTold)
+    → IfOk r (λ t. IsTextOf (view t) (description s) (told_legs a b))
 says (Ok t) view s a b line e back same text first second =
     let whole : view t
     ≡ text_of (sdp_lines s.payload_type (canonical_line (description s).leg) a b) =
     text ∙ ap (λ (l : List ℕ). text_of (sdp_lines s.payload_type l a b)) e in
-    subst (λ (x : List ℕ). IsTextOf x (description s) (legs a b)) (sym whole)
+    subst (λ (x : List ℕ). IsTextOf x (description s) (told_legs a b)) (sym whole)
     (described_again s a b first second same back, sent_again s a b first second)
 says (Err x) view s a b line e back same text first second = tt
 

@@ -1,6 +1,6 @@
 use Rattle.std.proofs.lemmas.Bool.Decides.{Decides-eqb}
 use Rattle.std.proofs.lemmas.Slice.Eq.{strip_prefix_is}
-use Rattle.sdp_format.proofs.flows.after_word.Goals as goal
+use Rattle.sdp_format.proofs.text.after_word.Goals as goal
 
 pub returns : goal.returns
 returns c =
