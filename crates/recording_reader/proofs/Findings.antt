@@ -42,7 +42,7 @@ record_by flows p buffer d read =
 
 pub record_to : (flows : Flows) (p : Packet) (buffer : List ℕ) (d : Datagram) (path : Option Path)
     → walk_of (link_of p.head.link) (part_of p buffer) ≡ Ok d
-    → path ≡ path_to flows d.destination d.destination_port
+    → path ≡ path_to flows d.source d.destination d.destination_port
     → record_of flows (packet_seen p buffer) ≡ entry_by path (moment_of p.head.time) d.payload
 record_to flows p buffer d path read is =
     record_by flows p buffer (Ok d) read
@@ -59,7 +59,7 @@ omission_at flows p buffer d read =
 
 pub omission_to : (flows : Flows) (p : Packet) (buffer : List ℕ) (d : Datagram) (path : Option Path)
     → walk_of (link_of p.head.link) (part_of p buffer) ≡ Ok d
-    → path ≡ path_to flows d.destination d.destination_port
+    → path ≡ path_to flows d.source d.destination d.destination_port
     → omission_of flows (packet_seen p buffer) ≡ other_by path
 omission_to flows p buffer d path read is =
     omission_at flows p buffer (Ok d) read ∙ ap other_by (sym is)
@@ -100,7 +100,7 @@ placed_within at n place part octets buffer is inside stands =
 -- what is found in it
 pub found_is : (flows : Flows) (p : Packet) (buffer : List ℕ) (d : Datagram) (path : Path)
     (moment place start stop : ℕ) → walk_of (link_of p.head.link) (part_of p buffer) ≡ Ok d
-    → some_path path ≡ path_to flows d.destination d.destination_port
+    → some_path path ≡ path_to flows d.source d.destination d.destination_port
     → moment ≡ moment_of p.head.time → StandAt place d.payload (part_of p buffer)
     → start ≡ p.place + place → stop ≡ start + length d.payload
     → some_entry path moment (take (stop - start) (drop start buffer))

@@ -2,6 +2,12 @@ pub mod Placed
 pub mod Findings
 pub mod Between
 pub mod Passing
+pub mod Magic
+pub mod Files
+pub mod Captures
+pub mod Recordings
 pub mod Standings
-pub mod Known
+pub mod Sounding
 pub mod Telling
+pub mod Beginnings
+pub mod RecordsRead

@@ -1,178 +1,218 @@
--- Where a reader of a recording stands, one call later.
-use Rattle.std.proofs.Common.{◌≡◌, ℕ, List, [], ◌∷◌, ◌++◌, Option, None, Some, true, false}
-use Rattle.std.specs.Prelude.{is_some}
-use Rattle.std.proofs.Common.{refl, sym, ap, subst, ◌∙◌, append-nil}
-use Rattle.std.proofs.lemmas.List.Elements.{filter_map-append}
+-- Where a reader of a file stands, and what is known of the file then.
+use Rattle.std.proofs.Common.{◌≡◌, ℕ, List, [], ◌∷◌, ◌++◌, Option, None, Some}
+use Rattle.std.proofs.Common.{refl, sym, ap, subst, ◌∙◌, false, true}
+use Rattle.std.specs.Prelude.{IsSome}
 use Rattle.flow.specs.declared.flows.Flows.{Flows}
-use Rattle.recording_counts.specs.LeftOut.{left_out_of}
-use Rattle.recording_counts.specs.declared.left_out.LeftOut.{LeftOut}
 use Rattle.media_file.specs.Records.{Entry}
-use Rattle.pcap_file.specs.PcapReading.{Recorded}
-use Rattle.pcap_file.specs.Runs.{HasRead, layout_seen}
-use Rattle.pcap_file.specs.declared.fault.RecordingFault.{RecordingFault}
-use Rattle.pcap_file.specs.declared.recording.Layout.{Layout}
-use Rattle.st_format.specs.History.{since}
+use Rattle.st_format.specs.History.{GrewFrom, IsRead, since}
+use Rattle.recording_reader.specs.FileReader.{IsExact, IsKnownBy}
+use Rattle.recording_reader.specs.Files.{HaveFileRecords, text_of_file}
 use Rattle.recording_reader.specs.Found.{entry_at}
-use Rattle.recording_reader.specs.Reader.{HasReadPackets, IsAtHand, StandsBy}
-use Rattle.recording_reader.specs.Reading.{FailsNext, ReadsToNext, entry_there}
-use Rattle.recording_reader.specs.Records.{record_of, records_in, records_of, room}
+use Rattle.recording_reader.specs.Kinds.{is_recording}
+use Rattle.recording_reader.specs.Reading.{entry_there}
+use Rattle.recording_reader.specs.Ways.{FailsNextBy, FindsNext, HasRoom, IsAtHand}
+use Rattle.recording_reader.specs.Ways.{RecordingStands, WayStands}
+use Rattle.recording_reader.specs.Ways.{is_recording_way, left_out_by}
+use Rattle.recording_reader.specs.declared.fault.ReadingFault.{ReadingFault}
+use Rattle.recording_reader.specs.declared.fault.ReadingFault.TheVariants as fault
 use Rattle.recording_reader.specs.declared.found.Found.{Found}
-use Rattle.recording_reader.specs.declared.reader.Standing.{Standing}
-use Rattle.recording_reader.specs.declared.reader.Standing.TheVariants.{Reads, Ended, Failed}
-use Rattle.recording_reader.proofs.Between.{packets_now}
+use Rattle.recording_reader.specs.declared.way.Standing.{Standing}
+use Rattle.recording_reader.specs.declared.way.Standing.TheVariants.{Reads, Ended, Failed}
+use Rattle.recording_reader.specs.declared.way.Way.{Way}
+use Rattle.recording_reader.specs.declared.way.Way.TheVariants.{Capture, Recording}
+use Rattle.recording_reader.proofs.Captures.{capture_again, capture_end, capture_fails, capture_grew}
+use Rattle.recording_reader.proofs.Captures.{capture_has, capture_kind, capture_known, capture_said}
+use Rattle.recording_reader.proofs.Captures.{capture_text_is}
+use Rattle.recording_reader.proofs.Recordings.{recording_again, recording_end, recording_fails}
+use Rattle.recording_reader.proofs.Recordings.{recording_grew, recording_has, recording_kind}
+use Rattle.recording_reader.proofs.Recordings.{recording_known, recording_said, recording_text_is}
 
--- a reader that was just opened
-pub stands_first : (flows : Flows) (before now : List ℕ) (ended : Type 0) (layout : Layout)
-    (left : LeftOut) → HasRead room before now (layout_seen layout) [] → left ≡ left_out_of []
-    → StandsBy flows Reads layout before now ended (records_in flows (since before now)) left
-stands_first flows before now ended layout left read none = record {
-  packets = [];
-  read = read;
-  records_are = ap (records_of flows) (packets_now before now (layout_seen layout) [] read);
-  left_is = none;
-}
+abbrev some_flows : Flows → Option Flows
+some_flows flows = Some flows
 
--- it has no records yet
-pub records_none : (flows : Flows) (before now : List ℕ) (layout : Layout)
-    → HasRead room before now (layout_seen layout) [] → records_in flows (since before now) ≡ []
-records_none flows before now layout read =
-    ap (records_of flows) (packets_now before now (layout_seen layout) [] read)
+-- ---- what is known
 
--- what it has read while it reads
-reading : (flows : Flows) (standing : Standing) (layout : Layout) (before now : List ℕ)
-    (ended : Type 0) (packets : List Recorded) → standing ≡ Reads
-    → HasReadPackets standing layout before now ended packets
-    → HasRead room before now (layout_seen layout) packets
-reading flows standing layout before now ended packets is read =
-    subst (λ (s : Standing). HasReadPackets s layout before now ended packets) is read
+pub way_grew : (way : Way) (flows : Option Flows) (standing : Standing) (before now : List ℕ)
+    (ended : Type 0) (text : List ℕ) (records : List Entry)
+    → WayStands way flows standing before now ended text records → GrewFrom before now
+way_grew Capture flows standing before now ended text records s =
+    capture_grew standing before now ended text records s
+way_grew (Recording t) flows standing before now ended text records s =
+    recording_grew t.flows standing t.layout before now ended records t.left_out s.2
 
--- the records of packets and of others behind them
-records_behind : (flows : Flows) (packets more : List Recorded) (records new : List Entry)
-    → records ≡ records_of flows packets → records_of flows more ≡ new
-    → records ++ new ≡ records_of flows (packets ++ more)
-records_behind flows packets more records new are behind =
-    sym (filter_map-append (record_of flows) packets more
-    ∙ ap (λ (l : List Entry). l ++ records_of flows more) (sym are)
-    ∙ ap (λ (l : List Entry). records ++ l) behind)
+pub way_text : (way : Way) (flows : Option Flows) (standing : Standing) (before now : List ℕ)
+    (ended : Type 0) (text : List ℕ) (records : List Entry)
+    → WayStands way flows standing before now ended text records
+    → text_of_file (since before now) ≡ text
+way_text Capture flows standing before now ended text records s =
+    capture_text_is standing before now ended text records s
+way_text (Recording t) flows standing before now ended text records s =
+    recording_text_is t.flows standing t.layout before now ended records t.left_out s.2 ∙ sym s.1
 
-records_same : (flows : Flows) (packets more : List Recorded) (records : List Entry)
-    → records ≡ records_of flows packets → records_of flows more ≡ []
-    → records ≡ records_of flows (packets ++ more)
-records_same flows packets more records are none =
-    sym (append-nil records) ∙ records_behind flows packets more records [] are none
+pub way_has : (way : Way) (flows : Option Flows) (standing : Standing) (before now : List ℕ)
+    (ended : Type 0) (text : List ℕ) (records : List Entry)
+    → WayStands way flows standing before now ended text records → IsExact standing
+    → HaveFileRecords flows (since before now) records (left_out_by way)
+way_has Capture flows standing before now ended text records s exact =
+    capture_has standing before now ended text records s flows
+way_has (Recording t) flows standing before now ended text records s exact =
+    subst (λ (f : Option Flows). HaveFileRecords f (since before now) records t.left_out) (sym s.0)
+    (recording_has t.flows standing t.layout before now ended records t.left_out s.2 exact)
 
--- the record that was found
-pub record Finding (flows : Flows) (before new : List ℕ) (records : List Entry) (o : Option Found)
-    (buffer : List ℕ) : Type 0 where
-  pub entry : Entry
-  pub more : records_in flows (since before new) ≡ records ++ entry ∷ []
-  pub there : entry_there o buffer ≡ Some entry
+-- between records
+pub exact_between : (standing : Standing) → standing ≡ Reads → IsExact standing
+exact_between standing reads = subst (λ (s : Standing). IsExact s) (sym reads) tt
 
--- Where it stood, and what a call read.
-module _ (flows : Flows) (standing : Standing) (was layout : Layout) (before old new : List ℕ)
-    (ended ended' : Type 0) (records : List Entry) (left left' : LeftOut) (reads : standing ≡ Reads)
-    (stood : StandsBy flows standing was before old ended records left) where
-  had : HasRead room before old (layout_seen was) stood.packets
-  had = reading flows standing was before old ended stood.packets reads stood.read
+-- of a capture wherever its reader stands
+pub way_given : (way : Way) (flows : Option Flows) (standing : Standing) (before now : List ℕ)
+    (ended : Type 0) (text : List ℕ) (records : List Entry)
+    → WayStands way flows standing before now ended text records → is_recording_way way ≡ false
+    → HaveFileRecords flows (since before now) records (left_out_by way)
+way_given Capture flows standing before now ended text records s kind =
+    capture_has standing before now ended text records s flows
+way_given (Recording t) flows standing before now ended text records s kind = absurd cc
 
-  module _ (f : Found) (buffer : List ℕ)
-      (next : ReadsToNext flows (Some f) buffer old new ended' was layout left left') where
-    -- one record more
-    pub records_one : records_in flows (since before new) ≡ records ++ entry_at f buffer ∷ []
-    records_one =
-        let on = next before stood.packets had stood.left_is in
-        ap (records_of flows)
-        (packets_now before new (layout_seen layout) (stood.packets ++ on.more) on.read)
-        ∙ sym (records_behind flows stood.packets on.more records (entry_at f buffer ∷ [])
-        stood.records_are on.records)
+-- a recording is read by flows
+pub way_by_flows : (way : Way) (flows : Option Flows) (standing : Standing)
+    (before now : List ℕ) (ended : Type 0) (text : List ℕ) (records : List Entry)
+    → WayStands way flows standing before now ended text records → is_recording_way way ≡ true
+    → IsSome flows
+way_by_flows Capture flows standing before now ended text records s kind = absurd cc
+way_by_flows (Recording t) flows standing before now ended text records s kind =
+    subst (λ (f : Option Flows). IsSome f) (sym s.0) refl
 
-    pub stands_again : StandsBy flows standing layout before new ended'
-        (records_in flows (since before new)) left'
-    stands_again =
-        let on = next before stood.packets had stood.left_is in
-        record {
-          packets = stood.packets ++ on.more;
-          read = subst (λ (s : Standing). HasReadPackets s layout before new ended'
-              (stood.packets ++ on.more)) (sym reads) on.read;
-          records_are = ap (records_of flows)
-              (packets_now before new (layout_seen layout) (stood.packets ++ on.more) on.read);
-          left_is = on.left_is;
-        }
+pub way_kind : (way : Way) (flows : Option Flows) (standing : Standing) (before now : List ℕ)
+    (ended : Type 0) (text : List ℕ) (records : List Entry) (octets : List ℕ)
+    → WayStands way flows standing before now ended text records → IsRead before now ended octets
+    → is_recording octets ≡ is_recording_way way
+way_kind Capture flows standing before now ended text records octets s read =
+    capture_kind standing before now ended text records s flows octets read
+way_kind (Recording t) flows standing before now ended text records octets s read =
+    recording_kind t.flows standing t.layout before now ended records t.left_out s.2 octets read
 
-  -- the end
-  pub stands_at_end : (buffer : List ℕ)
-      → ReadsToNext flows None buffer old new ended' was layout left left'
-      → StandsBy flows Ended layout before new ended' records left'
-  stands_at_end buffer next =
-      let on = next before stood.packets had stood.left_is in
-      record {
-        packets = stood.packets ++ on.more;
-        read = on.read;
-        records_are =
-            records_same flows stood.packets on.more records stood.records_are on.records;
-        left_is = on.left_is;
-      }
+pub way_said : (way : Way) (flows : Option Flows) (standing : Standing) (before now : List ℕ)
+    (ended : Type 0) (text : List ℕ) (records : List Entry) (octets : List ℕ)
+    → WayStands way flows standing before now ended text records → IsRead before now ended octets
+    → text_of_file octets ≡ text
+way_said Capture flows standing before now ended text records octets s read =
+    capture_said standing before now ended text records s flows octets read
+way_said (Recording t) flows standing before now ended text records octets s read =
+    recording_said t.flows standing t.layout before now ended records t.left_out s.2 octets read
+    ∙ sym s.1
 
-  -- a fault
-  pub stands_at_fault : (f : RecordingFault) → FailsNext flows old new ended' was f left left'
-      → StandsBy flows (Failed f) layout before new ended' records left'
-  stands_at_fault f next =
-      let on = next before stood.packets had stood.left_is in
-      record {
-        packets = stood.packets ++ on.more;
-        read = on.failed;
-        records_are = records_same flows stood.packets on.more records stood.records_are on.none;
-        left_is = on.left_is;
-      }
+pub way_known : (way : Way) (flows : Option Flows) (standing : Standing) (before now : List ℕ)
+    (ended : Type 0) (text : List ℕ) (records : List Entry) (octets : List ℕ)
+    → WayStands way flows standing before now ended text records → IsRead before now ended octets
+    → IsKnownBy flows standing octets records (left_out_by way)
+way_known Capture flows standing before now ended text records octets s read =
+    capture_known standing before now ended text records s flows octets read
+way_known (Recording t) flows standing before now ended text records octets s read =
+    subst (λ (f : Option Flows). IsKnownBy f standing octets records t.left_out) (sym s.0)
+    (recording_known t.flows standing t.layout before now ended records t.left_out s.2 octets read)
 
-  -- by what was found
-  pub stands_one : (o : Option Found) (buffer : List ℕ) → true ≡ is_some o
-      → ReadsToNext flows o buffer old new ended' was layout left left'
-      → StandsBy flows standing layout before new ended' (records_in flows (since before new)) left'
-  stands_one None buffer is next = absurd cc
-  stands_one (Some f) buffer is next = stands_again f buffer next
+-- ---- one call later
 
-  pub finds_one : (o : Option Found) (buffer : List ℕ) → true ≡ is_some o
-      → ReadsToNext flows o buffer old new ended' was layout left left'
-      → Finding flows before new records o buffer
-  finds_one None buffer is next = absurd cc
-  finds_one (Some f) buffer is next = record {
-    entry = entry_at f buffer;
-    more = records_one f buffer next;
-    there = refl;
-  }
+module _ (flows : Option Flows) (standing : Standing) (before old new : List ℕ)
+    (ended ended' : Type 0) (text : List ℕ) (records : List Entry) (reads : standing ≡ Reads) where
+  pub way_again : (was way : Way) (f : Found) (buffer : List ℕ)
+      → WayStands was flows standing before old ended text records
+      → FindsNext was way (Some f) buffer old new ended'
+      → WayStands way flows standing before new ended' text (records ++ entry_at f buffer ∷ [])
+  way_again Capture Capture f buffer s next =
+      capture_again standing before old new ended ended' text records reads s (entry_at f buffer)
+      next
+  way_again Capture (Recording u) f buffer s next = absurd next
+  way_again (Recording t) Capture f buffer s next = absurd next
+  way_again (Recording t) (Recording u) f buffer s next = (
+    s.0 ∙ ap (λ (x : Flows). some_flows x) (sym next.0),
+    s.1,
+    subst (λ (x : Flows). RecordingStands x standing u.layout before new ended'
+        (records ++ entry_at f buffer ∷ []) u.left_out) (sym next.0)
+        (recording_again t.flows standing t.layout u.layout before old new ended ended' records
+        t.left_out u.left_out reads s.2 next.1 f buffer next.2),
+  )
 
-  -- none was found
-  pub stands_none : (o : Option Found) (buffer : List ℕ) → false ≡ is_some o
-      → ReadsToNext flows o buffer old new ended' was layout left left'
-      → StandsBy flows Ended layout before new ended' records left'
-  stands_none None buffer is next = stands_at_end buffer next
-  stands_none (Some f) buffer is next = absurd cc
+  pub way_end : (was way : Way) (buffer : List ℕ)
+      → WayStands was flows standing before old ended text records
+      → FindsNext was way None buffer old new ended'
+      → WayStands way flows Ended before new ended' text records
+  way_end Capture Capture buffer s next =
+      capture_end standing before old new ended ended' text records reads s next.0 next.1
+  way_end Capture (Recording u) buffer s next = absurd next
+  way_end (Recording t) Capture buffer s next = absurd next
+  way_end (Recording t) (Recording u) buffer s next = (
+    s.0 ∙ ap (λ (x : Flows). some_flows x) (sym next.0),
+    s.1,
+    subst (λ (x : Flows). RecordingStands x Ended u.layout before new ended' records u.left_out)
+        (sym next.0)
+        (recording_end t.flows standing t.layout u.layout before old new ended ended' records
+        t.left_out u.left_out reads s.2 next.1 buffer next.2),
+  )
 
--- what isn't found isn't there
-pub none_there : (o : Option Found) (buffer : List ℕ) → false ≡ is_some o
-    → entry_there o buffer ≡ None
-none_there None buffer is = refl
-none_there (Some f) buffer is = absurd cc
+  pub way_fails : (was way : Way) (f : ReadingFault)
+      → WayStands was flows standing before old ended text records
+      → FailsNextBy was way f old new ended'
+      → WayStands way flows (Failed f) before new ended' text records
+  way_fails Capture Capture (fault.Capture f) s next =
+      capture_fails standing before old new ended ended' text records reads s f next
+  way_fails Capture Capture (fault.Recording f) s next = absurd next
+  way_fails Capture (Recording u) f s next = absurd next
+  way_fails (Recording t) Capture f s next = absurd next
+  way_fails (Recording t) (Recording u) (fault.Capture f) s next = absurd next
+  way_fails (Recording t) (Recording u) (fault.Recording f) s next = (
+    s.0 ∙ ap (λ (x : Flows). some_flows x) (sym next.0),
+    s.1,
+    subst (λ (x : Flows). RecordingStands x (Failed (fault.Recording f)) u.layout before new
+        ended' records u.left_out) (sym next.0)
+        (recording_fails t.flows standing t.layout u.layout before old new ended ended' records
+        t.left_out u.left_out reads s.2 next.1 f next.2),
+  )
 
-pub none_at_hand : (o : Option Found) (standing : Standing) → false ≡ is_some o
-    → IsAtHand standing o
-none_at_hand None standing is = tt
-none_at_hand (Some f) standing is = absurd cc
+-- ---- what stays
+
+pub same_kind : (was way : Way) (o : Option Found) (buffer old new : List ℕ) (ended : Type 0)
+    → FindsNext was way o buffer old new ended → is_recording_way way ≡ is_recording_way was
+same_kind Capture Capture o buffer old new ended next = refl
+same_kind Capture (Recording u) o buffer old new ended next = absurd next
+same_kind (Recording t) Capture o buffer old new ended next = absurd next
+same_kind (Recording t) (Recording u) o buffer old new ended next = refl
+
+pub same_kind_failed : (was way : Way) (f : ReadingFault) (old new : List ℕ) (ended : Type 0)
+    → FailsNextBy was way f old new ended → is_recording_way way ≡ is_recording_way was
+same_kind_failed Capture Capture f old new ended next = refl
+same_kind_failed Capture (Recording u) f old new ended next = absurd next
+same_kind_failed (Recording t) Capture f old new ended next = absurd next
+same_kind_failed (Recording t) (Recording u) f old new ended next = refl
+
+pub same_room : (was way : Way) (o : Option Found) (buffer old new : List ℕ) (ended : Type 0)
+    (count : ℕ) → FindsNext was way o buffer old new ended → HasRoom was count → HasRoom way count
+same_room Capture Capture o buffer old new ended count next is = is
+same_room Capture (Recording u) o buffer old new ended count next is = absurd next
+same_room (Recording t) Capture o buffer old new ended count next is = absurd next
+same_room (Recording t) (Recording u) o buffer old new ended count next is = is
+
+pub same_room_failed : (was way : Way) (f : ReadingFault) (old new : List ℕ) (ended : Type 0)
+    (count : ℕ) → FailsNextBy was way f old new ended → HasRoom was count → HasRoom way count
+same_room_failed Capture Capture f old new ended count next is = is
+same_room_failed Capture (Recording u) f old new ended count next is = absurd next
+same_room_failed (Recording t) Capture f old new ended count next is = absurd next
+same_room_failed (Recording t) (Recording u) f old new ended count next is = is
+
+-- ---- what is at hand
 
 pub at_hand : (o : Option Found) (standing : Standing) → standing ≡ Reads → IsAtHand standing o
 at_hand None standing is = tt
 at_hand (Some f) standing is = is
 
--- at the end and at a fault none is at hand
+-- at the end and at a fault nothing is
 pub none_ended : (o : Option Found) (buffer : List ℕ) (standing : Standing) → IsAtHand standing o
     → standing ≡ Ended → entry_there o buffer ≡ None
 none_ended None buffer standing hand is = refl
 none_ended (Some f) buffer standing hand is =
     let other : Reads ≡ Ended = sym hand ∙ is in absurd cc
 
-pub none_failed : (o : Option Found) (buffer : List ℕ) (standing : Standing) (fault : RecordingFault)
-    → IsAtHand standing o → standing ≡ Failed fault → entry_there o buffer ≡ None
-none_failed None buffer standing fault hand is = refl
-none_failed (Some f) buffer standing fault hand is =
-    let other : Reads ≡ Failed fault = sym hand ∙ is in absurd cc
+pub none_failed : (o : Option Found) (buffer : List ℕ) (standing : Standing) (f : ReadingFault)
+    → IsAtHand standing o → standing ≡ Failed f → entry_there o buffer ≡ None
+none_failed None buffer standing f hand is = refl
+none_failed (Some found) buffer standing f hand is =
+    let other : Reads ≡ Failed f = sym hand ∙ is in absurd cc

@@ -1,14 +1,16 @@
--- What a reader of a recording tells as a source of datagrams.
+-- What a reader of a file tells as a source of datagrams.
 use Rattle.std.proofs.Common.{◌≡◌, ℕ, ◌↔◌, Bool, true, false, List, [], ◌∷◌, ◌++◌}
 use Rattle.std.proofs.Common.{append-nil, Option, None, Some, refl, sym, ap, subst, ◌∙◌}
 use Rattle.media_file.specs.Records.{Entry}
+use Rattle.st_format.specs.Device.{CountsOne}
 use Rattle.st_format.specs.Turns.{CountsTurn, IsEnd, IsWithin, TakesTurn, arrived}
 use Rattle.st_format.specs.declared.device.Turn.{Turn}
 use Rattle.st_format.specs.declared.device.Turn.TheVariants.{Datagram, Quiet, End}
 use Rattle.st_format.specs.declared.path.Path.{Path}
-use Rattle.recording_reader.specs.Reader.{Finds, FindsNone, FindsOne, Reader, TellsTurn}
-use Rattle.recording_reader.specs.Reader.{datagrams_of}
-use Rattle.recording_reader.specs.declared.reader.Standing.TheVariants.{Reads, Ended}
+use Rattle.recording_reader.specs.FileReader.{FileReader, Finds, FindsNone, FindsOne, TellsNext}
+use Rattle.recording_reader.specs.FileReader.{TellsOne, TellsTurn}
+use Rattle.recording_reader.specs.Files.{datagrams_of}
+use Rattle.recording_reader.specs.declared.way.Standing.TheVariants.{Reads, Ended}
 
 -- one record more is one datagram more
 pub datagrams_more : (es : List Entry) (e : Entry)
@@ -18,47 +20,83 @@ datagrams_more (x ∷ es) e =
     ap (λ (l : List (Path × List ℕ)). (x.path, x.octets) ∷ l) (datagrams_more es e)
 
 -- what is told of the datagram at hand
-pub record IsTold {S : Type 0} (old new : Reader S) (t : Turn) (buf : List ℕ) : Type 0 where
+pub record IsTold {S : Type 0} (old new : FileReader S) (t : Turn) (buf : List ℕ) : Type 0 where
   pub within : IsWithin t
   pub delivered : CountsTurn t old.delivered new.delivered
   pub came : datagrams_of new.records ≡ datagrams_of old.records ++ arrived t buf
   pub ended : (new.standing ≡ Ended) ↔ IsEnd t
 
-told_one : {S : Type 0} (old new : Reader S) (t : Turn) (buf : List ℕ) → (finds : FindsOne old new)
-    → TellsTurn (Some finds.entry) t buf → IsTold old new t buf
-told_one old new (Datagram path count) buf finds told =
-    let e = finds.entry in
+told_one : {S : Type 0} (old new : FileReader S) (path : Path) (count : ℕ) (buf : List ℕ)
+    → TellsOne path count buf old new → IsTold old new (Datagram path count) buf
+told_one old new path count buf tells =
+    let e = tells.entry in
     record {
-      within = told.2;
-      delivered = finds.delivered;
+      within = tells.few;
+      delivered = tells.delivered;
       came =
-          ap datagrams_of finds.records ∙ datagrams_more old.records e
-          ∙ ap (λ (by : Path). datagrams_of old.records ++ (by, e.octets) ∷ []) (sym told.0)
-          ∙ ap (λ (o : List ℕ). datagrams_of old.records ++ (path, o) ∷ []) (sym told.1);
-      ended = (λ over. let other : Reads ≡ Ended = sym finds.reads ∙ over in absurd cc, λ no. absurd no);
+          ap datagrams_of tells.records ∙ datagrams_more old.records e
+          ∙ ap (λ (by : Path). datagrams_of old.records ++ (by, e.octets) ∷ []) (sym tells.by)
+          ∙ ap (λ (o : List ℕ). datagrams_of old.records ++ (path, o) ∷ []) (sym tells.octets);
+      ended = (λ over. let other : Reads ≡ Ended = sym tells.reads ∙ over in absurd cc, λ no. absurd no);
     }
-told_one old new Quiet buf finds told = absurd told
-told_one old new End buf finds told = absurd told
 
-told_none : {S : Type 0} (old new : Reader S) (t : Turn) (buf : List ℕ)
-    → (finds : FindsNone old new) → TellsTurn None t buf → IsTold old new t buf
-told_none old new (Datagram path count) buf finds told = absurd told
-told_none old new Quiet buf finds told = absurd told
-told_none old new End buf finds told = record {
+pub told : {S : Type 0} (old new : FileReader S) (t : Turn) (buf : List ℕ)
+    → TellsNext t buf old new → IsTold old new t buf
+told old new (Datagram path count) buf tells = told_one old new path count buf tells
+told old new Quiet buf tells = absurd tells
+told old new End buf finds = record {
   within = tt;
   delivered = finds.delivered;
   came = ap datagrams_of finds.records ∙ sym (append-nil (datagrams_of old.records));
   ended = (λ _. tt, λ _. finds.ended);
 }
 
-pub told : {S : Type 0} (old new : Reader S) (b : Bool) (t : Turn) (buf : List ℕ)
-    → Finds b old new → TellsTurn new.at_hand t buf → IsTold old new t buf
-told old new true t buf finds turn =
-    told_one old new t buf finds
-    (subst (λ (o : Option Entry). TellsTurn o t buf) finds.at_hand turn)
-told old new false t buf finds turn =
-    told_none old new t buf finds
-    (subst (λ (o : Option Entry). TellsTurn o t buf) finds.at_hand turn)
+-- the datagram at hand, told by a reader at which none is then
+tells_one : {S : Type 0} (old mid new : FileReader S) (t : Turn) (buf : List ℕ)
+    → (finds : FindsOne old mid) → TellsTurn (Some finds.entry) t buf
+    → new.records ≡ mid.records → new.standing ≡ mid.standing → new.delivered ≡ mid.delivered
+    → new.at_hand ≡ None → TellsNext t buf old new
+tells_one old mid new (Datagram path count) buf finds turn records standing delivered none =
+    record {
+      entry = finds.entry;
+      records = records ∙ finds.records;
+      by = turn.0;
+      octets = turn.1;
+      few = turn.2;
+      at_hand = none;
+      reads = standing ∙ finds.reads;
+      delivered = subst (λ (n : ℕ). CountsOne old.delivered n) (sym delivered) finds.delivered;
+    }
+tells_one old mid new Quiet buf finds turn records standing delivered none = absurd turn
+tells_one old mid new End buf finds turn records standing delivered none = absurd turn
+
+tells_none : {S : Type 0} (old mid new : FileReader S) (t : Turn) (buf : List ℕ)
+    → FindsNone old mid → TellsTurn None t buf
+    → new.records ≡ mid.records → new.standing ≡ mid.standing → new.delivered ≡ mid.delivered
+    → new.at_hand ≡ None → TellsNext t buf old new
+tells_none old mid new (Datagram path count) buf finds turn records standing delivered none =
+    absurd turn
+tells_none old mid new Quiet buf finds turn records standing delivered none = absurd turn
+tells_none old mid new End buf finds turn records standing delivered none =
+    record {
+      records = records ∙ finds.records;
+      at_hand = none;
+      ended = standing ∙ finds.ended;
+      delivered = delivered ∙ finds.delivered;
+    }
+
+pub tells_next : {S : Type 0} (old mid new : FileReader S) (b : Bool) (t : Turn) (buf : List ℕ)
+    → Finds b old mid → TellsTurn mid.at_hand t buf
+    → new.records ≡ mid.records → new.standing ≡ mid.standing → new.delivered ≡ mid.delivered
+    → new.at_hand ≡ None → TellsNext t buf old new
+tells_next old mid new true t buf finds turn records standing delivered none =
+    tells_one old mid new t buf finds
+    (subst (λ (o : Option Entry). TellsTurn o t buf) finds.at_hand turn) records standing delivered
+    none
+tells_next old mid new false t buf finds turn records standing delivered none =
+    tells_none old mid new t buf finds
+    (subst (λ (o : Option Entry). TellsTurn o t buf) finds.at_hand turn) records standing delivered
+    none
 
 -- a source that tells no turns takes any
 pub takes_any : (t : Turn) (buf : List ℕ) → TakesTurn None None t buf

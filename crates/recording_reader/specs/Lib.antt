@@ -1,5 +1,11 @@
 pub mod Records
 pub mod Found
+pub mod Kinds
+pub mod Files
 pub mod Opening
+pub mod Capturing
 pub mod Reading
-pub mod Reader
+pub mod Ways
+pub mod Came
+pub mod Sound
+pub mod FileReader

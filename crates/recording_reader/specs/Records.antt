@@ -31,7 +31,7 @@ entry_by (Some path) moment octets =
 abbrev pub entry_of : Flows → ℕ → Result Datagram NoDatagram → Option Entry
 entry_of flows moment (Err reason) = None
 entry_of flows moment (Ok d) =
-    entry_by (path_to flows d.destination d.destination_port) moment d.payload
+    entry_by (path_to flows d.source d.destination d.destination_port) moment d.payload
 
 -- the record of a packet: that of its datagram, where it has one of the flows
 abbrev pub record_of : Flows → Recorded → Option Entry
@@ -51,7 +51,7 @@ other_by (Some path) = None
 
 abbrev pub omission_by : Flows → Result Datagram NoDatagram → Option Omission
 omission_by flows (Err reason) = Some (by.NoDatagram reason)
-omission_by flows (Ok d) = other_by (path_to flows d.destination d.destination_port)
+omission_by flows (Ok d) = other_by (path_to flows d.source d.destination d.destination_port)
 
 abbrev pub omission_of : Flows → Recorded → Option Omission
 omission_of flows p = omission_by flows (datagram_in p)

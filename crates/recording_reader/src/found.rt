@@ -53,7 +53,8 @@ pub(crate) fn find(flows: &Flows, packet: &Packet, buf: &[u8]) -> Result<Found, 
             let datagram = placed.datagram;
             let start = place + placed.place;
             let end = start + datagram.payload.len();
-            match flows.path_of(datagram.destination, datagram.destination_port) {
+            let port = datagram.destination_port;
+            match flows.path_of(datagram.source, datagram.destination, port) {
                 Some(path) => Ok(Found {
                     path,
                     moment,

@@ -1,14 +1,20 @@
-//! Readers of recordings of other tools (pcap, pcapng) as sources of datagrams: of the packets of a
-//! recording those that are datagrams of two flows are taken.
+//! Readers of files of datagrams: captures, and recordings of other tools (pcap, pcapng), of whose
+//! packets those are taken that are datagrams of the flows of two paths.
 #![tactic(auto)]
 
+mod came;
+mod fault;
 mod found;
+mod kinds;
 mod opening;
 mod place;
 mod reader;
 mod reading;
-mod track;
+mod record;
+mod room;
+mod way;
 
-pub use opening::OpeningFault;
-pub use reader::{RecordingReader, Standing};
-pub use track::RecordView;
+pub use fault::{FileOpeningFault, ReadingFault};
+pub use reader::DatagramReader;
+pub use room::RecordView;
+pub use way::Standing;

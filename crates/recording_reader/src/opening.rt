@@ -1,35 +1,136 @@
-//! Why a recording was not opened.
-ghost use Rattle.std.specs.Prelude.{◌≡◌};
-ghost use Rattle.recording_reader.specs.declared.opening.OpeningFault.TheVariants.{NoMemory};
-ghost use Rattle.recording_reader.specs.declared.opening.OpeningFault.TheVariants.{Recording};
+//! Opening a file of datagrams, of whichever kind it is.
+ghost use Rattle.std.specs.Prelude.{◌≡◌, ◌≤◌, ◌<◌, ◌++◌, ℕ, List, [], Option, None, Some};
+ghost use Rattle.std.specs.Prelude.{true, false, length, take, vec_len, IfErr, IfOk, MatchResult};
+ghost use Rattle.flow.specs.declared.flows.Flows.{Flows as Ways};
+ghost use Rattle.recording_counts.specs.LeftOut.{left_out_of};
+ghost use Rattle.recording_reader.specs.Kinds.{is_magic};
+ghost use Rattle.recording_reader.specs.Opening.{CountsOpening, IsByFlows, StopsOpening};
+ghost use Rattle.recording_reader.specs.Ways.{Begins, HasRoom, left_out_by};
 
-use pcap_file::RecordingFault;
-use std::alloc::AllocError;
-use thiserror::Error;
+use crate::fault::{FileOpeningFault, ReadingFault};
+use crate::kinds::is_magic;
+use crate::room::Room;
+use crate::way::{Track, Way};
+use flow::Flows;
+use media_file::{FileFault, read_front_behind};
+use pcap_file::open_behind;
+use recording_counts::LeftOut;
+use st_format::{ByteSource, MOST_DATAGRAM, read_whole};
+use std::alloc::Allocator;
 
-/// Why a recording was not opened.
-#[derive(Clone, Copy, Debug, PartialEq, Eq, Error)]
-pub enum OpeningFault {
-    /// A growth was refused: there is no room for a packet. The source was asked for nothing.
-    #[error("the memory was refused")]
-    NoMemory,
-    /// The recording's first fault, or the device's, before all packets.
-    #[error("{0}")]
-    Recording(RecordingFault),
+/// The octets of a packet or a block of a recording that there is room for.
+const MOST_PACKET: usize = 1_048_576;
+
+/// A file that was opened, and how many octets its text has.
+#[derive(Drop)]
+pub(crate) struct Begun<A: Allocator> {
+    pub way: Way,
+    pub room: Room<A>,
+    pub text_len: usize,
 }
 
-impl From<AllocError> for OpeningFault {
-    ghost from_gives = { λ _ fault. fault ≡ NoMemory };
-
-    fn from(_: AllocError) -> OpeningFault {
-        OpeningFault::NoMemory
+/// Opens a file: reads what stands before all records. Its text then stands at the front of `text`.
+pub(crate) fn begin<A: Allocator, S: ByteSource>(
+    alloc: A,
+    flows: Option<Flows>,
+    source: &mut S,
+    text: &mut [u8],
+) -> Result<Begun<A>, FileOpeningFault>
+    requires { 65535 ≤ length text.old }
+    ensures room { length text.new ≡ length text.old }
+    ensures begins { IfOk result (λ b. Begins b.way flows (S.gave source.old) (S.gave source.new)
+        (S.ended source.new) (take b.text_len text.new)) }
+    ensures text_len { IfOk result (λ b. b.text_len < 65536) }
+    ensures found { IfOk result (λ b. b.room.found ≡ None) }
+    ensures roomy { IfOk result (λ b. HasRoom b.way (vec_len b.room.octets)) }
+    ensures left_out { IfOk result (λ b. left_out_by b.way ≡ left_out_of []) }
+    ensures fault { IfErr result (λ f. StopsOpening flows (S.gave source.old) (S.gave source.new)
+        (S.ended source.new) f) }
+    ensures by_flows { IfErr result (λ f. IsByFlows flows f) }
+    ensures counted { MatchResult result (λ _. S.failures source.new ≡ S.failures source.old)
+        (λ f. CountsOpening f (S.failures source.old) (S.failures source.new)) }
+    ensures names { S.names source.new ≡ S.names source.old }
+{
+    let mut four = [0u8; 4];
+    if read_whole(source, &mut four)? < 4 {
+        return Err(FileOpeningFault::Reading(ReadingFault::Capture(FileFault::Truncated)));
+    }
+    if !is_magic(&four) {
+        return begin_capture(alloc, source, &four, text);
+    }
+    match flows {
+        Some(flows) => begin_recording(alloc, flows, source, &four),
+        None => Err(FileOpeningFault::NoFlows),
     }
 }
 
-impl From<RecordingFault> for OpeningFault {
-    ghost from_gives = { λ fault opening. opening ≡ Recording fault };
+/// Opens a capture of which the first four octets were read.
+fn begin_capture<A: Allocator, S: ByteSource>(
+    alloc: A,
+    source: &mut S,
+    four: &[u8],
+    text: &mut [u8],
+) -> Result<Begun<A>, FileOpeningFault>
+    requires room { 65535 ≤ length text.old }
+    requires four { length four.now ≡ 4 }
+    requires other { is_magic four.now ≡ false }
+    ensures room { length text.new ≡ length text.old }
+    ensures begins { IfOk result (λ b. (before : List ℕ) (flows : Option Ways)
+        → S.gave source.old ≡ before ++ four.now
+        → Begins b.way flows before (S.gave source.new) (S.ended source.new)
+        (take b.text_len text.new)) }
+    ensures text_len { IfOk result (λ b. b.text_len < 65536) }
+    ensures found { IfOk result (λ b. b.room.found ≡ None) }
+    ensures roomy { IfOk result (λ b. HasRoom b.way (vec_len b.room.octets)) }
+    ensures left_out { IfOk result (λ b. left_out_by b.way ≡ left_out_of []) }
+    ensures fault { IfErr result (λ f. (before : List ℕ) (flows : Option Ways)
+        → S.gave source.old ≡ before ++ four.now
+        → StopsOpening flows before (S.gave source.new) (S.ended source.new) f) }
+    ensures by_flows { IfErr result (λ f. (flows : Option Ways) → IsByFlows flows f) }
+    ensures counted { MatchResult result (λ _. S.failures source.new ≡ S.failures source.old)
+        (λ f. CountsOpening f (S.failures source.old) (S.failures source.new)) }
+    ensures names { S.names source.new ≡ S.names source.old }
+{
+    let room = Room::new(alloc, MOST_DATAGRAM)?;
+    let text_len = read_front_behind(source, four, text)?;
+    Ok(Begun {
+        way: Way::Capture,
+        room,
+        text_len,
+    })
+}
 
-    fn from(fault: RecordingFault) -> OpeningFault {
-        OpeningFault::Recording(fault)
-    }
+/// Opens a recording of which the first four octets were read.
+fn begin_recording<A: Allocator, S: ByteSource>(
+    alloc: A,
+    flows: Flows,
+    source: &mut S,
+    four: &[u8],
+) -> Result<Begun<A>, FileOpeningFault>
+    requires four { length four.now ≡ 4 }
+    requires magic { is_magic four.now ≡ true }
+    ensures begins { IfOk result (λ b. (before : List ℕ) → S.gave source.old ≡ before ++ four.now
+        → Begins b.way (Some flows) before (S.gave source.new) (S.ended source.new) []) }
+    ensures text_len { IfOk result (λ b. b.text_len ≡ 0) }
+    ensures found { IfOk result (λ b. b.room.found ≡ None) }
+    ensures roomy { IfOk result (λ b. HasRoom b.way (vec_len b.room.octets)) }
+    ensures left_out { IfOk result (λ b. left_out_by b.way ≡ left_out_of []) }
+    ensures fault { IfErr result (λ f. (before : List ℕ) → S.gave source.old ≡ before ++ four.now
+        → StopsOpening (Some flows) before (S.gave source.new) (S.ended source.new) f) }
+    ensures by_flows { IfErr result (λ f. IsByFlows (Some flows) f) }
+    ensures counted { MatchResult result (λ _. S.failures source.new ≡ S.failures source.old)
+        (λ f. CountsOpening f (S.failures source.old) (S.failures source.new)) }
+    ensures names { S.names source.new ≡ S.names source.old }
+{
+    let mut room = Room::new(alloc, MOST_PACKET)?;
+    let layout = open_behind(source, four, &mut room.octets)?;
+    Ok(Begun {
+        way: Way::Recording(Track {
+            flows,
+            layout,
+            left_out: LeftOut::new(),
+        }),
+        room,
+        text_len: 0,
+    })
 }

@@ -1,6 +1,7 @@
 use Rattle.std.proofs.Common.{◌≡◌, ◌∙◌, ℕ, sym, subst, length}
 use Rattle.std.proofs.lemmas.Result.{err_from_is_err_and}
 use Rattle.pcap_file.specs.Runs.{ReadsEnd, ReadsFault, ReadsPacket, layout_seen, packet_seen}
+use Rattle.pcap_file.proofs.Growing.{grew_on}
 use Rattle.recording_reader.specs.Records.{room}
 use Rattle.recording_reader.proofs.Passing.{none_left, passed_end, passed_fault}
 use Rattle.recording_reader.proofs.Passing.{passed_found, passed_more}
@@ -47,6 +48,7 @@ loop-packet-preserved g c =
       room = c.in_ok-packet.ensures.room ∙ l.invariant.room;
       failures = c.in_ok-packet.ensures.counted ∙ l.invariant.failures;
       names = c.in_ok-packet.ensures.names ∙ l.invariant.names;
+      grown = grew_on _ _ _ l.invariant.grown c.in_ok-packet.ensures.grown;
       passed =
           passed_more c.args.flows.now (told.gave c.args.source.now) (told.gave l.source)
           (told.gave c.next_packet.new.source) (layout_seen c.args.layout.now)

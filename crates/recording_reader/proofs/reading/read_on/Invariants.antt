@@ -1,5 +1,6 @@
 use Rattle.std.proofs.Common.{◌≡◌, length}
 use Rattle.pcap_file.specs.Runs.{layout_seen}
+use Rattle.st_format.specs.History.{GrewFrom}
 use Rattle.recording_reader.proofs.Passing.{Passes}
 use Rattle.recording_reader.proofs.reading.read_on.Given as goal
 
@@ -8,6 +9,7 @@ invariant-loop-packet g l = record {
   room : length l.buf ≡ length l.initial.buf;
   failures : g.S.ByteSource.failures l.source ≡ g.S.ByteSource.failures l.initial.source;
   names : g.S.ByteSource.names l.source ≡ g.S.ByteSource.names l.initial.source;
+  grown : GrewFrom (g.S.ByteSource.gave l.initial.source) (g.S.ByteSource.gave l.source);
   passed : Passes l.fn.flows (g.S.ByteSource.gave l.initial.source) (g.S.ByteSource.gave l.source)
       (layout_seen l.initial.layout) (layout_seen l.layout) l.initial.left_out l.left_out;
 }
