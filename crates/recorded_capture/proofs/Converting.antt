@@ -17,17 +17,16 @@ use Rattle.run_outcome.specs.declared.fault.Fault.{Fault}
 use Rattle.run_outcome.specs.declared.fault.Fault.TheVariants as fault
 use Rattle.run_outcome.specs.declared.refusal.Refusal.{Refusal}
 use Rattle.run_outcome.specs.declared.refusal.Refusal.TheVariants as refusal
-use Rattle.recording_engines.specs.Opened.{IsStopRefusal}
-use Rattle.recording_engines.specs.Joining.{Strand}
-use Rattle.recording_engines.specs.Steps.{Ahead, Coming, Lays, Over, ReadsMore, Standing}
-use Rattle.recording_engines.specs.Steps.{left_by, nothing, record_ahead, stopped_at, whole}
-use Rattle.recording_engines.specs.Steps.{whole_by}
-use Rattle.recording_engines.specs.Strands.{strand_in}
-use Rattle.recording_reader.specs.Records.{room}
-use Rattle.recording_engines.specs.Tracks.{BeginsAt, GoesOn as TrackGoesOn, HasReadTo, StandsAt}
-use Rattle.recording_engines.specs.Tracks.{StopsBehind}
-use Rattle.recording_engines.specs.declared.track.Track.{Track}
-use Rattle.recording_engines.proofs.Standing.{content_map, lays}
+use Rattle.recorded_capture.specs.Opened.{IsStopRefusal}
+use Rattle.recorded_capture.specs.Steps.{Strand}
+use Rattle.recorded_capture.specs.Steps.{Ahead, Coming, Lays, Over, ReadsMore, Standing}
+use Rattle.recorded_capture.specs.Steps.{left_by, nothing, record_ahead, stopped_at}
+use Rattle.recorded_capture.specs.Steps.{whole_by}
+use Rattle.recorded_capture.specs.Steps.{strand_in}
+use Rattle.recorded_capture.specs.Tracks.{BeginsAt, GoesOn as TrackGoesOn, HasReadTo, StandsAt}
+use Rattle.recorded_capture.specs.Tracks.{StopsBehind}
+use Rattle.recorded_capture.specs.declared.track.Track.{Track}
+use Rattle.recorded_capture.proofs.TrackStanding.{content_map, lays}
 use Rattle.recorded_capture.specs.Begun.{IsBegun, begun_gave}
 use Rattle.recorded_capture.specs.Pieces.{entry_next, entry_text, front_octets, next_text}
 use Rattle.recorded_capture.specs.Recorded.{GaveAll, GivesOfPiece, GivesPiece, IsFault, IsGiven}

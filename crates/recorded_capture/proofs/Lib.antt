@@ -1,3 +1,8 @@
+pub mod TrackStanding
+pub mod TrackPassing
+pub mod Found
+pub mod Going
+pub mod TrackOpenings
 pub mod Givings
 pub mod Fronts
 pub mod Parts

@@ -8,9 +8,9 @@ use Rattle.pcap_file.specs.declared.fault.RecordingFault.{RecordingFault}
 use Rattle.run_outcome.specs.Refusing.{OfRefusal}
 use Rattle.run_outcome.specs.declared.fault.Fault.{Fault}
 use Rattle.st_format.specs.History.{IsRead}
-use Rattle.recording_engines.specs.Opened.{IsStopRefusal}
-use Rattle.recording_engines.specs.Tracks.{BeginsAt, GoesOn as TrackGoesOn, StopsBehind}
-use Rattle.recording_engines.specs.declared.track.Track.{Track}
+use Rattle.recorded_capture.specs.Opened.{IsStopRefusal}
+use Rattle.recorded_capture.specs.Tracks.{BeginsAt, GoesOn as TrackGoesOn, StopsBehind}
+use Rattle.recorded_capture.specs.declared.track.Track.{Track}
 use Rattle.recorded_capture.specs.Begun.{BegunView, IsBegun, begun_gave}
 use Rattle.recorded_capture.specs.Recorded.{IsGiven, IsRecorded, StopsAt, StopsOpening}
 use Rattle.recorded_capture.specs.declared.recorded.Recorded.{Recorded}

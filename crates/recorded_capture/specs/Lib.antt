@@ -1,3 +1,6 @@
+pub mod Steps
+pub mod Tracks
+pub mod Opened
 pub mod Kinds
 pub mod Begun
 pub mod Plain

@@ -7,7 +7,7 @@ use Rattle.media_file.specs.declared.front.Version.TheVariants.{Two}
 use Rattle.pcap_file.specs.Runs.{packet_seen}
 use Rattle.pcap_file.specs.declared.recording.Packet.{Packet}
 use Rattle.recording_reader.specs.Records.{record_of}
-use Rattle.recording_engines.specs.declared.track.Track.{Track}
+use Rattle.recorded_capture.specs.declared.track.Track.{Track}
 use Rattle.recorded_capture.specs.declared.piece.Piece.{Piece}
 use Rattle.recorded_capture.specs.Piece.{piece_text}
 

@@ -10,10 +10,10 @@ use Rattle.recorded_capture.specs.Begun.{IsBegun, begun_gave}
 use Rattle.recorded_capture.specs.Kinds.{is_recording}
 use Rattle.recorded_capture.specs.Pieces.{entry_next, front_octets, next_text}
 use Rattle.recorded_capture.specs.declared.recorded.Recorded.{Recorded}
-use Rattle.recording_engines.specs.Steps.{Standing}
-use Rattle.recording_engines.specs.Strands.{strand_in}
+use Rattle.recorded_capture.specs.Steps.{Standing}
+use Rattle.recorded_capture.specs.Steps.{strand_in}
 use Rattle.recording_reader.specs.Records.{room}
-use Rattle.recording_engines.specs.Tracks.{StandsAt}
+use Rattle.recorded_capture.specs.Tracks.{StandsAt}
 use Rattle.run_outcome.specs.declared.fault.Fault.{Fault}
 use Rattle.run_outcome.specs.Refusing.{OfRefusal}
 use Rattle.run_outcome.specs.declared.refusal.Refusal.{Refusal}

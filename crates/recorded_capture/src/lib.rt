@@ -7,14 +7,18 @@ mod begun;
 mod giver;
 mod giving;
 mod kinds;
+mod opening;
 mod piece;
 mod pieces;
 mod plain;
 mod pouring;
+mod reading;
+mod record;
 mod recorded;
 mod said;
 mod seen;
 mod source;
+mod track;
 mod ways;
 
 pub use seen::Seen;

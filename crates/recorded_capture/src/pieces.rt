@@ -5,8 +5,9 @@ ghost use Rattle.recorded_capture.specs.Piece.{piece_text};
 ghost use Rattle.recorded_capture.specs.Pieces.{front_octets, next_text, piece_seen};
 
 use crate::piece::{HEAD, Piece};
+use crate::record::{moment_of, record_of};
+use crate::track::Track;
 use byteorder::{BigEndian, ByteOrder};
-use recording_engines::{Track, moment_of, record_of};
 use st_format::Path;
 use std::alloc::Allocator;
 

@@ -9,10 +9,12 @@ ghost use Rattle.recorded_capture.specs.Recorded.{IsRecorded, StopsAt, StopsOpen
 ghost use Rattle.run_outcome.specs.Fault.{Accounts, counts};
 
 use crate::begun::Begun;
+use crate::opening::open_track;
 use crate::pieces::next_piece;
+use crate::reading::advance;
+use crate::track::Track;
 use flow::Flows;
 use pcap_file::RecordingFault;
-use recording_engines::{Track, advance, open_track};
 use run_outcome::Fault;
 use st_format::ByteSource;
 use std::alloc::Allocator;

@@ -1,10 +1,10 @@
 //! What was seen of the packets of a recording that is given as a capture. It is told to a person;
 //! what is given has no part of it.
 use crate::giver::Standing;
+use crate::record::record_of;
 use crate::recorded::Recorded;
 use flow::Flow;
 use recording_counts::LeftOut;
-use recording_engines::record_of;
 use st_format::Path;
 use std::alloc::Allocator;
 

@@ -51,7 +51,11 @@ fn taken<A: Allocator>(
 ) -> Result<Vec<Result<Flows, Refusal>, A>, AllocError>
     ensures { IfOk result (λ v. v.items ≡ map (λ f. Ok f) each.now) }
 {
-    each.iter().map(|flows| Ok(*flows)).collect(alloc)
+    let mut ways = Vec::new(alloc);
+    for flows in each {
+        ways.push(Ok(*flows))?;
+    }
+    Ok(ways)
 }
 
 /// The flows of a run, or the refusal that comes where a recording needs them.

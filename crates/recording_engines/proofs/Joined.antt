@@ -1,19 +1,19 @@
--- Joining recordings, a record at a time.
+-- Joining files, a record at a time.
 use Rattle.std.proofs.Common.{◌≡◌, ℕ, inl, inr, List, [], ◌∷◌, ◌++◌, Option, None}
 use Rattle.std.proofs.Common.{Some, refl, sym, ap, subst, ◌∙◌, append_assoc, append-nil}
 use Rattle.std.specs.List.{AllByRecursion}
 use Rattle.media_file.specs.Records.{Entry}
-use Rattle.pcap_file.specs.declared.fault.RecordingFault.{RecordingFault}
+use Rattle.recording_reader.specs.declared.fault.ReadingFault.{ReadingFault}
 use Rattle.recording_engines.specs.Joining.{ComesLater, ComesNoSooner, IsNext, Joins, IsOver}
 use Rattle.recording_engines.specs.Joining.{Strand}
 use Rattle.recording_engines.specs.Steps.{AllFresh, HasJoined, IsLater, IsNoSooner, ReadsMore, Takes}
 use Rattle.recording_engines.specs.Steps.{left_by, left_of, lefts, nothing, whole, whole_by, wholes}
 use Rattle.recording_engines.specs.Steps.{Ahead, Coming, Over, Standing}
 
-abbrev strand : List Entry → Option RecordingFault → Strand
+abbrev strand : List Entry → Option ReadingFault → Strand
 strand es f = record { entries = es; fault = f }
 
--- ---- one recording, which was read on
+-- ---- one file, which was read on
 
 -- what was to come of it before
 abbrev come : Ahead → Strand → Strand
@@ -59,7 +59,7 @@ none_sooner moment (s ∷ ss) (r ∷ rs) is =
 
 -- ---- a record more of all
 
--- what was to come of recordings before one was read on
+-- what was to come of files before one was read on
 pub record Came (ss ss' : List Standing) (e : Entry) (rs' : List Strand) : Type 0 where
   pub rs : List Strand
   pub same : wholes ss' rs' ≡ wholes ss rs

@@ -1,20 +1,16 @@
--- How many there are.
-use Rattle.std.proofs.Common.{◌≡◌, ℕ, List, length, map, ap, sym, ◌∙◌, inl, inr}
-use Rattle.std.proofs.lemmas.List.{length-map, length-replicate}
+-- How many flows there are.
+use Rattle.std.proofs.Common.{◌≡◌, ℕ, List, length, ap, sym, ◌∙◌, inl, inr, Option, None, Some}
+use Rattle.std.proofs.lemmas.List.{length-replicate}
 use Rattle.flow.specs.declared.flows.Flows.{Flows}
-use Rattle.recording_engines.specs.Strands.{TellsPaths}
-use Rattle.recording_engines.specs.declared.track.Track.{Track}
+use Rattle.recording_engines.specs.Strands.{TakesBy}
 
--- tracks are as many as their flows
-pub flows_length : {A : Type 0} (ts : List (Track A)) (each : List Flows)
-    → map (λ t. t.flows) ts ≡ each → length ts ≡ length each
-flows_length ts each is =
-    sym (length-map ts (λ (t : Track _). t.flows)) ∙ ap (λ (l : List Flows). length l) is
-
--- flows that tell the paths are as many as the recordings
-pub tells_length : (flows : Flows) (n : ℕ) (each : List Flows) → TellsPaths flows n each
+-- the flows by which files are taken are as many as the files
+pub taken_length : (flows : Flows) (n : ℕ) (each : List (Option Flows)) → TakesBy flows n each
     → length each ≡ n
-tells_length flows n each (inl (one, two, is)) =
-    ap (λ (l : List Flows). length l) is ∙ sym two
-tells_length flows n each (inr (none, is)) =
-    ap (λ (l : List Flows). length l) is ∙ length-replicate n flows
+taken_length flows n each (inl (none, is)) =
+    ap (λ (l : List (Option Flows)). length l) is ∙ length-replicate n (Some flows)
+taken_length flows n each (inr (inl (one, two, is))) =
+    ap (λ (l : List (Option Flows)). length l) is ∙ sym two
+taken_length flows n each (inr (inr (one, other, is))) =
+    ap (λ (l : List (Option Flows)). length l) is
+    ∙ length-replicate n (let none : Option Flows = None in none)

@@ -1,9 +1,11 @@
 pub mod Joined
-pub mod Standing
-pub mod Passing
+pub mod Same
+pub mod FileFaults
+pub mod Blames
+pub mod Known
 pub mod Going
 pub mod Earliest
-pub mod Found
+pub mod Taken
 pub mod Written
 pub mod Openings
 pub mod Lengths

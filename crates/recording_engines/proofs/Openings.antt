@@ -1,207 +1,199 @@
--- Opening recordings, one after the other.
-use Rattle.std.proofs.Common.{◌≡◌, ℕ, zero, suc, ◌+◌, ◌<◌, ◌≤◌, List, [], ◌∷◌, ◌++◌, refl, sym, ap, subst}
-use Rattle.std.proofs.Common.{◌∙◌, add-one, arith, drop, get_or, length, map, set, take}
-use Rattle.std.proofs.Common.{Result, Ok, Err}
-use Rattle.std.proofs.lemmas.List.{map-append}
-use Rattle.std.specs.Prelude.{false, if◌then◌else◌, is_err, is_ok}
+-- Opening files, one after the other.
+use Rattle.std.proofs.Common.{◌≡◌, ℕ, zero, suc, ◌+◌, ◌<◌, ◌≤◌, inl, inr, List, [], ◌∷◌, ◌++◌}
+use Rattle.std.proofs.Common.{Option, Some, Result, Ok, Err, refl, sym, ap, subst, ◌∙◌}
+use Rattle.std.proofs.Common.{add-one, arith, get_or, length, set}
 use Rattle.std.specs.List.{Any, zip}
-use Rattle.std.specs.Prelude.{⊤}
-use Rattle.st_format.specs.History.{IsRead}
-use Rattle.st_format.proofs.Histories.{since_is}
+use Rattle.std.specs.Prelude.{IfErr}
 use Rattle.flow.specs.declared.flows.Flows.{Flows}
-use Rattle.recording_counts.specs.LeftOut.{left_out_of}
-use Rattle.recording_counts.specs.declared.left_out.LeftOut.{LeftOut}
-use Rattle.pcap_file.specs.PcapReading.{Recorded}
-use Rattle.pcap_file.specs.Runs.{HasFailed, HasRead, fault_in, layout_seen}
-use Rattle.pcap_file.specs.declared.fault.RecordingFault.{RecordingFault}
-use Rattle.pcap_file.specs.declared.recording.Layout.{Layout}
-use Rattle.run_outcome.specs.LowerFaults.{of_recording}
+use Rattle.media_file.specs.Records.{Entry}
+use Rattle.recording_reader.specs.Opening.{StopsOpening}
+use Rattle.recording_reader.specs.declared.fault.FileOpeningFault.{FileOpeningFault}
+use Rattle.recording_reader.specs.declared.fault.FileOpeningFault.TheVariants.{NoFlows, NoMemory}
+use Rattle.recording_reader.specs.declared.fault.FileOpeningFault.TheVariants.{Reading}
+use Rattle.recording_reader.specs.declared.fault.ReadingFault.{ReadingFault}
+use Rattle.run_outcome.specs.Moments.{WasRead}
 use Rattle.run_outcome.specs.Refusing.{OfRefusal}
-use Rattle.recording_engines.proofs.Standing.{content_all, content_map}
-use Rattle.recording_engines.proofs.Written.{content_refused}
-use Rattle.recording_reader.specs.Records.{room}
-use Rattle.recording_engines.specs.Opened.{AllOpened, IsStopRefusal}
-use Rattle.recording_engines.specs.Steps.{AllFresh, IsFresh, Standing}
-use Rattle.recording_engines.specs.Tracks.{AllStand, BeginsAt, StandsAt, StopsAt}
-use Rattle.recording_engines.specs.declared.track.Track.{Track}
+use Rattle.run_outcome.specs.declared.fault.Fault.{Fault}
+use Rattle.run_outcome.specs.declared.refusal.Refusal.{Refusal}
+use Rattle.st_format.specs.History.{IsRead}
+use Rattle.recording_engines.specs.Faults.{opening_fault, reading_fault}
+use Rattle.recording_engines.specs.Files.{AllClosed, AllOpened, IsClosed, IsKnown, IsOpened}
+use Rattle.recording_engines.specs.Files.{ReadsOn, StopsAt, begun_of, ended_by, gave_by}
+use Rattle.recording_engines.specs.Files.{standing_of}
+use Rattle.recording_engines.specs.Joining.{Strand}
+use Rattle.recording_engines.specs.Opened.{IsStopRefusal}
+use Rattle.recording_engines.specs.Steps.{Ahead, Coming, IsFresh, Over, ReadsMore, Standing}
+use Rattle.recording_engines.specs.Steps.{left_by, whole_by}
+use Rattle.recording_engines.specs.declared.file.ImportFile.{ImportFile}
+use Rattle.recording_engines.proofs.FileFaults.{front_strand, of_each, of_file, opening_blames}
+use Rattle.recording_engines.proofs.FileFaults.{strand}
+use Rattle.recording_engines.proofs.Going.{new_begun}
+use Rattle.recording_engines.proofs.Known.{file_at, lays_file}
 
--- so many of the first recordings were opened
-abbrev pub FrontStand : {A S : Type 0} → (S → List ℕ) → (S → Type 0) → List (S × S)
-    → List (Track A) → List Standing → Type 0
-FrontStand gave ended zs [] [] = ⊤
-FrontStand gave ended (z ∷ zs) (t ∷ ts) (s ∷ ss) =
-    StandsAt (gave z.0) (gave z.1) (ended z.1) t s × FrontStand gave ended zs ts ss
-FrontStand gave ended zs ts ss = ⊥
+-- ---- one file
 
-pub record FrontOpened {X S : Type 0} (gave : S → List ℕ) (ended : S → Type 0) (zs : List (S × S))
-    (ts : List (Track X)) : Type 0 where
-  pub standing : List Standing
-  pub stand : FrontStand gave ended zs ts standing
-  pub fresh : AllFresh standing
+-- why a file isn't opened
+pub opening_stops : (flows : Option Flows) (before now : List ℕ) (ended : Type 0)
+    (f : FileOpeningFault) → StopsOpening flows before now ended f
+    → OfRefusal (opening_fault f) (IsStopRefusal (IsRead before now ended) flows)
+opening_stops flows before now ended NoFlows stops = inl (refl, stops.1, stops.2)
+opening_stops flows before now ended NoMemory stops = tt
+opening_stops flows before now ended (Reading f) stops =
+    of_each (IsStopRefusal (IsRead before now ended) flows) (reading_fault f)
+    (λ r told. inr (
+      f,
+      told,
+      λ octets read. front_strand flows f octets (of_file _ f r told (stops octets read)),
+    ))
 
-pub front_none : {X S : Type 0} (gave : S → List ℕ) (ended : S → Type 0) (zs : List (S × S))
-    → let none : List (Track X) = [] in FrontOpened gave ended zs none
-front_none gave ended zs = record { standing = []; stand = tt; fresh = tt }
+-- what a file is that was opened
+pub ruleset opened_one = (opening_stops, opening_blames, new_begun)
 
-front_more : {X S : Type 0} (gave : S → List ℕ) (ended : S → Type 0) (begun now : List S)
-    (ts : List (Track X)) (ss : List Standing) (k : ℕ) (d y : S) (t : Track X) (s : Standing)
-    → FrontStand gave ended (zip begun now) ts ss → length ts ≡ k → k < length begun
-    → k < length now → StandsAt (gave (get_or begun k d)) (gave y) (ended y) t s
-    → FrontStand gave ended (zip begun (set now k y)) (ts ++ t ∷ []) (ss ++ s ∷ [])
-front_more gave ended [] now ts ss k d y t s all count few many is = absurd (omega (arith, few))
-front_more gave ended (b ∷ bs) [] ts ss k d y t s all count few many is =
-    absurd (omega (arith, many))
-front_more gave ended (b ∷ bs) (n ∷ ns) [] [] zero d y t s all count few many is = (is, tt)
-front_more gave ended (b ∷ bs) (n ∷ ns) [] [] (suc k) d y t s all count few many is =
-    absurd (omega (arith, count))
-front_more gave ended (b ∷ bs) (n ∷ ns) [] (v ∷ vs) k d y t s all count few many is = absurd all
-front_more gave ended (b ∷ bs) (n ∷ ns) (u ∷ us) [] k d y t s all count few many is = absurd all
-front_more gave ended (b ∷ bs) (n ∷ ns) (u ∷ us) (v ∷ vs) zero d y t s all count few many is =
-    absurd (omega (arith, count))
-front_more gave ended (b ∷ bs) (n ∷ ns) (u ∷ us) (v ∷ vs) (suc k) d y t s all count few many is = (
-  all.0,
-  front_more gave ended bs ns us vs k d y t s all.1 (omega (arith, count))
-      (omega (arith, few)) (omega (arith, many)) is,
+whole_over : (s : Standing) (f : ReadingFault) (r : Strand) → s.ahead ≡ Over (Some f)
+    → s.entries ≡ [] → whole_by s.entries s.ahead r ≡ strand [] (Some f)
+whole_over s f r over none =
+    ap (λ (a : Ahead). whole_by s.entries a r) over
+    ∙ ap (λ (es : List Entry). strand es (Some f)) none
+
+-- a fault before the first record
+pub first_stops : {A S : Type 0} (gave : S → List ℕ) (ended : S → Type 0) (fault : Fault)
+    (old new : ImportFile A S) → (standing_of old).entries ≡ [] → StopsAt fault old new
+    → IsKnown gave ended new
+    → OfRefusal fault (IsStopRefusal
+    (IsRead (begun_of new).1 (gave_by gave new) (ended_by ended new)) (begun_of new).0)
+first_stops gave ended fault old new none stops known =
+    of_each _ fault (λ r told. inr (
+      stops.reading,
+      sym stops.told ∙ told,
+      λ octets read.
+          let lays = lays_file gave ended (begun_of new).0 (begun_of new).1 new refl known
+          (file_at stops.reading r new (sym stops.told ∙ told) stops.at) in
+          let is = lays.says octets read in
+          is.1 ∙ whole_over (standing_of new) stops.reading is.0 stops.over (stops.same ∙ none),
+    ))
+
+pub first_refused : {A S V : Type 0} (gave : S → List ℕ) (ended : S → Type 0)
+    (result : Result V Fault) (old new : ImportFile A S) → (standing_of old).entries ≡ []
+    → IfErr result (λ f. StopsAt f old new) → IsKnown gave ended new
+    → IfErr result (λ f. OfRefusal f (IsStopRefusal
+    (IsRead (begun_of new).1 (gave_by gave new) (ended_by ended new)) (begun_of new).0))
+first_refused gave ended (Ok v) old new none stops known = tt
+first_refused gave ended (Err f) old new none stops known =
+    first_stops gave ended f old new none stops known
+
+-- a file of which nothing was read is read on to its first record
+fresh_by : (a : Ahead) (es : List Entry) (r : Strand) → ReadsMore [] a es
+    → whole_by es a r ≡ left_by a r
+fresh_by (Coming e) es r more =
+    ap (λ (l : List Entry). strand (l ++ r.entries) r.fault) more
+fresh_by (Over f) es r more = ap (λ (l : List Entry). strand l f) more
+
+pub first_fresh : {A S : Type 0} (old new : ImportFile A S) → (standing_of old).entries ≡ []
+    → ReadsOn old new → IsFresh (standing_of new)
+first_fresh old new none reads r =
+    fresh_by (standing_of new).ahead (standing_of new).entries r
+    (subst (λ (es : List Entry). ReadsMore es (standing_of new).ahead (standing_of new).entries)
+    none reads.more)
+
+-- what is said of a file's beginning is said of what that is
+pub begun_refusal : (x : Option Flows × List ℕ) (flows : Option Flows) (before now : List ℕ)
+    (ended : Type 0) (f : Fault) → x ≡ (flows, before)
+    → OfRefusal f (IsStopRefusal (IsRead x.1 now ended) x.0)
+    → OfRefusal f (IsStopRefusal (IsRead before now ended) flows)
+begun_refusal x flows before now ended f same is =
+    subst (λ (y : Option Flows × List ℕ). OfRefusal f (IsStopRefusal (IsRead y.1 now ended) y.0)) same
+    is
+
+-- ---- all of them
+
+-- so many of the first files were opened, and the others are as they were
+abbrev pub OpenedUpTo : {A S : Type 0} → (S → List ℕ) → ℕ → List (Option Flows)
+    → List (ImportFile A S) → List (ImportFile A S) → Type 0
+OpenedUpTo gave zero each olds news = news ≡ olds
+OpenedUpTo gave (suc k) (f ∷ fs) (o ∷ os) (n ∷ ns) =
+    IsOpened gave f o n × OpenedUpTo gave k fs os ns
+OpenedUpTo gave (suc k) each olds news = ⊥
+
+-- the next one is as it was
+pub next_same : {A S : Type 0} (gave : S → List ℕ) (k : ℕ) (each : List (Option Flows))
+    (olds news : List (ImportFile A S)) (d : ImportFile A S) → OpenedUpTo gave k each olds news
+    → get_or news k d ≡ get_or olds k d
+next_same gave zero each olds news d had = ap (λ (l : List _). get_or l 0 d) had
+next_same gave (suc k) [] olds news d had = absurd had
+next_same gave (suc k) (f ∷ fs) [] news d had = absurd had
+next_same gave (suc k) (f ∷ fs) (o ∷ os) [] d had = absurd had
+next_same gave (suc k) (f ∷ fs) (o ∷ os) (n ∷ ns) d had = next_same gave k fs os ns d had.1
+
+pub closed_there : {A S : Type 0} (olds : List (ImportFile A S)) (k : ℕ) (d : ImportFile A S)
+    → AllClosed olds → k < length olds → IsClosed (get_or olds k d)
+closed_there [] k d closed lt = absurd (omega (arith, lt))
+closed_there (o ∷ os) zero d closed lt = closed.0
+closed_there (o ∷ os) (suc k) d closed lt = closed_there os k d closed.1 (omega (arith, lt))
+
+opened_suc : {A S : Type 0} (gave : S → List ℕ) (k : ℕ) (each : List (Option Flows))
+    (olds news : List (ImportFile A S)) (e : Option Flows) (d y : ImportFile A S)
+    → OpenedUpTo gave k each olds news → k < length olds → length each ≡ length olds
+    → IsOpened gave (get_or each k e) (get_or news k d) y
+    → OpenedUpTo gave (suc k) each olds (set news k y)
+opened_suc gave k each [] news e d y had lt long is = absurd (omega (arith, lt))
+opened_suc gave k [] (o ∷ os) news e d y had lt long is = absurd (omega (arith, long))
+opened_suc gave zero (f ∷ fs) (o ∷ os) news e d y had lt long is =
+    subst (λ (l : List _). OpenedUpTo gave 1 (f ∷ fs) (o ∷ os) (set l 0 y)) (sym had)
+    (subst (λ (x : _). IsOpened gave f x y) (ap (λ (l : List _). get_or l 0 d) had) is, refl)
+opened_suc gave (suc k) (f ∷ fs) (o ∷ os) [] e d y had lt long is = absurd had
+opened_suc gave (suc k) (f ∷ fs) (o ∷ os) (n ∷ ns) e d y had lt long is = (
+  had.0,
+  opened_suc gave k fs os ns e d y had.1 (omega (arith, lt)) (omega (arith, long)) is,
 )
 
-fresh_more : (ss : List Standing) (s : Standing) → AllFresh ss → IsFresh s → AllFresh (ss ++ s ∷ [])
-fresh_more [] s all is = (is, tt)
-fresh_more (v ∷ vs) s all is = (all.0, fresh_more vs s all.1 is)
+pub opened_more : {A S : Type 0} (gave : S → List ℕ) (k : ℕ) (each : List (Option Flows))
+    (olds news : List (ImportFile A S)) (e : Option Flows) (d y : ImportFile A S)
+    → OpenedUpTo gave k each olds news → k < length olds → length each ≡ length olds
+    → IsOpened gave (get_or each k e) (get_or news k d) y
+    → OpenedUpTo gave (k + 1) each olds (set news k y)
+opened_more gave k each olds news e d y had lt long is =
+    subst (λ (n : ℕ). OpenedUpTo gave n each olds (set news k y)) (sym (add-one k))
+    (opened_suc gave k each olds news e d y had lt long is)
 
-same_there : {S : Type 0} (k : ℕ) (xs ys : List S) (d : S) → k < length ys
-    → drop k xs ≡ drop k ys → get_or xs k d ≡ get_or ys k d
-same_there k xs ys d lt same =
-    sym (at_drop k xs d) ∙ ap (λ (l : List _). get_or l 0 d) same ∙ at_drop k ys d
-  where
-    at_drop : {S : Type 0} (k : ℕ) (xs : List S) (d : S) → get_or (drop k xs) 0 d ≡ get_or xs k d
-    at_drop zero xs d = refl
-    at_drop (suc k) [] d = refl
-    at_drop (suc k) (x ∷ xs) d = at_drop k xs d
-
-pub opened_more : {X S : Type 0} (gave : S → List ℕ) (ended : S → Type 0) (begun now : List S)
-    (ts : List (Track X)) (k : ℕ) (d y : S) (t : Track X)
-    → FrontOpened gave ended (zip begun now) ts → length ts ≡ k → k < length begun
-    → length now ≡ length begun → drop k now ≡ drop k begun
-    → BeginsAt (gave (get_or now k d)) (gave y) (ended y) t
-    → FrontOpened gave ended (zip begun (set now k y)) (ts ++ t ∷ [])
-opened_more gave ended begun now ts k d y t had count few long behind begins =
-    let there = same_there k now begun d few behind in
-    let stands : StandsAt (gave (get_or begun k d)) (gave y) (ended y) t begins.0 =
-    subst (λ (s : _). StandsAt (gave s) (gave y) (ended y) t begins.0) there begins.1 in
-    record {
-      standing = had.standing ++ begins.0 ∷ [];
-      stand =
-          front_more gave ended begun now ts had.standing k d y t begins.0 had.stand count few
-          (omega (arith, few, long)) stands;
-      fresh = fresh_more had.standing begins.0 had.fresh begins.2;
-    }
-
-front_all : {X S : Type 0} (gave : S → List ℕ) (ended : S → Type 0) (begun now : List S)
-    (ts : List (Track X)) (ss : List Standing) → FrontStand gave ended (zip begun now) ts ss
-    → length now ≡ length begun → length ts ≡ length begun
-    → AllStand gave ended (zip begun now) ts ss
-front_all gave ended [] now [] [] all long count = tt
-front_all gave ended [] now [] (v ∷ vs) all long count = absurd all
-front_all gave ended [] now (u ∷ us) ss all long count = absurd (omega (arith, count))
-front_all gave ended (b ∷ bs) [] ts ss all long count = absurd (omega (arith, long))
-front_all gave ended (b ∷ bs) (n ∷ ns) [] ss all long count = absurd (omega (arith, count))
-front_all gave ended (b ∷ bs) (n ∷ ns) (u ∷ us) [] all long count = absurd all
-front_all gave ended (b ∷ bs) (n ∷ ns) (u ∷ us) (v ∷ vs) all long count =
-    (all.0, front_all gave ended bs ns us vs all.1 (omega (arith, long)) (omega (arith, count)))
-
-pub opened_all : {X S : Type 0} (gave : S → List ℕ) (ended : S → Type 0) (begun now : List S)
-    (ts : List (Track X)) → FrontOpened gave ended (zip begun now) ts
-    → length now ≡ length begun → length ts ≡ length begun
-    → AllOpened gave ended (zip begun now) ts
-opened_all gave ended begun now ts had long count = record {
-  standing = had.standing;
-  stand = front_all gave ended begun now ts had.standing had.stand long count;
-  fresh = had.fresh;
-}
+pub opened_all : {A S : Type 0} (gave : S → List ℕ) (n : ℕ) (each : List (Option Flows))
+    (olds news : List (ImportFile A S)) → OpenedUpTo gave n each olds news → length olds ≤ n
+    → length each ≡ length olds → AllOpened gave each olds news
+opened_all gave zero [] [] news had le long =
+    subst (λ (l : List _). AllOpened gave [] [] l) (sym had) tt
+opened_all gave zero [] (o ∷ os) news had le long = absurd (omega (arith, le))
+opened_all gave zero (f ∷ fs) [] news had le long = absurd (omega (arith, long))
+opened_all gave zero (f ∷ fs) (o ∷ os) news had le long = absurd (omega (arith, le))
+opened_all gave (suc n) [] olds news had le long = absurd had
+opened_all gave (suc n) (f ∷ fs) [] news had le long = absurd had
+opened_all gave (suc n) (f ∷ fs) (o ∷ os) [] had le long = absurd had
+opened_all gave (suc n) (f ∷ fs) (o ∷ os) (x ∷ xs) had le long =
+    (had.0, opened_all gave n fs os xs had.1 (omega (arith, le)) (omega (arith, long)))
 
 -- one of them is so
-any_there : {S : Type 0} (P : S × S → Type 0) (begun now : List S) (k : ℕ) (d y : S)
-    → k < length begun → k < length now → P (get_or begun k d, y)
-    → Any P (zip begun (set now k y))
-any_there P [] now k d y few many is = absurd (omega (arith, few))
-any_there P (b ∷ bs) [] k d y few many is = absurd (omega (arith, many))
-any_there P (b ∷ bs) (n ∷ ns) zero d y few many is = (0, (b, y), omega arith, refl, is)
-any_there P (b ∷ bs) (n ∷ ns) (suc k) d y few many is =
-    let rest = any_there P bs ns k d y (omega (arith, few)) (omega (arith, many)) is in
-    (suc rest.0, rest.1, omega (arith, rest.2), rest.3, rest.4)
+any_there : {A B C : Type 0} (P : (A × B) × C → Type 0) (olds : List A) (news : List B)
+    (each : List C) (k : ℕ) (d : A) (y : B) (e : C) → k < length olds → k < length news
+    → k < length each → P ((get_or olds k d, y), get_or each k e)
+    → Any P (zip (zip olds (set news k y)) each)
+any_there P [] news each k d y e few many long is = absurd (omega (arith, few))
+any_there P (o ∷ os) [] each k d y e few many long is = absurd (omega (arith, many))
+any_there P (o ∷ os) (n ∷ ns) [] k d y e few many long is = absurd (omega (arith, long))
+any_there P (o ∷ os) (n ∷ ns) (f ∷ fs) zero d y e few many long is =
+    (0, ((o, y), f), omega arith, refl, is)
+any_there P (o ∷ os) (n ∷ ns) (f ∷ fs) (suc k) d y e few many long is =
+    let rest =
+    any_there P os ns fs k d y e (omega (arith, few)) (omega (arith, many)) (omega (arith, long)) is
+    in (suc rest.0, rest.1, omega (arith, rest.2), rest.3, rest.4)
 
-pub any_now : {S : Type 0} (P : S × S → Type 0) (begun now : List S) (k : ℕ) (d y : S)
-    → k < length begun → length now ≡ length begun → drop k now ≡ drop k begun
-    → P (get_or now k d, y) → Any P (zip begun (set now k y))
-any_now P begun now k d y few long behind is =
-    any_there P begun now k d y few (omega (arith, few, long))
-    (subst (λ (s : _). P (s, y)) (same_there k now begun d few behind) is)
-
--- a fault before a recording's first record
-pub stop_refused : (before now : List ℕ) (ended : Type 0) (f : RecordingFault)
-    (packets : List Recorded) → HasFailed room before now ended f packets
-    → OfRefusal (of_recording f) (IsStopRefusal (IsRead before now ended))
-stop_refused before now ended f packets failed =
-    content_refused (IsStopRefusal (IsRead before now ended)) f
-    (content_all _ f (λ octets. content_all _ f (λ told. content_map f
-    (λ at. ap (fault_in room) (part octets told) ∙ at.1) (failed.says told.behind told.all))))
-  where
-    part : (octets : List ℕ) (told : IsRead before now ended octets)
-        → octets ≡ failed.part ++ told.behind
-    part octets told =
-        told.parts
-        ∙ ap (λ (l : List ℕ). l ++ told.behind) (since_is before now failed.part failed.grown)
-
-pub read_refused : (flows : Flows) (before now new : List ℕ) (ended : Type 0) (was : Layout)
-    (none : LeftOut) (f : RecordingFault) → HasRead room before now (layout_seen was) []
-    → none ≡ left_out_of [] → StopsAt flows now new ended was none f
-    → OfRefusal (of_recording f) (IsStopRefusal (IsRead before new ended))
-read_refused flows before now new ended was none f read is stops =
-    let at = stops before [] read is in
-    stop_refused before new ended f at.0 at.1
-
--- ---- one more
-
-pub ok_then : {T E X : Type 0} (r : Result T E) (a b : X) → is_err r ≡ false
-    → (if is_ok r then a else b) ≡ a
-ok_then (Ok v) a b is = refl
-ok_then (Err e) a b is = absurd cc
-
-take_more : {X : Type 0} (k : ℕ) (xs : List X) (d : X) → k < length xs
-    → take k xs ++ get_or xs k d ∷ [] ≡ take (suc k) xs
-take_more k [] d lt = absurd (omega (arith, lt))
-take_more zero (x ∷ xs) d lt = refl
-take_more (suc k) (x ∷ xs) d lt =
-    let rest = take_more k xs d (omega (arith, lt)) in ap (λ (l : List _). x ∷ l) rest
-
-pub flows_more : {X Y : Type 0} (f : X → Y) (ts : List X) (t : X) (each : List Y) (k : ℕ) (d : Y)
-    → map f ts ≡ take k each → f t ≡ get_or each k d → k < length each
-    → map f (ts ++ t ∷ []) ≡ take (k + 1) each
-flows_more f ts t each k d had one lt =
-    map-append f ts (t ∷ []) ∙ ap (λ (l : List _). l ++ f t ∷ []) had
-    ∙ ap (λ (y : _). take k each ++ y ∷ []) one ∙ take_more k each d lt
-    ∙ ap (λ (n : ℕ). take n each) (sym (add-one k))
-
-pub drop_set : {S : Type 0} (xs ys : List S) (k : ℕ) (y : S) → drop k xs ≡ drop k ys
-    → drop (k + 1) (set xs k y) ≡ drop (k + 1) ys
-drop_set xs ys k y same =
-    ap (λ (n : ℕ). drop n (set xs k y)) (add-one k) ∙ behind k xs y ∙ one k xs
-    ∙ ap (drop 1) same ∙ sym (one k ys) ∙ ap (λ (n : ℕ). drop n ys) (sym (add-one k))
-  where
-    behind : {S : Type 0} (k : ℕ) (xs : List S) (y : S) → drop (suc k) (set xs k y) ≡ drop (suc k) xs
-    behind zero [] y = refl
-    behind zero (x ∷ xs) y = refl
-    behind (suc k) [] y = refl
-    behind (suc k) (x ∷ xs) y = behind k xs y
-
-    one : {S : Type 0} (k : ℕ) (xs : List S) → drop (suc k) xs ≡ drop 1 (drop k xs)
-    one zero xs = refl
-    one (suc k) [] = refl
-    one (suc k) (x ∷ xs) = one k xs
-
-pub take_all : {X : Type 0} (k : ℕ) (xs : List X) → length xs ≤ k → take k xs ≡ xs
-take_all zero [] le = refl
-take_all (suc k) [] le = refl
-take_all zero (x ∷ xs) le = absurd (omega (arith, le))
-take_all (suc k) (x ∷ xs) le =
-    let rest = take_all k xs (omega (arith, le)) in ap (λ (l : List _). x ∷ l) rest
+pub any_stops : {A S : Type 0} (gave : S → List ℕ) (ended : S → Type 0) (k : ℕ)
+    (each : List (Option Flows)) (olds news : List (ImportFile A S)) (e : Option Flows)
+    (d y : ImportFile A S) (r : Refusal) → OpenedUpTo gave k each olds news → k < length olds
+    → length news ≡ length olds → length each ≡ length olds
+    → IsStopRefusal (IsRead (gave_by gave (get_or news k d)) (gave_by gave y) (ended_by ended y))
+    (get_or each k e) r
+    → Any (λ x. IsStopRefusal (WasRead (gave_by gave) (ended_by ended) x.0) x.1 r)
+    (zip (zip olds (set news k y)) each)
+any_stops gave ended k each olds news e d y r had lt long many is =
+    any_there (λ x. IsStopRefusal (WasRead (gave_by gave) (ended_by ended) x.0) x.1 r) olds news each
+    k d y e lt (omega (arith, lt, long)) (omega (arith, lt, many))
+    (subst (λ (x : _). IsStopRefusal (IsRead (gave_by gave x) (gave_by gave y) (ended_by ended y))
+    (get_or each k e) r) (next_same gave k each olds news d had) is)

@@ -2,7 +2,7 @@
 -- begin with it, and of no others where the source has ended. A list of sources is one of pairs:
 -- each source as it was before the run, and as it is behind it.
 use Rattle.std.specs.Prelude.{◌≡◌, ◌≢◌, ℕ, ◌⊎◌, List, [], ◌∷◌, ◌++◌, length, Option, None, Some, ⊤}
-use Rattle.std.specs.List.{AllByRecursion, AllZip, Any}
+use Rattle.std.specs.List.{AllByRecursion, AllZip, Any, zip}
 use Rattle.flow.specs.Flow.{IsOnePlace}
 use Rattle.flow.specs.FlowText.{IsFlowText}
 use Rattle.flow.specs.declared.flows.Flow.{Flow}
@@ -14,16 +14,19 @@ use Rattle.media_file.specs.Records.{Entry, records_text}
 use Rattle.media_file.specs.declared.front.Version.TheVariants.{Two}
 use Rattle.run_outcome.specs.Line.{line_text}
 use Rattle.run_outcome.specs.TextRefusals.{IsTextRefusal}
+use Rattle.run_outcome.specs.declared.fault.Fault.TheVariants.{Refused}
 use Rattle.run_outcome.specs.declared.line.Line.TheVariants as line
 use Rattle.run_outcome.specs.declared.refusal.Refusal.{Refusal}
 use Rattle.run_outcome.specs.declared.refusal.Refusal.TheVariants as refusal
 use Rattle.sdp_format.specs.Bytes.{lines}
 use Rattle.sdp_format.specs.Destinations.{AreFlows, IsFlowsFault}
 use Rattle.st_format.specs.declared.path.Path.TheVariants.{A, B}
+use Rattle.recording_reader.specs.declared.fault.ReadingFault.{ReadingFault}
+use Rattle.recording_engines.specs.Faults.{reading_fault}
 use Rattle.recording_engines.specs.Joining.{IsOver, JoinsTo, OneAt, OneHasMore, Strand}
 use Rattle.recording_engines.specs.Opened.{IsStopRefusal}
 use Rattle.recording_engines.specs.Progress.{count_of}
-use Rattle.recording_engines.specs.Strands.{TellsPaths, left_out_in, omissions_in, strands_in}
+use Rattle.recording_engines.specs.Strands.{TakesBy, left_out_in, omissions_in, strands_in}
 use Rattle.recording_engines.specs.declared.importing.ImportCounts.{ImportCounts}
 
 -- ---- the flows
@@ -57,28 +60,28 @@ AsksFlows (Some text) b said flows = IsAsked (Some text) flows.a × IsAsked b fl
 abbrev pub AreOver : List Strand → Type 0
 AreOver left = AllByRecursion IsOver left
 
--- A text was read whole, and it was written, and behind it the records of recordings by the flows
--- that were asked for, joined so; how many they are was answered, and why packets were left out; and
--- it was printed.
+-- A text was read whole, and it was written, and behind it the records of files, of recordings by
+-- the flows that were asked for, joined so; how many they are was answered, and why packets were
+-- left out; and it was printed.
 pub record Imports {S : Type 0} (a b : Option (List ℕ)) (Said : List ℕ → Type 0)
-    (told : S → List ℕ → Type 0) (recordings : List S) (took took' shown shown' : List ℕ)
+    (told : S → List ℕ → Type 0) (files : List S) (took took' shown shown' : List ℕ)
     (counts : ImportCounts) : Type 0
   where
     pub text : List ℕ
     pub flows : Flows
-    pub each : List Flows
+    pub each : List (Option Flows)
     pub entries : List Entry
     pub said : Said text
     pub asked : AsksFlows a b text flows
-    pub tells : TellsPaths flows (length recordings) each
-    pub joined : (octets : List (List ℕ)) → AllZip told recordings octets
+    pub taken_by : TakesBy flows (length files) each
+    pub joined : (octets : List (List ℕ)) → AllZip told files octets
         → JoinsTo AreOver (strands_in each octets) entries
     pub taken : took' ≡ took ++ (front_text Two text ++ records_text entries)
     pub by_a : counts.a ≡ count_of A entries
     pub by_b : counts.b ≡ count_of B entries
-    pub left_out : (octets : List (List ℕ)) → AllZip told recordings octets
+    pub left_out : (octets : List (List ℕ)) → AllZip told files octets
         → counts.left_out ≡ left_out_of (omissions_in each octets)
-    pub printed : (octets : List (List ℕ)) → AllZip told recordings octets → shown' ≡ shown
+    pub printed : (octets : List (List ℕ)) → AllZip told files octets → shown' ≡ shown
         ++ (line_text (line.Recorded (count_of A entries) (count_of B entries)
         (capped (left_out_in each octets))) ++ 10 ∷ [])
 
@@ -105,40 +108,39 @@ IsPlacesRefusal flows count r = (r ≡ refusal.ImportPlaces) × IsOnePlace flows
 
 -- Records were joined and written behind the text, and it ended so.
 pub record StopsImport {S : Type 0} (Ends : List Strand → Type 0) (Number : ℕ → Type 0)
-    (told : S → List ℕ → Type 0) (each : List Flows) (text : List ℕ) (recordings : List S)
+    (told : S → List ℕ → Type 0) (each : List (Option Flows)) (text : List ℕ) (files : List S)
     (took took' : List ℕ) : Type 0 where
   pub entries : List Entry
-  pub joined : (octets : List (List ℕ)) → AllZip told recordings octets
+  pub joined : (octets : List (List ℕ)) → AllZip told files octets
       → JoinsTo Ends (strands_in each octets) entries
   pub number : Number (length entries)
   pub taken : took' ≡ took ++ (front_text Two text ++ records_text entries)
 
--- the refusal of recordings that are written: at the fault of one; where there are too many records
-abbrev pub IsJoinRefusal : {S : Type 0} → (S → List ℕ → Type 0) → List Flows → List ℕ → List S
-    → List ℕ → List ℕ → Refusal → Type 0
-IsJoinRefusal told each text recordings took took' (refusal.Recording f) =
-    StopsImport (OneAt f) (λ n. ⊤) told each text recordings took took'
-IsJoinRefusal told each text recordings took took' refusal.ImportRecords =
-    StopsImport OneHasMore (λ n. n ≡ 16777216) told each text recordings took took'
-IsJoinRefusal told each text recordings took took' r = ⊥
+-- the refusals of files that are written: at the fault of one; where there are too many records
+abbrev pub IsJoinRefusal : {S : Type 0} → (S → List ℕ → Type 0) → List (Option Flows) → List ℕ
+    → List S → List ℕ → List ℕ → Refusal → Type 0
+IsJoinRefusal told each text files took took' r =
+    ((f : ReadingFault) × (reading_fault f ≡ Refused r)
+    × StopsImport (OneAt f) (λ n. ⊤) told each text files took took')
+    ⊎ ((r ≡ refusal.ImportRecords)
+    × StopsImport OneHasMore (λ n. n ≡ 16777216) told each text files took took')
 
--- The refusals of recordings by these flows: that the flows don't tell the paths; the fault of one
--- before its first record, and then nothing is written; a refusal behind that.
-abbrev pub IsRecordingsRefusal : {S : Type 0} → (S → List ℕ → Type 0) → Flows → List ℕ → List S
+-- The refusals of files by these flows: one before its first record, and then nothing is written;
+-- a refusal behind that.
+abbrev pub IsFilesRefusal : {S : Type 0} → (S → List ℕ → Type 0) → Flows → List ℕ → List S
     → List ℕ → List ℕ → Refusal → Type 0
-IsRecordingsRefusal told flows text recordings took took' r =
-    ((took' ≡ took) × IsPlacesRefusal flows (length recordings) r)
-    ⊎ (((took' ≡ took) × Any (λ z. IsStopRefusal (told z) r) recordings)
-    ⊎ ((each : List Flows) × TellsPaths flows (length recordings) each
-    × IsJoinRefusal told each text recordings took took' r))
+IsFilesRefusal told flows text files took took' r =
+    (each : List (Option Flows)) × TakesBy flows (length files) each
+    × (((took' ≡ took) × Any (λ x. IsStopRefusal (told x.0) x.1 r) (zip files each))
+    ⊎ IsJoinRefusal told each text files took took' r)
 
--- The refusals of `import`, in their order: of the SDP text; of the flows; of the recordings.
+-- The refusals of `import`, in their order: of the SDP text; of the flows; of the files.
 abbrev pub IsImportRefusal : {S : Type 0} → Option (List ℕ) → Option (List ℕ)
     → (List ℕ → Type 0) → (List ℕ → Type 0) → (S → List ℕ → Type 0) → List S → List ℕ → List ℕ
     → Refusal → Type 0
-IsImportRefusal a b sdp Said told recordings took took' r =
+IsImportRefusal a b sdp Said told files took took' r =
     ((took' ≡ took) × IsTextRefusal refusal.ImportSdp sdp r)
     ⊎ ((text : List ℕ) × Said text
     × (((took' ≡ took) × IsFlowsRefusal a b text r)
     ⊎ ((flows : Flows) × AsksFlows a b text flows
-    × IsRecordingsRefusal told flows text recordings took took' r)))
+    × IsFilesRefusal told flows text files took took' r)))

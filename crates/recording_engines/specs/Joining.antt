@@ -1,23 +1,23 @@
--- Recordings joined by the moments of their records (own).
+-- Files joined by the moments of their records (own).
 use Rattle.std.specs.Prelude.{◌≡◌, ℕ, ◌<◌, ◌≤◌, ◌⊎◌, List, [], ◌∷◌, Option, None, Some, ⊤}
 use Rattle.std.specs.List.{AllByRecursion}
 use Rattle.media_file.specs.Records.{Entry}
-use Rattle.pcap_file.specs.declared.fault.RecordingFault.{RecordingFault}
+use Rattle.recording_reader.specs.declared.fault.ReadingFault.{ReadingFault}
 
--- the records of a recording that are left, and the fault behind them, if there is one
+-- the records of a file that are left, and the fault behind them, if there is one
 pub record Strand : Type 0 where
   pub entries : List Entry
-  pub fault : Option RecordingFault
+  pub fault : Option ReadingFault
 
 -- The next record comes later than this moment, or none comes. Where the fault is next, it isn't
 -- known.
-abbrev pub ComesLater : ℕ → List Entry → Option RecordingFault → Type 0
+abbrev pub ComesLater : ℕ → List Entry → Option ReadingFault → Type 0
 ComesLater moment [] None = ⊤
 ComesLater moment [] (Some f) = ⊥
 ComesLater moment (e ∷ es) fault = moment < e.moment
 
 -- it comes not before this moment
-abbrev pub ComesNoSooner : ℕ → List Entry → Option RecordingFault → Type 0
+abbrev pub ComesNoSooner : ℕ → List Entry → Option ReadingFault → Type 0
 ComesNoSooner moment [] None = ⊤
 ComesNoSooner moment [] (Some f) = ⊥
 ComesNoSooner moment (e ∷ es) fault = moment ≤ e.moment
@@ -43,7 +43,7 @@ abbrev pub IsOver : Strand → Type 0
 IsOver s = s ≡ record { entries = []; fault = None }
 
 -- one of some strands is at this fault
-abbrev pub OneAt : RecordingFault → List Strand → Type 0
+abbrev pub OneAt : ReadingFault → List Strand → Type 0
 OneAt f [] = ⊥
 OneAt f (s ∷ ss) = (s ≡ record { entries = []; fault = Some f }) ⊎ OneAt f ss
 

@@ -1,22 +1,20 @@
--- Recordings that were opened, and read on to their first records.
-use Rattle.std.specs.Prelude.{◌≡◌, ℕ, List, Some}
-use Rattle.pcap_file.specs.Runs.{fault_in}
+-- Files that are not opened.
+use Rattle.std.specs.Prelude.{◌≡◌, ℕ, ◌⊎◌, List, [], Option, None, Some, true}
+use Rattle.flow.specs.declared.flows.Flows.{Flows}
+use Rattle.recording_engines.specs.Faults.{reading_fault}
+use Rattle.recording_engines.specs.Strands.{strand_in}
+use Rattle.recording_reader.specs.Kinds.{is_recording}
+use Rattle.recording_reader.specs.declared.fault.ReadingFault.{ReadingFault}
+use Rattle.run_outcome.specs.declared.fault.Fault.TheVariants.{Refused}
 use Rattle.run_outcome.specs.declared.refusal.Refusal.{Refusal}
-use Rattle.run_outcome.specs.declared.refusal.Refusal.TheVariants as refusal
-use Rattle.recording_engines.specs.Steps.{AllFresh, Standing}
-use Rattle.recording_reader.specs.Records.{room}
-use Rattle.recording_engines.specs.Tracks.{AllStand}
-use Rattle.recording_engines.specs.declared.track.Track.{Track}
+use Rattle.run_outcome.specs.declared.refusal.Refusal.TheVariants.{ImportPlaces}
 
--- of each recording what comes next was read
-pub record AllOpened {X S : Type 0} (gave : S → List ℕ) (ended : S → Type 0) (zs : List (S × S))
-    (ts : List (Track X)) : Type 0 where
-  pub standing : List Standing
-  pub stand : AllStand gave ended zs ts standing
-  pub fresh : AllFresh standing
-
--- the refusal of a recording that was read: its fault is the first
-abbrev pub IsStopRefusal : (List ℕ → Type 0) → Refusal → Type 0
-IsStopRefusal told (refusal.Recording f) =
-    (octets : List ℕ) → told octets → fault_in room octets ≡ Some f
-IsStopRefusal told r = ⊥
+-- The refusals of a file that is read by these flows: that it is a recording, and there are none;
+-- its first fault, which comes before all its records.
+abbrev pub IsStopRefusal : (List ℕ → Type 0) → Option Flows → Refusal → Type 0
+IsStopRefusal told flows r =
+    ((r ≡ ImportPlaces) × (flows ≡ None)
+    × ((octets : List ℕ) → told octets → is_recording octets ≡ true))
+    ⊎ ((f : ReadingFault) × (reading_fault f ≡ Refused r)
+    × ((octets : List ℕ) → told octets
+    → strand_in flows octets ≡ record { entries = []; fault = Some f }))

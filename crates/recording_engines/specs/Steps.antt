@@ -1,35 +1,24 @@
--- How far a run of `import` has joined recordings, whatever is still to come of them.
+-- How far a run of `import` has joined files, whatever is still to come of them.
 use Rattle.std.specs.Prelude.{◌≡◌, ℕ, ◌<◌, ◌≤◌, ◌⊎◌, List, [], ◌∷◌, ◌++◌, Option, None, Some, ⊤}
 use Rattle.std.specs.List.{AllByRecursion}
 use Rattle.st_format.specs.History.{IsRead}
 use Rattle.flow.specs.declared.flows.Flows.{Flows}
-use Rattle.recording_counts.specs.declared.omission.Omission.{Omission}
 use Rattle.media_file.specs.Records.{Entry}
-use Rattle.pcap_file.specs.declared.fault.RecordingFault.{RecordingFault}
 use Rattle.recording_engines.specs.Joining.{Joins, Strand}
 use Rattle.recording_engines.specs.Strands.{strand_in}
+use Rattle.recording_reader.specs.declared.fault.ReadingFault.{ReadingFault}
 
--- what comes next of a recording: this record; or its end, or its fault
+-- what comes next of a file: this record; or its end, or its fault
 pub data Ahead : Type 0 where
   Coming : Entry → Ahead
-  Over : Option RecordingFault → Ahead
+  Over : Option ReadingFault → Ahead
 
-abbrev pub record_ahead : Ahead → Option Entry
-record_ahead (Coming e) = Some e
-record_ahead (Over f) = None
-
--- the records of a recording that were read, that which comes next among them, and why packets were
--- left out
+-- the records of a file that were read, that which comes next among them
 pub record Standing : Type 0 where
   pub entries : List Entry
   pub ahead : Ahead
-  pub left : List Omission
 
--- it is at a fault
-abbrev pub stopped_at : RecordingFault → Standing → Standing
-stopped_at f s = record { entries = s.entries; ahead = Over (Some f); left = s.left }
-
--- all of a recording, where this is still to come of it behind what was read
+-- all of a file, where this is still to come of it behind what was read
 abbrev pub whole_by : List Entry → Ahead → Strand → Strand
 whole_by es (Coming e) r = record { entries = es ++ r.entries; fault = r.fault }
 whole_by es (Over f) r = record { entries = es; fault = f }
@@ -48,7 +37,7 @@ left_of s r = left_by s.ahead r
 abbrev pub nothing : Strand
 nothing = record { entries = []; fault = None }
 
--- the same of recordings
+-- the same of files
 abbrev pub wholes : List Standing → List Strand → List Strand
 wholes [] rs = []
 wholes (s ∷ ss) [] = whole s nothing ∷ wholes ss []
@@ -59,11 +48,11 @@ lefts [] rs = []
 lefts (s ∷ ss) [] = left_of s nothing ∷ lefts ss []
 lefts (s ∷ ss) (r ∷ rs) = left_of s r ∷ lefts ss rs
 
--- recordings are joined to these records so far, whatever is still to come
+-- files are joined to these records so far, whatever is still to come
 pub record HasJoined (ss : List Standing) (entries : List Entry) : Type 0 where
   pub joins : (rs : List Strand) → Joins (wholes ss rs) entries (lefts ss rs)
 
--- of a recording nothing was read but what comes next
+-- of a file nothing was read but what comes next
 abbrev pub IsFresh : Standing → Type 0
 IsFresh s = (r : Strand) → whole s r ≡ left_of s r
 
@@ -72,7 +61,7 @@ AllFresh ss = AllByRecursion IsFresh ss
 
 -- ---- a record more
 
--- what comes next of a recording comes later than this moment; not before it
+-- what comes next of a file comes later than this moment; not before it
 abbrev pub IsLater : ℕ → Ahead → Type 0
 IsLater moment (Coming e) = moment < e.moment
 IsLater moment (Over None) = ⊤
@@ -88,7 +77,7 @@ abbrev pub ReadsMore : List Entry → Ahead → List Entry → Type 0
 ReadsMore es (Coming e) es' = es' ≡ es ++ e ∷ []
 ReadsMore es (Over f) es' = es' ≡ es
 
--- this record was the earliest next, and its recording was read on
+-- this record was the earliest next, and its file was read on
 abbrev pub Takes : List Standing → Entry → List Standing → Type 0
 Takes [] e ss' = ⊥
 Takes (s ∷ ss) e [] = ⊥
@@ -99,13 +88,14 @@ Takes (s ∷ ss) e (s' ∷ ss') =
 
 -- ---- what was read
 
--- whatever a source gives, its recording is what was read and something behind it
-pub record Lays (before now : List ℕ) (ended : Type 0) (flows : Flows) (s : Standing) : Type 0 where
+-- whatever a source gives, its file is what was read and something behind it
+pub record Lays (before now : List ℕ) (ended : Type 0) (flows : Option Flows) (s : Standing)
+    : Type 0 where
   pub says : (octets : List ℕ) → IsRead before now ended octets
       → (r : Strand) × (strand_in flows octets ≡ whole s r)
 
-abbrev pub AllLay : {S : Type 0} → (S → List ℕ) → (S → Type 0) → List (S × S) → List Flows
-    → List Standing → Type 0
+abbrev pub AllLay : {S : Type 0} → (S → List ℕ) → (S → Type 0) → List (S × S)
+    → List (Option Flows) → List Standing → Type 0
 AllLay gave ended [] [] [] = ⊤
 AllLay gave ended (z ∷ zs) (f ∷ fs) (s ∷ ss) =
     Lays (gave z.0) (gave z.1) (ended z.1) f s × AllLay gave ended zs fs ss

@@ -1,6 +1,7 @@
 //! The engine of `import`.
-ghost use Rattle.std.specs.Prelude.{◌≡◌, ◌∷◌, [], length, map, slice_get, IfErr, IfOk, List};
-ghost use Rattle.std.specs.List.{sum_by, zip};
+ghost use Rattle.std.specs.Prelude.{◌≡◌, ◌∷◌, [], None, Some, length, map, slice_get, IfErr, IfOk};
+ghost use Rattle.std.specs.Prelude.{List};
+ghost use Rattle.std.specs.List.{AllByRecursion, sum_by, zip};
 ghost use Rattle.std.specs.Option.{option_copied};
 ghost use Rattle.recording_counts.specs.LeftOut.{left_out_of};
 ghost use Rattle.recording_counts.specs.declared.omission.Omission.{Omission as Reason};
@@ -9,24 +10,27 @@ ghost use Rattle.run_outcome.specs.Moments.{WasRead};
 ghost use Rattle.run_outcome.specs.Refusing.{OfRefusal};
 ghost use Rattle.run_outcome.specs.Text.{GivesText};
 ghost use Rattle.st_format.specs.History.{IsRead};
+ghost use Rattle.recording_engines.specs.Files.{AllClosed, AllReady, AreLeftOut, IsKnown};
+ghost use Rattle.recording_engines.specs.Files.{begun_of, ended_by, failures_by, gave_by};
+ghost use Rattle.recording_engines.specs.Files.{standings};
 ghost use Rattle.recording_engines.specs.Imported.{AsksFlows, Imports, IsAsked, IsFlowsRefusal};
 ghost use Rattle.recording_engines.specs.Imported.{IsImportRefusal, IsPlacesRefusal};
 ghost use Rattle.recording_engines.specs.Imported.{IsSaidRefusal, IsWordRefusal, SaysFlows};
 ghost use Rattle.recording_engines.specs.Progress.{JoinsAll, StopsJoining};
-ghost use Rattle.recording_engines.specs.Strands.{TellsPaths};
-ghost use Rattle.recording_engines.specs.Tracks.{AreLeftOut};
+ghost use Rattle.recording_engines.specs.Steps.{AllFresh};
+ghost use Rattle.recording_engines.specs.Strands.{TakesBy, TellsPaths, only_a, only_b};
 
+use crate::file::ImportFile;
+use crate::files::{know_all, left_out};
 use crate::joining::join;
 use crate::opening::open_all;
-use crate::track::Track;
-use crate::tracks::left_out;
 use flow::{Flow, Flows, read_flow};
 use media_file::write_front;
 use recording_counts::LeftOut;
 use run_outcome::{Fault, Line, Refusal, print, read_checked};
 use sdp_format::read_flows;
 use st_format::{ByteSink, ByteSource};
-use std::alloc::Allocator;
+use std::alloc::{AllocError, Allocator};
 
 /// What `import` is asked for, beside its files: the texts of the paths' flows. Where there is
 /// any, a path without one is not taken; and where there is none, the SDP says the flows.
@@ -36,62 +40,65 @@ pub struct Importing<'a> {
     pub b: Option<&'a [u8]>,
 }
 
-/// Makes a capture of recordings of other tools.
+/// Makes a capture of captures and of recordings of other tools, each told by its first octets.
 ///
-/// The SDP text is read first, of at most 65,535 octets, and becomes the capture's text. The flows
-/// of the paths are those that `wanted` names, or else those of the SDP's video sections, one or
-/// two, the first path A's. Where both have one address and port, the first of two recordings is
-/// path A's, and the second path B's. A record is a UDP datagram to a flow: its path, when it came,
-/// in nanoseconds since 1970, or 0 where the recording doesn't say, and its octets. Each recording
-/// is read once, and its order is kept; always the earliest of the next records is written, of
-/// equally early ones the first recording's. All else is left out.
+/// The SDP text is read first, of at most 65,535 octets, and becomes the capture's text. A capture's
+/// records are taken with their paths and moments. Of a recording a record is a UDP datagram of a
+/// flow: its path, when it came, in nanoseconds since 1970, or 0 where the recording doesn't say,
+/// and its octets. The flows of the paths are those that `wanted` names, or else those of the SDP's
+/// video sections, one or two, the first path A's. Where both paths have one flow, the first of two
+/// files is path A's, and the second path B's. Each file is read once, and its order is kept; always
+/// the earliest of the next records is written, of equally early ones the first file's. All else is
+/// left out.
 ///
 /// Behind the last record `recorded A N B M left out K` is printed to `output`, and these numbers
 /// are answered, what was left out by the reason; K is their sum.
 ///
 /// # Errors
 ///
-/// A refusal where the SDP, a word for a flow, the flows or a recording is refused, or where there
-/// are more than 16,777,216 records; nothing is written to `capture` before each recording was read
-/// as far as its first record. And else that a device failed or memory was wanted.
+/// A refusal where the SDP, a word for a flow, the flows or a file is refused, or where there are
+/// more than 16,777,216 records; nothing is written to `capture` before each file was read as far as
+/// its first record. And else that a device failed or memory was wanted.
 pub fn import<A, D, S, K, O>(
     alloc: A,
     wanted: Importing<'_>,
     sdp: &mut D,
-    recordings: &mut [S],
+    files: &mut [ImportFile<A, S>],
     capture: &mut K,
     output: &mut O,
 ) -> Result<ImportCounts, Fault>
 where
     A: Allocator + Copy,
     D: ByteSource,
-    S: ByteSource,
+    S: ByteSource + Drop,
     K: ByteSink,
     O: ByteSink,
-    ensures len { length recordings.new ≡ length recordings.old }
-    // What was read of the recordings is all of them, up to their ends.
+    requires { AllClosed files.old }
+    ensures len { length files.new ≡ length files.old }
+    // What was read of the files is all of them, up to their ends.
     ensures imported { IfOk result (Imports
         (option_copied wanted.entry.a) (option_copied wanted.entry.b)
         (GivesText 65535 (D.gave sdp.old) (D.gave sdp.new) (D.ended sdp.new))
-        (WasRead S.gave S.ended) (zip recordings.old recordings.new)
+        (WasRead (gave_by S.gave) (ended_by S.ended)) (zip files.old files.new)
         (K.took capture.old) (K.took capture.new) (O.took output.old) (O.took output.new)) }
     ensures refusal { IfErr result (λ f. OfRefusal f (IsImportRefusal
         (option_copied wanted.entry.a) (option_copied wanted.entry.b)
         (IsRead (D.gave sdp.old) (D.gave sdp.new) (D.ended sdp.new))
         (GivesText 65535 (D.gave sdp.old) (D.gave sdp.new) (D.ended sdp.new))
-        (WasRead S.gave S.ended) (zip recordings.old recordings.new)
+        (WasRead (gave_by S.gave) (ended_by S.ended)) (zip files.old files.new)
         (K.took capture.old) (K.took capture.new))) }
     ensures failures { Accounts result (counts (D.failures sdp.old) (D.failures sdp.new)
-        ∷ counts (sum_by S.failures recordings.old) (sum_by S.failures recordings.new)
+        ∷ counts (sum_by (failures_by S.failures) files.old)
+        (sum_by (failures_by S.failures) files.new)
         ∷ counts (K.failures capture.old) (K.failures capture.new)
         ∷ counts (O.failures output.old) (O.failures output.new) ∷ []) }
 {
     let said = read_checked(alloc, sdp, Refusal::ImportSdp)?;
     let flows = flows_of(wanted, &said)?;
-    let each = flows_each(alloc, flows, recordings.len())?;
-    let mut tracks = open_all(alloc, &each, recordings)?;
+    let each = taken_by(alloc, flows, files.len())?;
+    open_all(alloc, &each, files)?;
     write_front(capture, &said)?;
-    let counts = join_all(&mut tracks, recordings, capture)?;
+    let counts = join_all(files, capture)?;
     print(
         Line::Recorded(counts.a, counts.b, counts.left_out.total()),
         output,
@@ -99,7 +106,7 @@ where
     Ok(counts)
 }
 
-/// What became of the packets of recordings.
+/// What became of the records and packets of files.
 #[derive(Clone, Copy)]
 pub struct ImportCounts {
     /// How many records were written of path A.
@@ -110,31 +117,34 @@ pub struct ImportCounts {
     pub left_out: LeftOut,
 }
 
-/// Writes all records of recordings as [`join`] does, and counts what was left out too.
+/// Writes all records of files as [`join`] does, counts what was left out too, and learns what is
+/// known of the files.
 fn join_all<A: Allocator, S: ByteSource, K: ByteSink>(
-    tracks: &mut [Track<A>],
-    recordings: &mut [S],
+    files: &mut [ImportFile<A, S>],
     capture: &mut K,
 ) -> Result<ImportCounts, Fault>
-    requires { length tracks.old ≡ length recordings.old }
-    ensures flows { map (λ t. t.flows) tracks.new ≡ map (λ t. t.flows) tracks.old }
-    ensures recordings { length recordings.new ≡ length recordings.old }
-    ensures joined { IfOk result (λ r. JoinsAll S.gave S.ended tracks.old tracks.new
-        recordings.old recordings.new (K.took capture.old) (K.took capture.new)
+    requires ready { AllReady files.old }
+    requires fresh { AllFresh (standings files.old) }
+    ensures files { length files.new ≡ length files.old }
+    ensures begun { map begun_of files.new ≡ map begun_of files.old }
+    ensures known { AllByRecursion (IsKnown S.gave S.ended) files.new }
+    ensures joined { IfOk result (λ r. JoinsAll files.new (K.took capture.old) (K.took capture.new)
         (record { a = r.a; b = r.b })) }
-    ensures left { IfOk result (λ r. (omissions : List Reason) → AreLeftOut tracks.new omissions
+    ensures left { IfOk result (λ r. (omissions : List Reason) → AreLeftOut files.new omissions
         → r.left_out ≡ left_out_of omissions) }
-    ensures stopped { IfErr result (λ f. OfRefusal f (λ r. StopsJoining S.gave S.ended r
-        tracks.old recordings.old recordings.new (K.took capture.old) (K.took capture.new))) }
-    ensures failures { Accounts result (counts (sum_by S.failures recordings.old)
-        (sum_by S.failures recordings.new)
+    ensures stopped { IfErr result (λ f. OfRefusal f (λ r. StopsJoining r files.new
+        (K.took capture.old) (K.took capture.new))) }
+    ensures failures { Accounts result (counts (sum_by (failures_by S.failures) files.old)
+        (sum_by (failures_by S.failures) files.new)
         ∷ counts (K.failures capture.old) (K.failures capture.new) ∷ []) }
 {
-    let written = join(tracks, recordings, capture)?;
+    let joined = join(files, capture);
+    know_all(files);
+    let written = joined?;
     Ok(ImportCounts {
         a: written.a,
         b: written.b,
-        left_out: left_out(tracks),
+        left_out: left_out(files),
     })
 }
 
@@ -193,13 +203,48 @@ fn flow_at(flows: &[Flow], place: usize) -> Option<Flow>
     flows.get(place).copied()
 }
 
+/// The flows of path A alone, and of path B alone.
+fn apart(flows: Flows) -> (Flows, Flows)
+    ensures { result ≡ (only_a flows, only_b flows) }
+{
+    let a = Flows {
+        a: flows.a,
+        b: None,
+    };
+    let b = Flows {
+        a: None,
+        b: flows.b,
+    };
+    (a, b)
+}
+
+/// The flows by which each of so many files is taken where it is a recording: all of `flows` for
+/// each; or, where both paths have one flow, path A's for the first of two, and path B's for the
+/// second, and none for other numbers of files.
+fn taken_by<A: Allocator>(
+    alloc: A,
+    flows: Flows,
+    count: usize,
+) -> Result<Vec<Option<Flows>, A>, AllocError>
+    ensures { IfOk result (λ each. TakesBy flows count each.items) }
+{
+    if !flows.is_one_place() {
+        return vec![in alloc; Some(flows); count];
+    }
+    if count != 2 {
+        return vec![in alloc; None; count];
+    }
+    let (a, b) = apart(flows);
+    Vec::from_slice(alloc, &[Some(a), Some(b)])
+}
+
 /// The flows by which each of so many recordings is taken: all of `flows` for each; or, where both
-/// paths have one address and port, path A's for the first of two, and path B's for the second.
+/// paths have one flow, path A's for the first of two, and path B's for the second.
 ///
 /// # Errors
 ///
-/// `ImportPlaces` where both paths have one address and port, and there aren't two recordings; and
-/// that memory was wanted.
+/// `ImportPlaces` where both paths have one flow, and there aren't two recordings; and that memory
+/// was wanted.
 pub fn flows_each<A: Allocator>(
     alloc: A,
     flows: Flows,
@@ -215,13 +260,6 @@ pub fn flows_each<A: Allocator>(
     if count != 2 {
         return Err(Fault::Refused(Refusal::ImportPlaces));
     }
-    let a = Flows {
-        a: flows.a,
-        b: None,
-    };
-    let b = Flows {
-        a: None,
-        b: flows.b,
-    };
+    let (a, b) = apart(flows);
     Ok(Vec::from_slice(alloc, &[a, b])?)
 }

@@ -1,15 +1,16 @@
-//! Writing the records of recordings to a capture, the earliest first.
+//! Writing the records of files to a capture, the earliest first.
 ghost use Rattle.std.specs.Prelude.{◌≡◌, ◌<◌, ◌≤◌, ◌+◌, ◌∷◌, [], length, map, IfErr, IfOk, OnOk};
 ghost use Rattle.std.specs.List.{sum_by};
 ghost use Rattle.run_outcome.specs.Fault.{Accounts, IfRefused, counts};
 ghost use Rattle.run_outcome.specs.Refusing.{OfRefusal};
-ghost use Rattle.recording_engines.specs.Progress.{CountsPath, JoinsAll, StopsAtPlace};
-ghost use Rattle.recording_engines.specs.Progress.{StopsJoining, TakesAt, WritesNext};
+ghost use Rattle.recording_engines.specs.Files.{AllReady, IsLed, begun_of, failures_by};
+ghost use Rattle.recording_engines.specs.Files.{standings};
+ghost use Rattle.recording_engines.specs.Progress.{CountsPath, JoinsAll, StopsBy, StopsJoining};
+ghost use Rattle.recording_engines.specs.Progress.{TakesOne, WritesNext};
+ghost use Rattle.recording_engines.specs.Steps.{AllFresh};
 
-use crate::reading::advance;
-use crate::record::{moment_of, record_of};
-use crate::track::Track;
-use crate::tracks::earliest;
+use crate::file::ImportFile;
+use crate::files::earliest;
 use media_file::write_record;
 use run_outcome::{Fault, Refusal};
 use st_format::{ByteSink, ByteSource, Path};
@@ -38,14 +39,14 @@ impl Written {
     }
 }
 
-/// Writes the record that comes next of a recording.
-fn write_next<A: Allocator, K: ByteSink>(
-    track: &Track<A>,
+/// Writes the record that comes next of a file.
+fn write_next<A: Allocator, S: ByteSource, K: ByteSink>(
+    file: &ImportFile<A, S>,
     capture: &mut K,
     written: &mut Written,
 ) -> Result<(), Fault>
     requires few { written.old.a + written.old.b < 16777216 }
-    ensures written { OnOk result (WritesNext track.now (K.took capture.old) (K.took capture.new)
+    ensures written { OnOk result (WritesNext file.now (K.took capture.old) (K.took capture.new)
         written.old written.new) }
     ensures one { OnOk result
         (written.new.a + written.new.b ≤ written.old.a + written.old.b + 1) }
@@ -53,79 +54,74 @@ fn write_next<A: Allocator, K: ByteSink>(
     ensures failures { Accounts result (counts (K.failures capture.old) (K.failures capture.new)
         ∷ []) }
 {
-    let Some(packet) = track.next else {
+    let Some(record) = file.next() else {
         return Ok(());
     };
-    let Ok(record) = record_of(&track.flows, &packet, &track.room) else {
-        return Ok(());
-    };
-    write_record(capture, record.path, moment_of(&packet), record.octets)?;
+    write_record(capture, record.path, record.moment, record.octets)?;
     written.add(record.path);
     Ok(())
 }
 
-/// Writes the record that comes next of the recording of a place, and reads that on.
+/// Writes the record that comes next of the file of a place, and reads that on.
 fn take_at<A: Allocator, S: ByteSource, K: ByteSink>(
-    tracks: &mut [Track<A>],
-    recordings: &mut [S],
+    files: &mut [ImportFile<A, S>],
     place: usize,
     capture: &mut K,
     written: &mut Written,
 ) -> Result<(), Fault>
-    requires tracks { place < length tracks.old }
-    requires recordings { place < length recordings.old }
+    requires place { place < length files.old }
+    requires ready { AllReady files.old }
+    requires led { IsLed place files.old }
     requires few { written.old.a + written.old.b < 16777216 }
-    ensures tracks { length tracks.new ≡ length tracks.old }
-    ensures flows { map (λ t. t.flows) tracks.new ≡ map (λ t. t.flows) tracks.old }
-    ensures recordings { length recordings.new ≡ length recordings.old }
-    ensures taken { OnOk result (TakesAt S.gave S.ended place tracks.old tracks.new
-        recordings.old recordings.new
+    ensures files { length files.new ≡ length files.old }
+    ensures begun { map begun_of files.new ≡ map begun_of files.old }
+    ensures taken { OnOk result (TakesOne files.old files.new
         (K.took capture.old) (K.took capture.new) written.old written.new) }
     ensures one { OnOk result
         (written.new.a + written.new.b ≤ written.old.a + written.old.b + 1) }
-    ensures stopped { IfErr result (λ f. OfRefusal f (λ r. StopsAtPlace S.gave S.ended r place
-        tracks.old recordings.old recordings.new (K.took capture.old) (K.took capture.new))) }
-    ensures failures { Accounts result (counts (sum_by S.failures recordings.old)
-        (sum_by S.failures recordings.new)
+    ensures stopped { IfErr result (λ f. OfRefusal f (λ r. StopsBy r
+        files.old files.new (K.took capture.old) (K.took capture.new))) }
+    ensures failures { Accounts result (counts (sum_by (failures_by S.failures) files.old)
+        (sum_by (failures_by S.failures) files.new)
         ∷ counts (K.failures capture.old) (K.failures capture.new) ∷ []) }
 {
-    let track = &mut tracks[place];
-    write_next(track, capture, written)?;
-    advance(track, &mut recordings[place])?;
+    let file = &mut files[place];
+    write_next(file, capture, written)?;
+    file.go_on()?;
     Ok(())
 }
 
-/// Writes all records of recordings, of at most 16,777,216, always the earliest next, and answers
-/// how many they are.
+/// Writes all records of files, of at most 16,777,216, always the earliest next, and answers how
+/// many they are.
 ///
 /// # Errors
 ///
-/// A refusal where a recording is at fault, behind the records before the fault, or where there are
-/// more records; and else that a device failed.
+/// A refusal where a file is at fault, behind the records before the fault, or where there are more
+/// records; and else that a device failed.
 pub(crate) fn join<A: Allocator, S: ByteSource, K: ByteSink>(
-    tracks: &mut [Track<A>],
-    recordings: &mut [S],
+    files: &mut [ImportFile<A, S>],
     capture: &mut K,
 ) -> Result<Written, Fault>
-    requires { length tracks.old ≡ length recordings.old }
-    ensures flows { map (λ t. t.flows) tracks.new ≡ map (λ t. t.flows) tracks.old }
-    ensures recordings { length recordings.new ≡ length recordings.old }
-    ensures joined { IfOk result (λ w. JoinsAll S.gave S.ended tracks.old tracks.new
-        recordings.old recordings.new (K.took capture.old) (K.took capture.new) w) }
-    ensures stopped { IfErr result (λ f. OfRefusal f (λ r. StopsJoining S.gave S.ended r
-        tracks.old recordings.old recordings.new (K.took capture.old) (K.took capture.new))) }
-    ensures failures { Accounts result (counts (sum_by S.failures recordings.old)
-        (sum_by S.failures recordings.new)
+    requires ready { AllReady files.old }
+    requires fresh { AllFresh (standings files.old) }
+    ensures files { length files.new ≡ length files.old }
+    ensures begun { map begun_of files.new ≡ map begun_of files.old }
+    ensures joined { IfOk result (λ w. JoinsAll files.new (K.took capture.old) (K.took capture.new)
+        w) }
+    ensures stopped { IfErr result (λ f. OfRefusal f (λ r. StopsJoining r files.new
+        (K.took capture.old) (K.took capture.new))) }
+    ensures failures { Accounts result (counts (sum_by (failures_by S.failures) files.old)
+        (sum_by (failures_by S.failures) files.new)
         ∷ counts (K.failures capture.old) (K.failures capture.new) ∷ []) }
 {
     let mut written = Written { a: 0, b: 0 };
     for turn in 0..RECORDS {
-        let Some((place, _)) = earliest(tracks) else {
+        let Some((place, _)) = earliest(files) else {
             return Ok(written);
         };
-        take_at(tracks, recordings, place, capture, &mut written)?;
+        take_at(files, place, capture, &mut written)?;
     }
-    match earliest(tracks) {
+    match earliest(files) {
         None => Ok(written),
         Some(_) => Err(Fault::Refused(Refusal::ImportRecords)),
     }

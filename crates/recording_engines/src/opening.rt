@@ -1,87 +1,153 @@
-//! Opening recordings.
-ghost use Rattle.std.specs.Prelude.{◌≡◌, ◌∷◌, [], length, map, vec_len, IfErr, IfOk};
+//! Opening files.
+ghost use Rattle.std.specs.Prelude.{◌≡◌, ◌≤◌, ◌∷◌, [], length, vec_len, IfErr, IfOk, OnOk};
 ghost use Rattle.std.specs.List.{Any, sum_by, zip};
+ghost use Rattle.recording_engines.specs.Files.{AllClosed, AllOpened, IsClosed, IsNew, IsOpened};
+ghost use Rattle.recording_engines.specs.Files.{IsReady, IsUnread, begun_of, ended_by};
+ghost use Rattle.recording_engines.specs.Files.{failures_by, gave_by, standing_of};
+ghost use Rattle.recording_engines.specs.Opened.{IsStopRefusal};
 ghost use Rattle.run_outcome.specs.Fault.{Accounts, counts};
 ghost use Rattle.run_outcome.specs.Moments.{WasRead};
 ghost use Rattle.run_outcome.specs.Refusing.{OfRefusal};
-ghost use Rattle.recording_engines.specs.Opened.{AllOpened, IsStopRefusal};
-ghost use Rattle.recording_engines.specs.Tracks.{BeginsAt};
+ghost use Rattle.recording_engines.specs.Steps.{IsFresh};
 ghost use Rattle.st_format.specs.History.{IsRead};
 
-use crate::reading::read_on;
-use crate::track::Track;
+use crate::faults::of_opening;
+use crate::file::ImportFile;
+use crate::files::know;
 use flow::Flows;
-use pcap_file::open_recording;
-use recording_counts::LeftOut;
+use recording_reader::DatagramReader;
 use run_outcome::Fault;
 use st_format::ByteSource;
 use std::alloc::{AllocError, Allocator};
+use std::mem;
 
-/// The octets of a packet or a block that there is room for.
-const ROOM: usize = 1_048_576;
+/// The octets that a capture's text has at most.
+const TEXT: usize = 65_535;
 
-/// Room for the octets of a packet or a block.
-fn room<A: Allocator>(alloc: A) -> Result<Vec<u8, A>, AllocError>
-    ensures { IfOk result (λ v. vec_len v ≡ 1048576) }
+/// Room for a capture's text.
+fn text_room<A: Allocator>(alloc: A) -> Result<Vec<u8, A>, AllocError>
+    ensures { IfOk result (λ v. vec_len v ≡ 65535) }
 {
-    vec![in alloc; 0u8; ROOM]
+    vec![in alloc; 0u8; TEXT]
 }
 
-/// Opens a recording, and reads on to its first record of the flows. Takes room for a packet.
+/// A file of this source with its reader, which takes it by flows where it is a recording; or with
+/// the source alone, and why it isn't opened.
+#[tactic(auto, using(crate::proofs::Openings::opened_one))]
+fn open_source<A: Allocator, S: ByteSource>(
+    alloc: A,
+    flows: Option<Flows>,
+    source: S,
+    text: &mut [u8],
+) -> (ImportFile<A, S>, Result<(), Fault>)
+    requires { 65535 ≤ length text.old }
+    ensures room { length text.new ≡ length text.old }
+    ensures opened { OnOk result.1 (IsNew flows (S.gave source) result.0) }
+    ensures refusal { IfErr result.1 (λ f. OfRefusal f (IsStopRefusal (IsRead
+        (S.gave source) (gave_by S.gave result.0) (ended_by S.ended result.0)) flows)) }
+    ensures failures { Accounts result.1 (counts (S.failures source)
+        (failures_by S.failures result.0) ∷ []) }
+{
+    match DatagramReader::open(alloc, flows, source, text) {
+        Ok(reader) => (ImportFile::Open(reader), Ok(())),
+        Err((fault, source)) => (ImportFile::Closed(source), Err(of_opening(fault))),
+    }
+}
+
+/// Opens a file, which is taken by flows where it is a recording. Takes room for a record or a
+/// packet. `text` has room for a capture's text.
 ///
 /// # Errors
 ///
-/// The recording's fault, where it has one before that record; and else that the source failed or
-/// memory was wanted.
-pub fn open_track<A: Allocator, S: ByteSource>(
+/// A refusal where it is a recording and there are no flows, or where it has a fault before all
+/// records; and else that its source failed or memory was wanted.
+fn open_file<A: Allocator, S: ByteSource + Drop>(
     alloc: A,
-    flows: Flows,
-    source: &mut S,
-) -> Result<Track<A>, Fault>
-    ensures flows { IfOk result (λ t. t.flows ≡ flows) }
-    ensures begins { IfOk result (λ t. BeginsAt (S.gave source.old) (S.gave source.new)
-        (S.ended source.new) t) }
-    ensures refusal { IfErr result (λ f. OfRefusal f (IsStopRefusal
-        (IsRead (S.gave source.old) (S.gave source.new) (S.ended source.new)))) }
-    ensures failures { Accounts result (counts (S.failures source.old) (S.failures source.new)
-        ∷ []) }
-    ensures names { S.names source.new ≡ S.names source.old }
+    flows: Option<Flows>,
+    file: &mut ImportFile<A, S>,
+    text: &mut [u8],
+) -> Result<(), Fault>
+    requires closed { IsClosed file.old }
+    requires text { 65535 ≤ length text.old }
+    ensures room { length text.new ≡ length text.old }
+    ensures opened { OnOk result (IsNew flows (gave_by S.gave file.old) file.new) }
+    ensures refusal { IfErr result (λ f. OfRefusal f (IsStopRefusal (IsRead
+        (gave_by S.gave file.old) (gave_by S.gave file.new) (ended_by S.ended file.new)) flows)) }
+    ensures failures { Accounts result (counts (failures_by S.failures file.old)
+        (failures_by S.failures file.new) ∷ []) }
 {
-    let mut room = room(alloc)?;
-    let mut layout = open_recording(source, &mut room)?;
-    let mut left_out = LeftOut::new();
-    let next = read_on(source, &flows, &mut layout, &mut room, &mut left_out)?;
-    Ok(Track {
-        flows,
-        layout,
-        next,
-        left_out,
-        room,
-    })
+    let ImportFile::Closed(source) = mem::replace(file, ImportFile::Taken) else {
+        return Ok(());
+    };
+    let (opened, outcome) = open_source(alloc, flows, source, text);
+    *file = opened;
+    outcome
 }
 
-/// Opens recordings, each by flows of its own, and reads each on to its first record.
-pub(crate) fn open_all<A: Allocator + Copy, S: ByteSource>(
-    alloc: A,
-    each: &[Flows],
-    recordings: &mut [S],
-) -> Result<Vec<Track<A>, A>, Fault>
-    requires { length each.now ≡ length recordings.old }
-    ensures len { length recordings.new ≡ length recordings.old }
-    ensures flows { IfOk result (λ ts. map (λ t. t.flows) ts.items ≡ each.now) }
-    ensures opened { IfOk result (λ ts. AllOpened S.gave S.ended
-        (zip recordings.old recordings.new) ts.items) }
-    ensures refusal { IfErr result (λ f. OfRefusal f (λ r. Any
-        (λ z. IsStopRefusal (WasRead S.gave S.ended z) r) (zip recordings.old recordings.new))) }
-    ensures failures { Accounts result (counts (sum_by S.failures recordings.old)
-        (sum_by S.failures recordings.new) ∷ []) }
+/// Reads a file on to its first record, or to its end.
+///
+/// # Errors
+///
+/// A refusal where it has a fault before that; and else that its source failed.
+#[tactic(auto, using(crate::proofs::Openings::first_fresh))]
+fn read_first<A: Allocator, S: ByteSource>(file: &mut ImportFile<A, S>) -> Result<(), Fault>
+    requires { IsUnread file.old }
+    ensures begun { begun_of file.new ≡ begun_of file.old }
+    ensures ready { OnOk result (IsReady file.new) }
+    ensures fresh { OnOk result (IsFresh (standing_of file.new)) }
+    ensures refusal { IfErr result (λ f. OfRefusal f (IsStopRefusal (IsRead
+        (begun_of file.new).1 (gave_by S.gave file.new) (ended_by S.ended file.new))
+        (begun_of file.new).0)) }
+    ensures failures { Accounts result (counts (failures_by S.failures file.old)
+        (failures_by S.failures file.new) ∷ []) }
 {
-    let mut tracks = Vec::new(alloc);
-    for place in 0..recordings.len() {
-        let track = open_track(alloc, each[place], &mut recordings[place])?;
-        if tracks.push(track).is_err() {
-            return Err(Fault::Memory);
-        }
+    let read = file.go_on();
+    know(file);
+    read
+}
+
+/// Opens a file as [`open_file`] does, and reads on as [`read_first`] does.
+#[tactic(auto, using(crate::proofs::Openings::begun_refusal))]
+fn begin_file<A: Allocator, S: ByteSource + Drop>(
+    alloc: A,
+    flows: Option<Flows>,
+    file: &mut ImportFile<A, S>,
+    text: &mut [u8],
+) -> Result<(), Fault>
+    requires closed { IsClosed file.old }
+    requires text { 65535 ≤ length text.old }
+    ensures room { length text.new ≡ length text.old }
+    ensures opened { OnOk result (IsOpened S.gave flows file.old file.new) }
+    ensures refusal { IfErr result (λ f. OfRefusal f (IsStopRefusal (IsRead
+        (gave_by S.gave file.old) (gave_by S.gave file.new) (ended_by S.ended file.new)) flows)) }
+    ensures failures { Accounts result (counts (failures_by S.failures file.old)
+        (failures_by S.failures file.new) ∷ []) }
+{
+    open_file(alloc, flows, file, text)?;
+    read_first(file)?;
+    Ok(())
+}
+
+/// Opens files, each by flows of its own, and reads each on to its first record.
+pub(crate) fn open_all<A: Allocator + Copy, S: ByteSource + Drop>(
+    alloc: A,
+    each: &[Option<Flows>],
+    files: &mut [ImportFile<A, S>],
+) -> Result<(), Fault>
+    requires count { length each.now ≡ length files.old }
+    requires closed { AllClosed files.old }
+    ensures len { length files.new ≡ length files.old }
+    ensures opened { OnOk result (AllOpened S.gave each.now files.old files.new) }
+    ensures refusal { IfErr result (λ f. OfRefusal f (λ r. Any
+        (λ x. IsStopRefusal (WasRead (gave_by S.gave) (ended_by S.ended) x.0) x.1 r)
+        (zip (zip files.old files.new) each.now))) }
+    ensures failures { Accounts result (counts (sum_by (failures_by S.failures) files.old)
+        (sum_by (failures_by S.failures) files.new) ∷ []) }
+{
+    let mut room = text_room(alloc)?;
+    let text = room.as_mut_slice();
+    for place in 0..files.len() {
+        begin_file(alloc, each[place], &mut files[place], text)?;
     }
-    Ok(tracks)
+    Ok(())
 }

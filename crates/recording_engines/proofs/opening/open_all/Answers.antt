@@ -1,96 +1,79 @@
-use Rattle.std.proofs.Common.{◌≡◌, ◌∙◌, ◌++◌, ◌∷◌, ◌<◌, [], List, ap, arith, length, length-append, map, refl, set}
-use Rattle.std.proofs.Common.{subst, sym}
+use Rattle.std.proofs.Common.{◌∙◌, ◌∷◌, ◌<◌, [], ℕ, arith, length, refl, set, subst, sym}
 use Rattle.std.proofs.lemmas.List.{length-set}
-use Rattle.std.proofs.Common.{ℕ}
-use Rattle.run_outcome.specs.Fault.{Blames, counts}
-use Rattle.std.specs.List.{sum_by, zip}
 use Rattle.std.proofs.lemmas.Result.{err_from_is_err_and}
-use Rattle.run_outcome.proofs.SetSums.{set_counted}
-use Rattle.recording_engines.specs.declared.track.Track.{Track}
-use Rattle.recording_engines.proofs.Openings.{FrontOpened, drop_set, flows_more, front_none, ok_then}
-use Rattle.recording_engines.proofs.Openings.{any_now, opened_all, opened_more, take_all}
+use Rattle.std.specs.List.{sum_by}
 use Rattle.run_outcome.proofs.Refusals.{of_refusal_map}
-use Rattle.run_outcome.specs.Moments.{WasRead}
-use Rattle.recording_engines.specs.Opened.{IsStopRefusal}
+use Rattle.run_outcome.proofs.SetSums.{set_counted}
+use Rattle.run_outcome.specs.Fault.{Blames, counts}
+use Rattle.recording_engines.specs.Files.{IsClosed, failures_by}
+use Rattle.recording_engines.specs.declared.file.ImportFile.{ImportFile}
+use Rattle.recording_engines.proofs.Openings.{any_stops, closed_there, next_same, opened_all}
+use Rattle.recording_engines.proofs.Openings.{opened_more}
 use Rattle.recording_engines.proofs.opening.open_all.Goals as goal
 
 pub loop-place-init : goal.loop-place-init
-loop-place-init g c =
-    let none = c.new-tracks.ensures.items in
-    record {
-      count = ap length none;
-      len = refl;
-      behind = refl;
-      flows = rw none refl;
-      opened = rw none (front_none g.S.ByteSource.gave g.S.ByteSource.ended _);
-      failures = refl;
-    }
+loop-place-init g c = record { len = refl; opened = refl; failures = refl }
+
+pub begin_file-requires-clause-closed : goal.begin_file-requires-clause-closed
+begin_file-requires-clause-closed g c =
+    let l = c.loop-place in
+    let d = c.index-files-place.result in
+    let lt : l.place < length c.args.files.now =
+    omega (arith, c.loop-place-test.true, l.invariant.len) in
+    subst (λ (f : ImportFile _ _). IsClosed f)
+    (sym (next_same g.S.ByteSource.gave l.place c.args.each.now c.args.files.now l.files d
+    l.invariant.opened))
+    (closed_there c.args.files.now l.place d c.requires.closed lt)
 
 pub loop-place-preserved : goal.loop-place-preserved
 loop-place-preserved g c =
     let l = c.loop-place in
     let told = g.S.ByteSource in
-    let t = c.in_ok-track.track in
-    let d = c.index-recordings-place.result in
-    let y = c.open_track.new.source in
-    let pushed : c.push.new.self.items ≡ l.tracks.items ++ t ∷ [] =
-    c.push.ensures.items ∙ ok_then c.push.result (l.tracks.items ++ t ∷ []) l.tracks.items
-    (sym c.is_err.ensures.value ∙ c.if-is_err.false) in
-    let lt : l.place < length c.args.recordings.now =
+    let d = c.index-files-place.result in
+    let y = c.begin_file.new.file in
+    let lt : l.place < length c.args.files.now =
     omega (arith, c.loop-place-test.true, l.invariant.len) in
-    let counts = set_counted told.failures l.recordings l.place d y c.open_track.result
-    (omega (arith, lt, l.invariant.len)) c.open_track.ensures.failures in
+    let counts = set_counted (failures_by told.failures) l.files l.place d y c.begin_file.result
+    (omega (arith, lt, l.invariant.len)) c.begin_file.ensures.failures in
     record {
-      count = omega (arith, ap length pushed, length-append l.tracks.items (t ∷ []), l.invariant.count);
-      len = length-set l.recordings l.place y ∙ l.invariant.len;
-      behind = drop_set l.recordings c.args.recordings.now l.place y l.invariant.behind;
-      flows = ap (map (λ (u : Track g.row.A.Denot). u.flows)) pushed
-          ∙ flows_more (λ (u : Track g.row.A.Denot). u.flows) l.tracks.items t c.args.each.now l.place
-          _ l.invariant.flows c.in_ok-track.ensures.flows (omega (arith, lt, c.requires));
-      opened =
-          subst (λ (ts : List (Track g.row.A.Denot)). FrontOpened told.gave told.ended
-          (zip c.args.recordings.now (set l.recordings l.place y)) ts) (sym pushed)
-          (opened_more told.gave told.ended c.args.recordings.now l.recordings l.tracks.items l.place
-          d y t l.invariant.opened l.invariant.count lt l.invariant.len l.invariant.behind
-          c.in_ok-track.ensures.begins);
-      failures = (rw c.in_ok-track.was at counts) ∙ l.invariant.failures;
+      len = length-set l.files l.place y ∙ l.invariant.len;
+      opened = opened_more told.gave l.place c.args.each.now c.args.files.now l.files _ d y
+          l.invariant.opened lt c.requires.count c.in_ok-begin_file.ensures.opened;
+      failures = (rw c.in_ok-begin_file.was at counts) ∙ l.invariant.failures;
     }
 
-pub returns-in_err-track-clause-refusal : goal.returns-in_err-track-clause-refusal
-returns-in_err-track-clause-refusal g c =
+pub returns-in_err-begin_file-clause-refusal : goal.returns-in_err-begin_file-clause-refusal
+returns-in_err-begin_file-clause-refusal g c =
     let l = c.loop-place in
     let told = g.S.ByteSource in
-    let p = err_from_is_err_and c.from_residual.result c.from_residual.ensures.1 in
-    let lt : l.place < length c.args.recordings.now =
+    let lt : l.place < length c.args.files.now =
     omega (arith, c.loop-place-test.true, l.invariant.len) in
+    let p = err_from_is_err_and c.from_residual-in_err-begin_file.result
+    c.from_residual-in_err-begin_file.ensures.1 in
     rw (p.1, p.2)
-    (of_refusal_map c.in_err-track.field-0.0
-    (λ r is. any_now (λ z. IsStopRefusal (WasRead told.gave told.ended z) r) c.args.recordings.now
-    l.recordings l.place c.index-recordings-place.result c.open_track.new.source lt l.invariant.len
-    l.invariant.behind is) c.in_err-track.ensures.refusal)
+    (of_refusal_map c.in_err-begin_file.field-0.0
+    (λ r is. any_stops told.gave told.ended l.place c.args.each.now c.args.files.now l.files _
+    c.index-files-place.result c.begin_file.new.file r l.invariant.opened lt l.invariant.len
+    c.requires.count is) c.in_err-begin_file.ensures.refusal)
 
-pub returns-in_err-track-clause-failures : goal.returns-in_err-track-clause-failures
-returns-in_err-track-clause-failures g c =
+pub returns-in_err-begin_file-clause-failures : goal.returns-in_err-begin_file-clause-failures
+returns-in_err-begin_file-clause-failures g c =
     let l = c.loop-place in
     let told = g.S.ByteSource in
-    let p = err_from_is_err_and c.from_residual.result c.from_residual.ensures.1 in
-    let counted = set_counted told.failures l.recordings l.place c.index-recordings-place.result
-    c.open_track.new.source c.open_track.result (omega (arith, c.loop-place-test.true, l.invariant.len))
-    c.open_track.ensures.failures in
+    let y = c.begin_file.new.file in
+    let p = err_from_is_err_and c.from_residual-in_err-begin_file.result
+    c.from_residual-in_err-begin_file.ensures.1 in
+    let counted = set_counted (failures_by told.failures) l.files l.place c.index-files-place.result y
+    c.begin_file.result (omega (arith, c.loop-place-test.true, l.invariant.len))
+    c.begin_file.ensures.failures in
     rw (p.1, p.2)
-    (subst (λ (n : ℕ). Blames (counts n (sum_by told.failures
-    (set l.recordings l.place c.open_track.new.source)) ∷ []) c.in_err-track.field-0.0)
-    l.invariant.failures (rw c.in_err-track.was at counted))
-
-pub returns-clause-flows : goal.returns-clause-flows
-returns-clause-flows g c =
-    let l = c.loop-place in
-    l.invariant.flows
-    ∙ take_all l.place c.args.each.now (omega (arith, l.invariant.len, c.requires, c.loop-place-test.false))
+    (subst (λ (n : ℕ). Blames (counts n (sum_by (failures_by told.failures)
+    (set l.files l.place y)) ∷ []) c.in_err-begin_file.field-0.0)
+    l.invariant.failures (rw c.in_err-begin_file.was at counted))
 
 pub returns-clause-opened : goal.returns-clause-opened
 returns-clause-opened g c =
     let l = c.loop-place in
-    opened_all g.S.ByteSource.gave g.S.ByteSource.ended c.args.recordings.now l.recordings
-    l.tracks.items l.invariant.opened l.invariant.len
-    (omega (arith, l.invariant.count, l.invariant.len, c.loop-place-test.false, l.auto.place-end))
+    opened_all g.S.ByteSource.gave l.place c.args.each.now c.args.files.now l.files
+    l.invariant.opened
+    (omega (arith, l.invariant.len, c.loop-place-test.false, l.auto.place-end)) c.requires.count

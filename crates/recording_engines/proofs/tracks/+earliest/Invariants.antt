@@ -1,5 +1,0 @@
-use Rattle.std.proofs.Common.{length}
-use Rattle.recording_engines.proofs.tracks.+earliest.Given as goal
-
-abbrev pub decreases-earliest : goal.decreases-earliest
-decreases-earliest g l = length l.tracks.now
