@@ -1,4 +1,5 @@
 mod Answering
+mod NumberLaws
 mod Noting
 mod Reading
 mod Files

@@ -13,13 +13,13 @@ use Rattle.path_merge.specs.declared.answer.Refusal.{Refusal}
 use Rattle.path_merge.specs.declared.answer.Taken.{Taken}
 use Rattle.rtp_header.specs.Reading.{rtp_walk}
 use Rattle.recording_counts.specs.Numbering.{capped}
-use Rattle.recording_counts.specs.Streams.{streams_of}
 use Rattle.recording_counts.specs.Timestamps.{timestamps_of}
 use Rattle.recording_counts.specs.declared.packet.Packet.{Packet}
 use Rattle.stream_inspection.specs.Arrivals.{Arrival, answer_at, answers_in, answers_of, arrival}
 use Rattle.stream_inspection.specs.Arrivals.{arrival_if, arrivals_in, arrivals_of, is_control}
-use Rattle.stream_inspection.specs.Arrivals.{packet_by, video_in, video_of}
-use Rattle.stream_inspection.specs.Inspected.{IsInspected, Notes, NotesPacket, controls_of, packets}
+use Rattle.stream_inspection.specs.Arrivals.{packet_by, packets, video_in, video_of}
+use Rattle.stream_inspection.specs.Inspected.{IsInspected, Notes, NotesPacket, controls_of}
+use Rattle.stream_inspection.specs.Numbers.{AreStreams}
 use Rattle.stream_inspection.specs.Skews.{AreProbes}
 use Rattle.stream_inspection.specs.declared.inspection.Inspection.{Inspection}
 use Rattle.stream_inspection.specs.declared.target.Target.{Target}
@@ -94,8 +94,8 @@ inspected_as : {A : Type 0} (t : Target) (old new : Inspection A) (es fs : List 
     → Tallies new.tally (answers_of t fs) → new.controls ≡ controls_of fs
     → IsInspected t old es → IsInspected t new fs
 inspected_as {A} t old new es fs same streams timestamps probes tally controls i = record {
-  streams = streams ∙ i.streams
-      ∙ ap (λ (l : List Arrival). streams_of (packets l)) (sym same);
+  streams = subst (λ (s : _). AreStreams s (packets (arrivals_of t fs))) (sym streams)
+      (subst (λ (l : List Arrival). AreStreams old.streams (packets l)) (sym same) i.streams);
   timestamps = timestamps ∙ i.timestamps
       ∙ ap (λ (l : List Arrival). timestamps_of (packets (flat_map (video_in t) l))) (sym same);
   probes = subst (λ (p : _). AreProbes p (video_of t fs)) (sym probes)
@@ -157,10 +157,12 @@ notes_one t e p old mid new is some streams timestamps probes tally controls pac
       ap (flat_map (video_in t)) all ∙ one_behind (video_in t) (arrivals_of t before) a in
       record {
         streams =
-            packet.streams (packets (arrivals_of t before)) (streams ∙ i.streams)
-            ∙ ap streams_of
+            subst (λ (ps : List Packet). AreStreams new.streams ps)
             (sym (ap packets all
-            ∙ map-append packet_in (arrivals_of t before) (a ∷ [])));
+            ∙ map-append packet_in (arrivals_of t before) (a ∷ [])))
+            (packet.streams (packets (arrivals_of t before))
+            (subst (λ (s : _). AreStreams s (packets (arrivals_of t before))) (sym streams)
+            i.streams));
         timestamps =
             packet.timestamps (video_of t before) (timestamps ∙ i.timestamps)
             ∙ ap (λ (l : List Arrival). timestamps_of (packets l)) (sym video);
@@ -197,8 +199,8 @@ notes_then t es fs old mid new first second = record {
 
 -- one of another payload type
 pub packet_other : {A : Type 0} (t : Target) (a : Arrival) (old new : Inspection A)
-    → video_in t a ≡ [] → ((ps : List Packet) → old.streams ≡ streams_of ps
-    → new.streams ≡ streams_of (ps ++ a.packet ∷ [])) → new.timestamps ≡ old.timestamps
+    → video_in t a ≡ [] → ((ps : List Packet) → AreStreams old.streams ps
+    → AreStreams new.streams (ps ++ a.packet ∷ [])) → new.timestamps ≡ old.timestamps
     → new.probes ≡ old.probes → new.tally ≡ old.tally → new.controls ≡ old.controls
     → NotesPacket t a old new
 packet_other t a old new none streams timestamps probes tally controls = record {
@@ -217,8 +219,8 @@ packet_other t a old new none streams timestamps probes tally controls = record 
 
 -- one of the payload type
 pub packet_video : {A : Type 0} (t : Target) (a : Arrival) (old new : Inspection A)
-    → video_in t a ≡ a ∷ [] → ((ps : List Packet) → old.streams ≡ streams_of ps
-    → new.streams ≡ streams_of (ps ++ a.packet ∷ []))
+    → video_in t a ≡ a ∷ [] → ((ps : List Packet) → AreStreams old.streams ps
+    → AreStreams new.streams (ps ++ a.packet ∷ []))
     → ((ps : List Packet) → old.timestamps ≡ timestamps_of ps
     → new.timestamps ≡ timestamps_of (ps ++ a.packet ∷ []))
     → ((arrivals : List Arrival) → AreProbes old.probes arrivals

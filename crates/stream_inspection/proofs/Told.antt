@@ -19,12 +19,13 @@ use Rattle.run_outcome.specs.LowerFaults.{capture_fault}
 use Rattle.run_outcome.specs.Refusing.{OfRefusal}
 use Rattle.run_outcome.specs.declared.refusal.Refusal.{Refusal}
 use Rattle.run_outcome.specs.declared.refusal.Refusal.TheVariants as refusal
-use Rattle.recording_counts.specs.Streams.{is_same, key_of, stream_of, streams_of}
+use Rattle.recording_counts.specs.Streams.{is_same, key_of}
 use Rattle.recording_counts.specs.Tables.{different, of_key}
 use Rattle.recording_counts.specs.declared.packet.Packet.{Packet}
 use Rattle.recording_counts.specs.declared.packet.StreamKey.{StreamKey}
 use Rattle.stream_inspection.specs.Aim.{Announces, IsBegun, IsTarget, ReadsTarget}
 use Rattle.stream_inspection.specs.Inspected.{IsInspected}
+use Rattle.stream_inspection.specs.Numbers.{told_stream, told_streams}
 use Rattle.stream_inspection.specs.Read.{IfEnd, MayBe, NotesFiles, NotesUpTo}
 use Rattle.stream_inspection.specs.Read.{Settles, ended_by}
 use Rattle.stream_inspection.specs.Streams.{stream_lines}
@@ -73,17 +74,18 @@ begun_none Said told (Some s) begun is none = absurd (none_some is.0 begun none 
 -- a text speaks of no allocator
 each_line : (A : Type 0) (form : Form) (ps : List Packet) (ks : List StreamKey)
     → flat_map (stream_lines {A = A} form)
-    (map (λ k. stream_of k (of_key is_same key_of k ps)) ks)
+    (map (λ k. told_stream k (of_key is_same key_of k ps)) ks)
     ≡ flat_map (stream_lines {A = Unit {0}} form)
-    (map (λ k. stream_of k (of_key is_same key_of k ps)) ks)
+    (map (λ k. told_stream k (of_key is_same key_of k ps)) ks)
 each_line A form ps [] = refl
 each_line A form ps (k ∷ ks) =
-    ap (λ (l : List ℕ). stream_lines {A = Unit {0}} form (stream_of k (of_key is_same key_of k ps))
+    ap
+    (λ (l : List ℕ). stream_lines {A = Unit {0}} form (told_stream k (of_key is_same key_of k ps))
     ++ l) (each_line A form ps ks)
 
 pub lines_same : (A : Type 0) (form : Form) (ps : List Packet)
-    → flat_map (stream_lines {A = A} form) (streams_of ps)
-    ≡ flat_map (stream_lines {A = Unit {0}} form) (streams_of ps)
+    → flat_map (stream_lines {A = A} form) (told_streams ps)
+    ≡ flat_map (stream_lines {A = Unit {0}} form) (told_streams ps)
 lines_same A form ps = each_line A form ps (different is_same (map key_of ps))
 
 pub tells : {S A : Type 0} (w : Wanted) (form : Form) (told : S → List ℕ → Type 0)

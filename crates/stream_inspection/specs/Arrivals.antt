@@ -1,6 +1,7 @@
 -- What datagrams are counted as. RFC 3550, 5.1; RFC 4175, 4.2; RFC 5761, 4
 use Rattle.std.specs.Prelude.{◌≡◌, ℕ, ◌+◌, ◌*◌, ◌/◌, ◌==◌, Bool, ◌&&◌, nat_le, if◌then◌else◌}
-use Rattle.std.specs.Prelude.{List, [], ◌∷◌, length, slice_index, Option, None, Some, Result, Ok, Err}
+use Rattle.std.specs.Prelude.{List, [], ◌∷◌, length, map, slice_index, Option, None, Some, Result}
+use Rattle.std.specs.Prelude.{Ok, Err}
 use Rattle.std.specs.List.{flat_map}
 use Rattle.st_format.specs.declared.path.Path.{Path}
 use Rattle.st_format.specs.Reading.{◌>>=◌}
@@ -24,6 +25,10 @@ pub record Arrival : Type 0 where
 
 abbrev pub arrival : Packet → ℕ → Arrival
 arrival p moment = record { packet = p; moment = moment }
+
+-- the packets of arrivals
+abbrev pub packets : List Arrival → List Packet
+packets arrivals = map (λ a. a.packet) arrivals
 
 -- whether a datagram is one of RTCP: of version 2, and with a packet type from 200 to 204 where RTP
 -- has the marker and the payload type. RFC 5761, 4

@@ -1,15 +1,15 @@
 -- What is counted of the records of captures.
-use Rattle.std.specs.Prelude.{◌≡◌, ℕ, List, ◌∷◌, [], ◌++◌, map}
+use Rattle.std.specs.Prelude.{◌≡◌, ℕ, List, ◌∷◌, [], ◌++◌}
 use Rattle.std.specs.List.{count_by}
 use Rattle.st_format.specs.declared.path.Path.{Path}
 use Rattle.media_file.specs.Records.{Entry}
 use Rattle.capture_engines.specs.Tallied.{Tallies}
 use Rattle.recording_counts.specs.Numbering.{capped}
-use Rattle.recording_counts.specs.Streams.{streams_of}
 use Rattle.recording_counts.specs.Timestamps.{timestamps_of}
 use Rattle.recording_counts.specs.declared.packet.Packet.{Packet}
 use Rattle.stream_inspection.specs.Arrivals.{Arrival, answers_of, arrivals_of, is_control}
-use Rattle.stream_inspection.specs.Arrivals.{video_in, video_of}
+use Rattle.stream_inspection.specs.Arrivals.{packets, video_in, video_of}
+use Rattle.stream_inspection.specs.Numbers.{AreStreams}
 use Rattle.stream_inspection.specs.Skews.{AreProbes}
 use Rattle.stream_inspection.specs.declared.inspection.Inspection.{Inspection}
 use Rattle.stream_inspection.specs.declared.target.Target.{Target}
@@ -17,10 +17,6 @@ use Rattle.stream_inspection.specs.declared.target.Target.{Target}
 -- a record of its parts
 abbrev pub entry : Path → ℕ → List ℕ → Entry
 entry path moment octets = record { path = path; moment = moment; octets = octets }
-
--- the packets of arrivals
-abbrev pub packets : List Arrival → List Packet
-packets arrivals = map (λ a. a.packet) arrivals
 
 -- how many records are RTCP
 abbrev pub controls_of : List Entry → ℕ
@@ -30,7 +26,7 @@ controls_of entries = capped (count_by (λ e. is_control e.octets) entries)
 -- of those with the payload type, what a receiver answers, and how many are RTCP.
 pub record IsInspected {A : Type 0} (t : Target) (i : Inspection A) (entries : List Entry) : Type 0
   where
-    pub streams : i.streams ≡ streams_of (packets (arrivals_of t entries))
+    pub streams : AreStreams i.streams (packets (arrivals_of t entries))
     pub timestamps : i.timestamps ≡ timestamps_of (packets (video_of t entries))
     pub probes : AreProbes i.probes (video_of t entries)
     pub tally : Tallies i.tally (answers_of t entries)
@@ -45,8 +41,8 @@ pub record Notes {A : Type 0} (t : Target) (entries : List Entry) (old new : Ins
 -- one more packet was noted
 pub record NotesPacket {A : Type 0} (t : Target) (a : Arrival) (old new : Inspection A) : Type 0
   where
-    pub streams : (ps : List Packet) → old.streams ≡ streams_of ps
-        → new.streams ≡ streams_of (ps ++ a.packet ∷ [])
+    pub streams : (ps : List Packet) → AreStreams old.streams ps
+        → AreStreams new.streams (ps ++ a.packet ∷ [])
     pub timestamps : (arrivals : List Arrival) → old.timestamps ≡ timestamps_of (packets arrivals)
         → new.timestamps ≡ timestamps_of (packets (arrivals ++ video_in t a))
     pub probes : (arrivals : List Arrival) → AreProbes old.probes arrivals

@@ -1,5 +1,6 @@
 pub mod Aim
 pub mod Arrivals
+pub mod Numbers
 pub mod Skews
 pub mod Inspected
 pub mod Read

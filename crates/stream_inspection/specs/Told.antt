@@ -11,16 +11,16 @@ use Rattle.media_file.specs.declared.fault.FileFault.TheVariants as file
 use Rattle.path_merge.specs.declared.answer.Refusal.{Refusal as Reason}
 use Rattle.run_outcome.specs.declared.refusal.Refusal.{Refusal}
 use Rattle.run_outcome.specs.declared.refusal.Refusal.TheVariants as refusal
-use Rattle.recording_counts.specs.Streams.{streams_of}
 use Rattle.recording_counts.specs.Timestamps.{timestamps_of}
 use Rattle.recording_counts.specs.declared.stream.StreamCount.{StreamCount}
 use Rattle.recording_counts.specs.declared.timestamp.TimestampCount.{TimestampCount}
 use Rattle.stream_inspection.specs.Aim.{IsBeginRefusal, IsTarget}
-use Rattle.stream_inspection.specs.Arrivals.{Arrival, answers_of, arrivals_of, video_of}
+use Rattle.stream_inspection.specs.Arrivals.{Arrival, answers_of, arrivals_of, packets, video_of}
 use Rattle.stream_inspection.specs.Columns.{window_column}
-use Rattle.stream_inspection.specs.Inspected.{IsInspected, controls_of, packets}
+use Rattle.stream_inspection.specs.Inspected.{IsInspected, controls_of}
 use Rattle.stream_inspection.specs.Json.{window_json}
 use Rattle.stream_inspection.specs.Lines.{counted_line, row_line}
+use Rattle.stream_inspection.specs.Numbers.{told_streams}
 use Rattle.stream_inspection.specs.Read.{HaveRecords}
 use Rattle.stream_inspection.specs.Skews.{IsOrderOf, skew_row, skews_in}
 use Rattle.stream_inspection.specs.Streams.{stream_lines}
@@ -59,8 +59,9 @@ told_text form payload_type video streams counts sorted refused controls =
     ++ (counted_line form (Control controls) controls
     ++ window_line form payload_type (window_of counts)))))
 
--- The text of records, by what is looked for: of the streams of all packets; of the timestamps of
--- those with the payload type, and their skews in order; and of what a receiver answers.
+-- The text of records, by what is looked for: of the streams of all packets, by the numbers that
+-- they are told by; of the timestamps of those with the payload type, and their skews in order; and
+-- of what a receiver answers.
 pub record IsText (form : Form) (t : Target) (records : List Entry) (text : List ℕ)
     : Type 0 where
   pub sorted : List ℕ
@@ -69,7 +70,7 @@ pub record IsText (form : Form) (t : Target) (records : List Entry) (text : List
   pub tally : Tally
   pub answers : Tallies tally (answers_of t records)
   pub is : text ≡ told_text {A = Unit {0}} form t.payload_type (video_of t records)
-      (streams_of (packets (arrivals_of t records)))
+      (told_streams (packets (arrivals_of t records)))
       (timestamps_of (packets (video_of t records))) sorted tally.refused (controls_of records)
 
 -- What was printed is the text of the records of what was read of captures, up to this end, for what

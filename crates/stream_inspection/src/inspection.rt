@@ -6,10 +6,11 @@ ghost use Rattle.stream_inspection.specs.declared.target.Target.{Target as Targe
 
 use crate::looking::{Look, is_control, look_at};
 use crate::probes::ProbeTable;
+use crate::stream_tables::StreamTables;
 use crate::target::Target;
 use capture_engines::Tally;
 use path_merge::Observer;
-use recording_counts::{Packet, StreamTable, TimestampTable};
+use recording_counts::{Packet, TimestampTable};
 use st_format::Path;
 use std::alloc::{AllocError, Allocator};
 
@@ -17,7 +18,7 @@ use std::alloc::{AllocError, Allocator};
 #[derive(Drop)]
 pub struct Inspection<A: Allocator> {
     /// The streams of RTP.
-    pub streams: StreamTable<A>,
+    pub streams: StreamTables<A>,
     /// The timestamps of the packets with the payload type.
     pub timestamps: TimestampTable<A>,
     /// By which the skew of the paths is told, of the same packets.
@@ -34,7 +35,7 @@ impl<A: Allocator + Copy> Inspection<A> {
         ensures { (t : TargetValue) → IsInspected t result [] }
     {
         Inspection {
-            streams: StreamTable::new(alloc),
+            streams: StreamTables::new(alloc),
             timestamps: TimestampTable::new(alloc),
             probes: ProbeTable::new(alloc),
             tally: Tally::new(),

@@ -1,12 +1,15 @@
 //! What is told of streams.
-ghost use Rattle.std.specs.Prelude.{◌≡◌, ◌++◌, Some, OnOk};
+ghost use Rattle.std.specs.Prelude.{◌≡◌, ◌++◌, List, Some, OnOk};
 ghost use Rattle.std.specs.List.{flat_map};
+ghost use Rattle.recording_counts.specs.declared.packet.Packet.{Packet as PacketValue};
 ghost use Rattle.stream_inspection.specs.Lines.{row_line};
+ghost use Rattle.stream_inspection.specs.Numbers.{AreStreams, told_streams};
 ghost use Rattle.stream_inspection.specs.Streams.{heading_text, packet_number};
 ghost use Rattle.stream_inspection.specs.Streams.{path_row, stream_lines, together_row};
 ghost use Rattle.stream_inspection.specs.Streams.{is_wrong, lower, span, wrong_lines, wrong_text};
 
 use crate::rows::{PathRow, Row, TogetherRow};
+use crate::stream_tables::StreamTables;
 use crate::text::{Form, put_heading, put_row};
 use crate::values::Letter;
 use recording_counts::{PathCount, StreamCount, StreamKey};
@@ -173,16 +176,18 @@ fn put_stream<A: Allocator, B: Allocator>(
 }
 
 /// Puts what is told of streams.
-pub(crate) fn put_streams<A: Allocator, B: Allocator>(
+pub(crate) fn put_streams<A: Allocator, B: Allocator + Copy>(
     text: &mut Vec<u8, A>,
     form: Form,
-    counts: &[StreamCount<B>],
+    tables: &StreamTables<B>,
 ) -> Result<(), AllocError>
-    ensures { OnOk result (text.new.items ≡ text.old.items
-        ++ flat_map (stream_lines form) counts.now) }
+    ensures { OnOk result ((packets : List PacketValue) → AreStreams tables.now packets
+        → text.new.items ≡ text.old.items
+        ++ flat_map (stream_lines {A = B} form) (told_streams packets)) }
 {
-    for count in counts {
-        put_stream(text, form, count)?;
+    let longs = tables.long.streams();
+    for (place, long) in longs.iter().enumerate() {
+        put_stream(text, form, tables.told(place, long))?;
     }
     Ok(())
 }

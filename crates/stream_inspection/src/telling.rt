@@ -30,7 +30,7 @@ pub(crate) fn text_of<A: Allocator + Copy>(
     let skews = skews_of(alloc, counts, &inspection.probes)?;
     let window = window_of(alloc, counts)?;
     let mut text = Vec::new(alloc);
-    put_streams(&mut text, form, inspection.streams.streams())?;
+    put_streams(&mut text, form, &inspection.streams)?;
     put_timestamps(
         alloc,
         &mut text,

@@ -1,4 +1,4 @@
-use Rattle.std.proofs.Common.{[], ◌∷◌, inl, inr, refl}
+use Rattle.std.proofs.Common.{◌≡◌, [], ◌∷◌, ℕ, List, ap, arith, inl, inr, length, refl, sum_by, sym}
 use Rattle.std.proofs.lemmas.Result.{err_from_is_err_and}
 use Rattle.std.specs.List.{zip}
 use Rattle.run_outcome.specs.Moments.{WasRead, pair}
@@ -35,6 +35,24 @@ returns-in_default-clause-refusal g c =
       inr (
         begun_none c.args.wanted told sdp c.in_ok-begun.begun c.in_ok-begun.ensures.begun none.0,
         no_captures told c.args.captures.now c.note_captures.new.captures none.1,
+      ),
+    )
+
+-- sums over no captures
+no_sums : {S : Type 0} (f : S → ℕ) (old new : List S) → old ≡ [] → length new ≡ length old
+    → sum_by f new ≡ sum_by f old
+no_sums f old [] none len = ap (sum_by f) (sym none)
+no_sums {S} f old (s ∷ new) none len =
+    let n : length old ≡ 0 = ap (λ (l : List S). length l) none in absurd (omega arith)
+
+pub returns-in_default-clause-failures : goal.returns-in_default-clause-failures
+returns-in_default-clause-failures g c =
+    let none = c.in_ok-end.ensures.none (none_begun c.note_captures.new.begun c.in_default.not-Some) in (
+      c.in_ok-begun.ensures.failures,
+      (
+        no_sums g.S.ByteSource.failures c.args.captures.now c.note_captures.new.captures none.1
+            c.in_ok-end.ensures.len,
+        refl,
       ),
     )
 

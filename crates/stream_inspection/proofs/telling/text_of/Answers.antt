@@ -1,6 +1,7 @@
 use Rattle.std.proofs.Common.{◌≡◌, ◌∙◌, ◌++◌, [], List, ap, rules}
 use Rattle.std.specs.List.{flat_map}
 use Rattle.stream_inspection.specs.Lines.{row_line}
+use Rattle.stream_inspection.specs.Numbers.{told_streams}
 use Rattle.stream_inspection.specs.Skews.{skew_row}
 use Rattle.stream_inspection.specs.Streams.{stream_lines}
 use Rattle.stream_inspection.specs.Told.{window_line}
@@ -14,9 +15,8 @@ returns g c = λ entries is.
     let none : c.new-text.result.items ≡ [] = search rules in
     is_text form c.args.target.now c.args.inspection.now entries c.timestamps-counts.result.now
     c.in_ok-skews.skews.items _ _ _ _ _ _ c.timestamps-counts.ensures is c.in_ok-skews.ensures
-    (c.in_ok-put_streams.ensures
-    ∙ ap (λ (l : List _). l ++ flat_map (stream_lines form) c.streams.result.now) none
-    ∙ ap (flat_map (stream_lines form)) c.streams.ensures)
+    (λ ps are_streams. c.in_ok-put_streams.ensures ps are_streams
+    ∙ ap (λ (l : List _). l ++ flat_map (stream_lines {A = g.row.A.Denot} form) (told_streams ps)) none)
     c.in_ok-put_timestamps.ensures
     (c.in_ok-put_skews.ensures
     ∙ ap (λ (l : List _). c.put_timestamps.new.text.items ++ row_line form (Skew (skew_row l)))
