@@ -5,3 +5,6 @@ pub mod Writable
 pub mod Opened
 pub mod Receiving
 pub mod Merging
+pub mod ScriptLines
+pub mod ScriptFrames
+pub mod Uncontested

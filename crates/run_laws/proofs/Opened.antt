@@ -21,7 +21,7 @@ use Rattle.capture_engines.specs.Taking.{AnnouncesStream}
 
 -- ---- numbers
 
-one_number : (a b : List ℕ) (m n : ℕ) → a ≡ b → IsNumberOf a m → IsNumberOf b n → m ≡ n
+pub one_number : (a b : List ℕ) (m n : ℕ) → a ≡ b → IsNumberOf a m → IsNumberOf b n → m ≡ n
 one_number a b m n same p q =
     p.value ∙ ap (λ (text : List ℕ). digits_value 10 text) same ∙ sym q.value
 

@@ -1,2 +1,3 @@
 pub mod Received
 pub mod Merged
+pub mod Scripts

@@ -13,3 +13,4 @@ mod RehearsalReading
 mod RehearsedLemmas
 pub mod TraceLemmas
 mod UntracedLemmas
+pub mod LinesOnce
