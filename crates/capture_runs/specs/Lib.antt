@@ -4,3 +4,5 @@ pub mod Opened
 pub mod Received
 pub mod Window
 pub mod Refused
+pub mod Looked
+pub mod Inspected

@@ -1,7 +1,10 @@
 //! The commands that write or read captures, over the devices of this machine.
 #![tactic(auto)]
 
+mod aim;
 mod differing;
+mod inspecting;
+mod looking;
 mod looping;
 mod migrating;
 mod opening;
@@ -12,7 +15,9 @@ mod room;
 mod sending;
 mod window;
 
+pub use aim::{Aim, Inspected};
 pub use differing::{StreamFormat, said_otherwise};
+pub use inspecting::{InspectAsked, InspectCommand};
 pub use looping::LoopCommand;
 pub use migrating::MigrateCommand;
 pub use opening::Files;

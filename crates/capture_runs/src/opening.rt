@@ -1,5 +1,6 @@
-//! What `receive` reads: the SDP, where one is named, and captures and recordings.
+//! What `receive` and `inspect` read: the SDP, where one is named, and captures and recordings.
 ghost use Rattle.std.specs.Prelude.{◌≡◌, ◌⊎◌, [], All, IfErr, IfOk, IsFalse, None, OnOk, Some};
+ghost use Rattle.std.specs.Prelude.{◌++◌, ◌∷◌, ◌+◌, vec_len};
 ghost use Rattle.std.specs.Option.{option_copied};
 ghost use Rattle.capture_runs.specs.Opened.{AreUnread, IsUnread};
 ghost use Rattle.capture_runs.specs.Refused.{IsFlowRefusal, IsOpeningRefusal, IsTooLong};
@@ -25,7 +26,7 @@ use window_finding::Sought;
 /// A file that is read as a capture, or whose text was read as the SDP.
 pub type Source<'a> = CaptureSource<Global, Replayed<'a>>;
 
-/// What `receive` reads.
+/// What `receive` reads, or `inspect` of a stream.
 #[derive(Drop)]
 pub struct Files<'a> {
     /// The SDP's file, where its text could not be read.
@@ -104,7 +105,11 @@ impl<'a> Files<'a> {
     }
 
     /// Reads the SDP, where one is named.
-    fn read_sdp(&mut self, rt: &'a HostRuntime, name: Option<&'a str>) -> Result<(), Fault>
+    pub(crate) fn read_sdp(
+        &mut self,
+        rt: &'a HostRuntime,
+        name: Option<&'a str>,
+    ) -> Result<(), Fault>
         requires { AreUnread self.old.sdp self.old.captures.items }
         ensures unread { AreUnread self.new.sdp self.new.captures.items }
         ensures found { self.new.found ≡ self.old.found }
@@ -284,10 +289,15 @@ fn again<'a>(rt: &'a HostRuntime, looked: Vec<Source<'a>>) -> Result<Vec<Source<
 }
 
 /// Puts one more file behind some of which nothing was looked at.
-fn push_capture<'a>(captures: &mut Vec<Source<'a>>, capture: Source<'a>) -> Result<(), Fault>
+pub(crate) fn push_capture<'a>(
+    captures: &mut Vec<Source<'a>>,
+    capture: Source<'a>,
+) -> Result<(), Fault>
     requires unread { All IsUnread captures.old.items }
     requires one { IsUnread capture }
     ensures unread { OnOk result (All IsUnread captures.new.items) }
+    ensures pushed { OnOk result (captures.new.items ≡ captures.old.items ++ capture.entry ∷ []) }
+    ensures each { OnOk result (vec_len captures.new ≡ vec_len captures.old + 1) }
     ensures unrefused { IfErr result (λ f. IfRefused f ⊥) }
     ensures memory { IfErr result (λ f. f ≡ Memory) }
 {

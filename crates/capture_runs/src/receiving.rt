@@ -87,6 +87,7 @@ impl ReceiveCommand<'_> {
         };
         Hints {
             takes_recordings: true,
+            has_format: false,
             sound,
             room: if self.wants_memory {
                 room_of(
@@ -169,7 +170,7 @@ fn is_memory(outcome: Result<(), Fault>) -> bool {
 }
 
 /// An outcome, or in place of a device's fault that of the first file that ended by one.
-fn told_by(outcome: Result<(), Fault>, captures: &[Source<'_>]) -> Result<(), Fault>
+pub(crate) fn told_by(outcome: Result<(), Fault>, captures: &[Source<'_>]) -> Result<(), Fault>
     ensures { (result ≡ outcome)
         ⊎ ((outcome ≡ Err Fault.Device) × IsErrOf captures.now result) }
 {
@@ -209,7 +210,7 @@ fn asked<'a>(words: &'a ReceiveWords<'a>) -> Asked<'a> {
 }
 
 /// The octets of a text, where there is one.
-fn octets(text: Option<&str>) -> Option<&[u8]> {
+pub(crate) fn octets(text: Option<&str>) -> Option<&[u8]> {
     match text {
         Some(text) => Some(text.as_bytes()),
         None => None,

@@ -89,15 +89,20 @@ impl<'a> Replayed<'a> {
     /// Where the reading stands, if it began.
     pub fn begun(&self) -> Option<Reading<'a>> {
         if self.is_begun {
-            self.file.begun()
+            Some(self.reading())
         } else {
             None
         }
     }
 
-    /// Where the reading stands.
+    /// Where the reading stands: before what is left of what is remembered.
     pub fn reading(&self) -> Reading<'a> {
-        self.file.reading()
+        let reading = self.file.reading();
+        let left = self.memory.len().saturating_sub(self.at);
+        Reading {
+            octet: reading.octet.saturating_sub(left as u64),
+            ..reading
+        }
     }
 }
 

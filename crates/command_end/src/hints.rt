@@ -8,6 +8,8 @@ use run_outcome::Refusal;
 pub struct Hints {
     /// Whether it takes recordings of other tools where it takes captures.
     pub takes_recordings: bool,
+    /// Whether words give the format of a stream, so that no SDP has to.
+    pub has_format: bool,
     /// What is said of what came before the fault of a capture or a recording.
     pub sound: Option<&'static str>,
     /// What it asks memory for, where it is known.
@@ -35,6 +37,7 @@ impl Hints {
     pub fn none() -> Hints {
         Hints {
             takes_recordings: false,
+            has_format: false,
             sound: None,
             room: None,
         }
@@ -56,6 +59,15 @@ impl Hints {
                 Some("a recording, which begins as pcap or pcapng")
             }
             _ => None,
+        }
+    }
+
+    /// What was wanted where a refusal comes. Where the format is given, a recording lacks only
+    /// where its datagrams go.
+    pub(crate) fn wanted(&self, refusal: Refusal) -> &'static str {
+        match refusal {
+            Refusal::ReceiveNoSdp if self.has_format => "--a or --b, for a recording",
+            _ => refusal.wanted(),
         }
     }
 

@@ -308,7 +308,7 @@ fn of_records(refusal: Refusal, said: Option<&'static str>) -> Option<&'static s
 
 /// Where a refusal is, and what was wanted there.
 fn of_refusal<'a>(refusal: Refusal, devices: &Devices<'a>) -> Option<Said<'a>> {
-    let wanted = refusal.wanted();
+    let wanted = devices.hints.wanted(refusal);
     match blamed_by(refusal) {
         Blamed::Word(name) => Some(Said::Name(name, wanted)),
         Blamed::Read => Some(of_file(refusal, devices.read?, devices, wanted)),
@@ -331,10 +331,16 @@ fn of_file<'a>(
     }
 }
 
-/// A line of a script; where none is read, the word that says in one line what `sdp` writes.
+/// A line of a script; where none is read, the word that says a format in one line: that of `sdp`,
+/// or that of `inspect`, which takes recordings.
 fn of_script<'a>(devices: &Devices<'a>, line: usize, wanted: &'static str) -> Option<Said<'a>> {
     let Some(script) = devices.read else {
-        return Some(Said::Name("--write", wanted));
+        let word = if devices.hints.takes_recordings {
+            "--format"
+        } else {
+            "--write"
+        };
+        return Some(Said::Name(word, wanted));
     };
     let name = script.name;
     Some(match devices.kept {

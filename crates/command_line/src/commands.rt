@@ -28,6 +28,8 @@ enum Usage {
     Flag,
     /// An option with a value.
     Optional(&'static str),
+    /// An option with a value, beside which the word of this name may not be given.
+    OptionalUnless(&'static str, &'static str),
     /// An option with a value that has to be given.
     Required(&'static str),
     /// An option with a value of a kind that has to be given.
@@ -149,14 +151,15 @@ const LOOP: Said = Said {
 
 const IMPORT: Said = Said {
     name: "import",
-    about: "Takes a stream's datagrams out of recordings of other tools, joined by time, into \
-        a capture, and prints how many came by each path",
+    about: "Takes a stream's datagrams out of captures and recordings of other tools, joined by \
+        time, into a capture, and prints how many came by each path",
     words: &[IMPORTED],
 };
 
 const INSPECT: Said = Said {
     name: "inspect",
-    about: "Prints which streams of datagrams recordings of other tools have",
+    about: "Prints which streams of datagrams recordings of other tools have, or, by a format, \
+        what came of a stream by each path and what is missing",
     words: &[INSPECTED],
 };
 
@@ -185,7 +188,8 @@ const DESCRIBED: &[Word] = &[
     Word {
         name: "a",
         usage: Usage::Beside("ADDR:PORT", "write"),
-        help: "Where the datagrams of path A go, as 239.1.1.1:5004 or [ff3e::1]:5004",
+        help: "Where the datagrams of path A go, as 239.1.1.1:5004 or [ff3e::1]:5004; with the \
+            source that they come from in front, in quotes: '198.51.100.7>239.1.1.1:5004'",
     },
     Word {
         name: "b",
@@ -284,7 +288,8 @@ const RECEIVED: &[Word] = &[
         name: "a",
         usage: Usage::Optional("[ADDR:]PORT"),
         help: "Where the datagrams of path A go in recordings of other tools, in place of what the \
-            SDP says of both paths",
+            SDP says of both paths; with their source in front, in quotes: \
+            '192.0.2.1>239.1.1.1:5004'",
     },
     Word {
         name: "b",
@@ -442,12 +447,14 @@ const IMPORTED: &[Word] = &[
     Word {
         name: "sdp",
         usage: Usage::Required("FILE"),
-        help: "SDP text that the capture has; it says where the datagrams of each path go",
+        help: "SDP text that the capture has; it says where the datagrams of each path go in \
+            recordings",
     },
     Word {
         name: "a",
         usage: Usage::Optional("[ADDR:]PORT"),
-        help: "Where the datagrams of path A go, in place of what the SDP says of both paths",
+        help: "Where the datagrams of path A go, in place of what the SDP says of both paths; with \
+            their source in front, in quotes: '192.0.2.1>239.1.1.1:5004'",
     },
     Word {
         name: "b",
@@ -459,17 +466,56 @@ const IMPORTED: &[Word] = &[
         usage: Usage::Required("FILE"),
         help: "Where the capture is written; - is standard output",
     },
-    RECORDINGS,
+    Word {
+        name: "recordings",
+        usage: Usage::Files("RECORDING"),
+        help: "Captures, and recordings of other tools, pcap or pcapng, joined by time; - is \
+            standard input",
+    },
 ];
 
 /// The words of `inspect`.
 const INSPECTED: &[Word] = &[
     Word {
+        name: "sdp",
+        usage: Usage::OptionalUnless("FILE", "format"),
+        help: "SDP text that says the format and the payload type of a stream, and where the \
+            datagrams of each path go; without it and --format a capture's own text says that",
+    },
+    Word {
+        name: "format",
+        usage: Usage::Optional("S B W H N/D"),
+        help: "The format of a stream in place of that, one word as 'YCbCr-4:2:2 10 1920 1080 \
+            60000/1001'",
+    },
+    Word {
+        name: "pt",
+        usage: Usage::DefaultBeside("N", U7, "96", "format"),
+        help: "The stream's payload type, up to 127",
+    },
+    Word {
+        name: "a",
+        usage: Usage::Optional("[ADDR:]PORT"),
+        help: "Where the datagrams of path A go in recordings of other tools, in place of what the \
+            SDP says of both paths; with their source in front, in quotes: \
+            '192.0.2.1>239.1.1.1:5004'",
+    },
+    Word {
+        name: "b",
+        usage: Usage::Optional("[ADDR:]PORT"),
+        help: "Where those of path B go, likewise",
+    },
+    Word {
         name: "json",
         usage: Usage::Flag,
         help: "Print objects of JSON for other tools, one in a line",
     },
-    RECORDINGS,
+    Word {
+        name: "recordings",
+        usage: Usage::Files("RECORDING"),
+        help: "Recordings of other tools, pcap or pcapng, and captures, taken one after the other; \
+            - is standard input",
+    },
 ];
 
 /// The words of `export`.
@@ -477,7 +523,8 @@ const EXPORTED: &[Word] = &[
     Word {
         name: "a",
         usage: Usage::Required("ADDR:PORT"),
-        help: "Where the datagrams of path A go, as 239.1.1.1:5004 or [ff3e::1]:5004",
+        help: "Where the datagrams of path A go, as 239.1.1.1:5004 or [ff3e::1]:5004; with the \
+            source that they come from in front, in quotes: '198.51.100.7>239.1.1.1:5004'",
     },
     Word {
         name: "b",
@@ -584,7 +631,9 @@ fn argument<'a>(alloc: Global, word: &Word) -> Result<Arg<'a>, AllocError> {
         Usage::Beside(_, other) | Usage::DefaultBeside(_, _, _, other) => {
             formed.requires_arg(other)
         }
-        Usage::FileUnless(_, other) => formed.conflicts_with(other),
+        Usage::FileUnless(_, other) | Usage::OptionalUnless(_, other) => {
+            formed.conflicts_with(other)
+        }
         Usage::Type(..) => formed.requires_if("sdp", "sdp"),
         _ => Ok(formed),
     }
@@ -595,7 +644,7 @@ fn formed<'a>(word: Arg<'a>, name: &'static str, form: Usage) -> Arg<'a> {
     match form {
         Usage::Flag => word.long(name).action(ArgAction::SetTrue),
         Usage::Optional(value) => option(word, name, value),
-        Usage::Beside(value, _) => option(word, name, value),
+        Usage::Beside(value, _) | Usage::OptionalUnless(value, _) => option(word, name, value),
         Usage::Required(value) => option(word, name, value).required(true),
         Usage::Number(value, kind) => option(word, name, value).required(true).value_parser(kind),
         Usage::Default(value, kind, text) => with_default(option(word, name, value), kind, text),

@@ -200,10 +200,27 @@ pub struct ImportWords<'a> {
 /// The words behind `inspect`.
 #[derive(Drop)]
 pub struct InspectWords<'a> {
+    /// The SDP's file, where one is named.
+    pub sdp: Option<&'a str>,
+    /// The format of a stream, where one is given.
+    pub format: Option<FormatWords<'a>>,
+    /// Where the datagrams of path A go in recordings of other tools, where that is said.
+    pub a: Option<&'a str>,
+    /// Where those of path B go, likewise.
+    pub b: Option<&'a str>,
     /// Whether it is told as objects of JSON.
     pub is_json: bool,
-    /// The recordings' files.
+    /// The files of recordings and captures.
     pub recordings: Vec<&'a str>,
+}
+
+/// The format and the payload type of a stream.
+#[derive(Clone, Copy)]
+pub struct FormatWords<'a> {
+    pub format: &'a str,
+    pub payload_type: u8,
+    // RFC 3550, 5.1: it has 7 bits.
+    pub ghost payload_type_bits: { payload_type ≤ 127 },
 }
 
 /// The words behind `export`.
@@ -404,8 +421,19 @@ fn inspect_words<'a>(
     given: &ArgMatches<'a>,
 ) -> Result<InspectWords<'a>, AllocError> {
     Ok(InspectWords {
+        sdp: given.get_str("sdp"),
+        format: format_words(given),
+        a: given.get_str("a"),
+        b: given.get_str("b"),
         is_json: given.get_flag("json"),
         recordings: list(alloc, given, "recordings")?,
+    })
+}
+
+fn format_words<'a>(given: &ArgMatches<'a>) -> Option<FormatWords<'a>> {
+    Some(FormatWords {
+        format: given.get_str("format")?,
+        payload_type: payload_type(given),
     })
 }
 

@@ -5,9 +5,10 @@ ghost use Rattle.devices.specs.Passed.{FileRead, file_ended, file_failures, file
 ghost use Rattle.devices.specs.Passed.{IsInPlace, IsUnplaced, output_failures, output_took};
 ghost use Rattle.devices.specs.Passed.{writing_failures};
 ghost use Rattle.export_engine.specs.ExportRefused.{IsExportRefusal};
-ghost use Rattle.export_engine.specs.Exported.{PrintsExported};
-ghost use Rattle.run_outcome.specs.Fault.{Accounts, counts};
+ghost use Rattle.export_engine.specs.Exported.{LeavesExport, PrintsExported};
+ghost use Rattle.run_outcome.specs.Fault.{Accounts, IfRefused, counts};
 ghost use Rattle.run_outcome.specs.Refusing.{OfRefusal};
+ghost use Rattle.run_outcome.specs.declared.fault.Fault.TheVariants.{Refused};
 ghost use Rattle.run_outcome.specs.declared.refusal.Refusal.TheVariants.{OutputIsInput};
 ghost use Rattle.run_outcome.specs.declared.refusal.Writer.TheVariants.{Export};
 
@@ -78,6 +79,13 @@ fn export(
         IsExportRefusal wanted.entry.a.now (option_copied wanted.entry.b)
         (FileRead capture.old capture.new) r
         ⊎ (r ≡ OutputIsInput Export) × IsTrue is_input)) }
+    // Then nothing is printed, and what is written is what such a refusal leaves.
+    ensures left { IfErr result (λ f. OfRefusal f (λ r. LeavesExport (Refused r)
+        wanted.entry.a.now (option_copied wanted.entry.b)
+        (file_gave capture.old) (file_gave capture.new) (file_ended capture.new)
+        (file_took out.old) (file_took out.new))) }
+    ensures quiet { IfErr result (λ f. IfRefused f
+        (output_took output.new ≡ output_took output.old)) }
     ensures owed { Accounts result (counts (file_failures capture.old) (file_failures capture.new)
         ∷ counts (writing_failures out.old) (writing_failures out.new)
         ∷ counts (output_failures output.old) (output_failures output.new) ∷ []) }
@@ -97,9 +105,15 @@ impl<'a> Command for ExportCommand<'a> {
         (file_took old.out) (file_took new.out) (output_took old.output)
         (output_took new.output) };
 
-    ghost is_refused = { λ old new r. IsExportRefusal old.wanted.a.now
+    // Then nothing is printed; and nothing is written but, of a capture that is cut short or at
+    // fault, the packets of the records before that.
+    ghost is_refused = { λ old new r. (IsExportRefusal old.wanted.a.now
         (option_copied old.wanted.b) (FileRead old.capture new.capture) r
-        ⊎ (r ≡ OutputIsInput Export) × IsTrue old.is_input };
+        ⊎ (r ≡ OutputIsInput Export) × IsTrue old.is_input)
+        × LeavesExport (Refused r) old.wanted.a.now (option_copied old.wanted.b)
+        (file_gave old.capture) (file_gave new.capture) (file_ended new.capture)
+        (file_took old.out) (file_took new.out)
+        × (output_took new.output ≡ output_took old.output) };
 
     ghost is_placed = { λ c. IsInPlace c.out × IsFalse c.is_input };
 

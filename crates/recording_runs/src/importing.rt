@@ -1,13 +1,15 @@
 //! `import` over the devices of this machine.
 ghost use Rattle.std.specs.Prelude.{◌≡◌, ◌∷◌, ◌⊎◌, [], All, IfErr, IfOk, IsFalse};
 ghost use Rattle.std.specs.Prelude.{IsTrue, OnOk, Some, length, sum_by};
-ghost use Rattle.std.specs.List.{zip};
+ghost use Rattle.std.specs.List.{AllByRecursion, zip};
 ghost use Rattle.std.specs.Option.{option_copied};
 ghost use Rattle.devices.specs.Passed.{FileRead, file_ended, file_failures, file_gave, file_took};
 ghost use Rattle.devices.specs.Passed.{IsInPlace, IsUnplaced, output_failures, output_took};
 ghost use Rattle.devices.specs.Passed.{writing_failures};
+ghost use Rattle.recording_engines.specs.Files.{AllClosed, ended_by, failures_by, gave_by};
 ghost use Rattle.recording_engines.specs.Imported.{Imports, IsImportRefusal};
 ghost use Rattle.recording_engines.specs.declared.importing.ImportCounts.{ImportCounts as Sums};
+ghost use Rattle.recording_runs.specs.Files.{AreNew};
 ghost use Rattle.run_outcome.specs.Fault.{Accounts, counts};
 ghost use Rattle.run_outcome.specs.Moments.{WasRead};
 ghost use Rattle.run_outcome.specs.Refusing.{OfRefusal};
@@ -17,18 +19,21 @@ ghost use Rattle.run_outcome.specs.declared.refusal.Writer.TheVariants.{Import};
 
 use command_end::{Command, Devices, Hints, Ran, find_output};
 use command_line::ImportWords;
-use devices::{FileOutput, FileSource, OutputSink, Rest, Stream, any_is, given_files, last_begun};
-use recording_engines::{ImportCounts, Importing};
+use devices::{FileOutput, FileSource, Identity, OutputSink, Reading, Rest, Stream};
+use recording_engines::{ImportCounts, ImportFile, Importing};
 use run_outcome::{Fault, Writer};
-use std::alloc::AllocError;
+use std::alloc::{AllocError, Global};
 
-/// Makes a capture of recordings.
+/// A file of `import` on this machine.
+type InputFile<'a> = ImportFile<Global, FileSource<'a>>;
+
+/// Makes a capture of captures and recordings.
 #[derive(Drop)]
 pub struct ImportCommand<'a> {
     rt: &'a HostRuntime,
     pub wanted: Importing<'a>,
     pub sdp: FileSource<'a>,
-    pub recordings: Vec<FileSource<'a>>,
+    pub files: Vec<InputFile<'a>>,
     pub out: FileOutput<'a>,
     /// Whether that is one of the files that are read.
     pub is_input: bool,
@@ -44,14 +49,14 @@ impl<'a> ImportCommand<'a> {
         ensures { IfOk result ⟦<ImportCommand<'a> as Command>⟧.is_new }
     {
         let sdp = FileSource::new(rt, words.sdp);
-        let recordings = given_files(rt, words.recordings.as_slice())?;
+        let files = given_files(rt, words.recordings.as_slice())?;
         let out = FileOutput::new(rt, words.out, Rest::Stays);
-        let is_input = is_read(&out, &sdp, recordings.as_slice());
+        let is_input = is_read(&out, &sdp, files.as_slice());
         Ok(ImportCommand {
             rt,
             wanted: importing(words),
             sdp,
-            recordings,
+            files,
             out,
             is_input,
             output: OutputSink::beside(rt, words.out),
@@ -76,10 +81,46 @@ pub(crate) fn octets(text: Option<&str>) -> Option<&[u8]> {
     }
 }
 
+/// The files of these names, in their order, of which `-` is standard input. None is looked at yet.
+fn given_files<'a>(rt: &'a HostRuntime, names: &[&'a str]) -> Result<Vec<InputFile<'a>>, AllocError>
+    ensures { IfOk result (λ files. AreNew files.items) }
+{
+    let mut files = Vec::new(rt.alloc());
+    for name in names {
+        files.push(ImportFile::Closed(FileSource::given(rt, name)))?;
+    }
+    Ok(files)
+}
+
 /// Whether the capture is one of the files that are read.
-fn is_read(out: &FileOutput<'_>, sdp: &FileSource<'_>, recordings: &[FileSource<'_>]) -> bool {
+fn is_read(out: &FileOutput<'_>, sdp: &FileSource<'_>, files: &[InputFile<'_>]) -> bool {
     let file = out.identity();
-    sdp.is(file) || any_is(recordings, file)
+    sdp.is(file) || files.iter().any(|it| is_of(it, file))
+}
+
+/// Whether a file is this plain one.
+fn is_of(it: &InputFile<'_>, file: Option<Identity>) -> bool {
+    match it.source() {
+        Some(source) => source.is(file),
+        None => false,
+    }
+}
+
+/// Where the reading of a file stands, if it began.
+fn begun<'a>(it: &InputFile<'a>) -> Option<Reading<'a>> {
+    match it.source() {
+        Some(source) => source.begun(),
+        None => None,
+    }
+}
+
+/// Where the reading of the last of these files stands that was begun, if one was.
+fn last_begun<'a>(files: &[InputFile<'a>]) -> Option<Reading<'a>> {
+    let mut last = None;
+    for file in files {
+        last = begun(file).or(last);
+    }
+    last
 }
 
 /// Looks at the place of the capture, before anything is read, imports, and keeps what was
@@ -88,18 +129,19 @@ fn import<'a>(
     rt: &HostRuntime,
     wanted: Importing<'_>,
     sdp: &mut FileSource<'a>,
-    recordings: &mut [FileSource<'a>],
+    files: &mut [InputFile<'a>],
     out: &mut FileOutput<'_>,
     is_input: bool,
     output: &mut OutputSink<Stream>,
     recorded: &mut Option<ImportCounts>,
 ) -> Result<(), Fault>
+    requires closed { AllClosed files.old }
     requires unplaced { IsUnplaced out.old }
-    ensures len { length recordings.new ≡ length recordings.old }
+    ensures len { length files.new ≡ length files.old }
     ensures imported { OnOk result ((sums : Sums) × (recorded.new ≡ Some sums) × Imports
         (option_copied wanted.entry.a) (option_copied wanted.entry.b)
         (GivesText 65535 (file_gave sdp.old) (file_gave sdp.new) (file_ended sdp.new))
-        (WasRead file_gave file_ended) (zip recordings.old recordings.new)
+        (WasRead (gave_by file_gave) (ended_by file_ended)) (zip files.old files.new)
         (file_took out.old) (file_took out.new) (output_took output.old)
         (output_took output.new) sums) }
     ensures unplaced { IsUnplaced out.new }
@@ -107,40 +149,41 @@ fn import<'a>(
     ensures refusal { IfErr result (λ f. OfRefusal f (λ r. IsImportRefusal
         (option_copied wanted.entry.a) (option_copied wanted.entry.b) (FileRead sdp.old sdp.new)
         (GivesText 65535 (file_gave sdp.old) (file_gave sdp.new) (file_ended sdp.new))
-        (WasRead file_gave file_ended) (zip recordings.old recordings.new)
+        (WasRead (gave_by file_gave) (ended_by file_ended)) (zip files.old files.new)
         (file_took out.old) (file_took out.new) r
         ⊎ (r ≡ OutputIsInput Import) × IsTrue is_input)) }
     ensures owed { Accounts result (counts (file_failures sdp.old) (file_failures sdp.new)
-        ∷ counts (sum_by file_failures recordings.old) (sum_by file_failures recordings.new)
+        ∷ counts (sum_by (failures_by file_failures) files.old)
+        (sum_by (failures_by file_failures) files.new)
         ∷ counts (writing_failures out.old) (writing_failures out.new)
         ∷ counts (output_failures output.old) (output_failures output.new) ∷ []) }
 {
     find_output(out, is_input, Writer::Import)?;
     let alloc = rt.alloc();
     let file = &mut out.sink;
-    let sums = recording_engines::import(alloc, wanted, sdp, recordings, file, output)?;
+    let sums = recording_engines::import(alloc, wanted, sdp, files, file, output)?;
     *recorded = Some(sums);
     Ok(())
 }
 
 impl<'a> Command for ImportCommand<'a> {
     ghost is_new = { λ c. (file_gave c.sdp ≡ [])
-        × All (λ f. file_gave f ≡ []) c.recordings.items
+        × AreNew c.files.items
         × (file_took c.out ≡ []) × IsUnplaced c.out × (output_took c.output ≡ []) };
 
-    // What is written is the capture of the recordings that were read, by the flows of the words or
-    // of the SDP text that was read, and what is printed counts it.
+    // What is written is the capture of the files that were read, of recordings by the flows of the
+    // words or of the SDP text that was read, and what is printed counts it.
     ghost does = { λ old new. (sums : Sums) × (new.counts ≡ Some sums)
         × Imports (option_copied old.wanted.a) (option_copied old.wanted.b)
         (GivesText 65535 (file_gave old.sdp) (file_gave new.sdp) (file_ended new.sdp))
-        (WasRead file_gave file_ended) (zip old.recordings.items new.recordings.items)
+        (WasRead (gave_by file_gave) (ended_by file_ended)) (zip old.files.items new.files.items)
         (file_took old.out) (file_took new.out) (output_took old.output)
         (output_took new.output) sums };
 
     ghost is_refused = { λ old new r. IsImportRefusal (option_copied old.wanted.a)
         (option_copied old.wanted.b) (FileRead old.sdp new.sdp)
         (GivesText 65535 (file_gave old.sdp) (file_gave new.sdp) (file_ended new.sdp))
-        (WasRead file_gave file_ended) (zip old.recordings.items new.recordings.items)
+        (WasRead (gave_by file_gave) (ended_by file_ended)) (zip old.files.items new.files.items)
         (file_took old.out) (file_took new.out) r
         ⊎ (r ≡ OutputIsInput Import) × IsTrue old.is_input };
 
@@ -150,8 +193,8 @@ impl<'a> Command for ImportCommand<'a> {
 
     ghost owes = { λ old new outcome. Accounts outcome
         (counts (file_failures old.sdp) (file_failures new.sdp)
-        ∷ counts (sum_by file_failures old.recordings.items)
-        (sum_by file_failures new.recordings.items)
+        ∷ counts (sum_by (failures_by file_failures) old.files.items)
+        (sum_by (failures_by file_failures) new.files.items)
         ∷ counts (writing_failures old.out) (writing_failures new.out)
         ∷ counts (output_failures old.output) (output_failures new.output) ∷ []) };
 
@@ -160,7 +203,7 @@ impl<'a> Command for ImportCommand<'a> {
             self.rt,
             self.wanted,
             &mut self.sdp,
-            self.recordings.as_mut_slice(),
+            self.files.as_mut_slice(),
             &mut self.out,
             self.is_input,
             &mut self.output,
@@ -175,11 +218,14 @@ impl<'a> Command for ImportCommand<'a> {
     fn devices(&self) -> Devices<'_> {
         Devices {
             sdp: Some(self.sdp.reading()),
-            read: last_begun(&self.recordings),
+            read: last_begun(&self.files),
             written: Some(self.out.writing()),
             output: self.output.writing(),
             kept: None,
-            hints: Hints::none(),
+            hints: Hints {
+                takes_recordings: true,
+                ..Hints::none()
+            },
         }
     }
 }

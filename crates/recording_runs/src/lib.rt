@@ -3,12 +3,10 @@
 
 mod exporting;
 mod importing;
-mod inspecting;
 mod pacing;
 mod telling;
 
 pub use exporting::ExportCommand;
 pub use importing::ImportCommand;
-pub use inspecting::InspectCommand;
 pub use pacing::PacedCommand;
 pub use telling::FlowsCommand;

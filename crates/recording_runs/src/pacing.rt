@@ -5,8 +5,8 @@ ghost use Rattle.devices.specs.Passed.{FileRead, file_ended, file_failures, file
 ghost use Rattle.devices.specs.Passed.{IsInPlace, IsUnplaced, output_failures, output_took};
 ghost use Rattle.devices.specs.Passed.{writing_failures};
 ghost use Rattle.paced_export.specs.PacedRefused.{IsPacedRefusal};
-ghost use Rattle.paced_export.specs.PacedExported.{PrintsPaced};
-ghost use Rattle.run_outcome.specs.Fault.{Accounts, counts};
+ghost use Rattle.paced_export.specs.PacedExported.{LeavesPaced, PrintsPaced};
+ghost use Rattle.run_outcome.specs.Fault.{Accounts, IfRefused, counts};
 ghost use Rattle.run_outcome.specs.Refusing.{OfRefusal};
 ghost use Rattle.run_outcome.specs.declared.refusal.Refusal.TheVariants.{OutputIsInput};
 ghost use Rattle.run_outcome.specs.declared.refusal.Writer.TheVariants.{Export};
@@ -80,6 +80,14 @@ fn export<'a>(
         IsPacedRefusal wanted.entry.flows.a.now (option_copied wanted.entry.flows.b)
         (FileRead ahead.old ahead.new) (FileRead capture.old capture.new) r
         ⊎ (r ≡ OutputIsInput Export) × IsTrue is_input)) }
+    // Then nothing is printed, and what is written is what a refusal leaves.
+    ensures left { IfErr result (λ f. OfRefusal f (λ _. LeavesPaced wanted.entry.start
+        wanted.entry.flows.a.now (option_copied wanted.entry.flows.b)
+        (file_gave ahead.old) (file_gave ahead.new) (file_ended ahead.new)
+        (file_gave capture.old) (file_gave capture.new) (file_ended capture.new)
+        (file_took out.old) (file_took out.new))) }
+    ensures quiet { IfErr result (λ f. IfRefused f
+        (output_took output.new ≡ output_took output.old)) }
     ensures owed { Accounts result (counts (file_failures ahead.old) (file_failures ahead.new)
         ∷ counts (file_failures capture.old) (file_failures capture.new)
         ∷ counts (writing_failures out.old) (writing_failures out.new)
@@ -104,10 +112,18 @@ impl<'a> Command for PacedCommand<'a> {
         (file_took old.out) (file_took new.out) (output_took old.output)
         (output_took new.output) };
 
-    ghost is_refused = { λ old new r. IsPacedRefusal old.wanted.flows.a.now
+    // Then nothing is printed; and nothing is written but, where the second reading is at fault,
+    // the packets of the records before that.
+    ghost is_refused = { λ old new r. (IsPacedRefusal old.wanted.flows.a.now
         (option_copied old.wanted.flows.b) (FileRead old.ahead new.ahead)
         (FileRead old.capture new.capture) r
-        ⊎ (r ≡ OutputIsInput Export) × IsTrue old.is_input };
+        ⊎ (r ≡ OutputIsInput Export) × IsTrue old.is_input)
+        × LeavesPaced old.wanted.start
+        old.wanted.flows.a.now (option_copied old.wanted.flows.b)
+        (file_gave old.ahead) (file_gave new.ahead) (file_ended new.ahead)
+        (file_gave old.capture) (file_gave new.capture) (file_ended new.capture)
+        (file_took old.out) (file_took new.out)
+        × (output_took new.output ≡ output_took old.output) };
 
     ghost is_placed = { λ c. IsInPlace c.out × IsFalse c.is_input };
 

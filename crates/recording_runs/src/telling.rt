@@ -1,4 +1,4 @@
-//! What `import` and `receive` tell where nothing came of a flow.
+//! What `import`, `receive` and `inspect` tell where nothing came of a flow.
 ghost use Rattle.std.specs.Prelude.{◌≡◌, ◌∷◌, ◌++◌, [], All, IfErr, IfOk, OnOk, sum_by};
 ghost use Rattle.std.specs.List.{zip};
 ghost use Rattle.devices.specs.Passed.{file_ended, file_failures, file_gave};

@@ -48,9 +48,16 @@ fn tell_legs(rt: &HostRuntime, text: &[u8]) {
 
 /// Tells where the datagrams of a path go.
 fn tell_leg(rt: &HostRuntime, path: &str, flow: &Flow) {
-    let _ = match flow.address {
-        Some(_) => eprintln!(rt; "  path {path} goes to {flow}"),
-        None => eprintln!(rt; "  path {path} goes to port {}, no address", flow.port),
+    let _ = match (flow.source, flow.address) {
+        (Some(source), _) => {
+            let to = Flow {
+                source: None,
+                ..*flow
+            };
+            eprintln!(rt; "  path {path} goes to {to} from {source}")
+        }
+        (None, Some(_)) => eprintln!(rt; "  path {path} goes to {flow}"),
+        (None, None) => eprintln!(rt; "  path {path} goes to port {}, no address", flow.port),
     };
 }
 
@@ -62,7 +69,7 @@ fn tell_edition(rt: &HostRuntime, text: &[u8]) {
 }
 
 /// Prints why a value isn't one of its option, and answers the status.
-fn refuse_value(rt: &HostRuntime, value: BadValue<'_>) -> u8 {
+pub(crate) fn refuse_value(rt: &HostRuntime, value: BadValue<'_>) -> u8 {
     match value.print(rt) {
         Ok(()) => Status::CommandLine.number(),
         Err(_) => Status::Device.number(),

@@ -2,45 +2,77 @@
 use crate::run_made;
 use command_end::{Command, end_without_memory, run_command};
 use command_line::ImportWords;
-use devices::Stream;
+use devices::{FileSource, Stream};
 use recording_counts::LeftOut;
-use recording_engines::ImportCounts;
+use recording_engines::ImportFile;
 use recording_runs::{FlowsCommand, ImportCommand};
+use std::alloc::{AllocError, Global};
 
-/// Makes a capture of recordings, and answers the exit status. Where nothing was recorded, the
-/// flows that the recordings have are told by one command more.
+/// Makes a capture of captures and recordings, and answers the exit status. Where nothing was
+/// recorded, the flows that the recordings have are told by one command more.
 pub fn import(rt: &HostRuntime, words: &ImportWords<'_>, explains: bool, is_verbose: bool) -> u8 {
-    let (status, counts) = match ImportCommand::new(rt, words) {
-        Ok(command) => record(rt, command, explains, is_verbose),
-        Err(_) => (end_without_memory(rt, explains), None),
-    };
-    match counts {
-        Some(counts) if status == 0 && counts.a == 0 && counts.b == 0 => {
-            let names = words.recordings.as_slice();
-            let stream = Stream::Output(rt.stdout());
-            run_made(rt, explains, FlowsCommand::new(rt, names, stream))
-        }
-        _ => status,
+    match ImportCommand::new(rt, words) {
+        Ok(command) => record(rt, words, command, explains, is_verbose),
+        Err(_) => end_without_memory(rt, explains),
     }
 }
 
-/// Runs the command, and answers the exit status, and what was recorded if all was. Why packets
-/// were left out is told where that is asked for, and where nothing was recorded.
+/// Runs the command, and answers the exit status. Why packets were left out is told where that is
+/// asked for, and where nothing was recorded.
 fn record<'a>(
     rt: &HostRuntime,
+    words: &ImportWords<'_>,
     command: ImportCommand<'a>,
     explains: bool,
     is_verbose: bool,
-) -> (u8, Option<ImportCounts>)
+) -> u8
     requires { ⟦<ImportCommand<'a> as Command>⟧.is_new command }
 {
     let ended = run_command(rt, explains, command);
-    if let Some(counts) = &ended.command.counts {
-        if is_verbose || counts.a == 0 && counts.b == 0 {
-            tell_left_out(rt, &counts.left_out);
+    let Some(counts) = &ended.command.counts else {
+        return ended.status;
+    };
+    let is_none = counts.a == 0 && counts.b == 0;
+    if is_verbose || is_none {
+        tell_left_out(rt, &counts.left_out);
+    }
+    if is_none && ended.status == 0 {
+        return tell_flows(rt, words, ended.command.files.as_slice(), explains);
+    }
+    ended.status
+}
+
+/// Tells the flows of those files that are recordings, and answers the exit status.
+fn tell_flows(
+    rt: &HostRuntime,
+    words: &ImportWords<'_>,
+    files: &[ImportFile<Global, FileSource<'_>>],
+    explains: bool,
+) -> u8 {
+    let Ok(names) = recordings(rt, words, files) else {
+        return end_without_memory(rt, explains);
+    };
+    let stream = Stream::Output(rt.stdout());
+    run_made(
+        rt,
+        explains,
+        FlowsCommand::new(rt, names.as_slice(), stream),
+    )
+}
+
+/// The names of those files that are recordings.
+fn recordings<'a>(
+    rt: &HostRuntime,
+    words: &ImportWords<'a>,
+    files: &[ImportFile<Global, FileSource<'_>>],
+) -> Result<Vec<&'a str>, AllocError> {
+    let mut names = Vec::new(rt.alloc());
+    for (name, file) in words.recordings.iter().zip(files.iter()) {
+        if file.is_recording() {
+            names.push(*name)?;
         }
     }
-    (ended.status, ended.command.counts)
+    Ok(names)
 }
 
 /// Tells how many packets were left out, by the reason. That standard error may fail changes

@@ -6,6 +6,7 @@ ghost use Rattle.std.specs.Result.{ForOk};
 mod describing;
 mod exporting;
 mod importing;
+mod inspecting;
 mod receiving;
 mod sending;
 
@@ -15,9 +16,9 @@ use command_line::{Given, Words, WordsFault, given_words, read_words};
 use describing::sdp;
 use exporting::export;
 use importing::import;
+use inspecting::inspect;
 use receiver_runs::{MergeCommand, ProcessCommand, ReportCommand};
 use receiving::receive;
-use recording_runs::InspectCommand;
 use run_outcome::Status;
 use script_runs::{RehearseCommand, TraceCommand};
 use sending::send;
@@ -69,7 +70,7 @@ fn follow(rt: &HostRuntime, given: &Given<'_>) -> u8 {
         Words::Loop(words) => run_command(rt, explains, LoopCommand::new(rt, words)).status,
         Words::Import(words) => import(rt, words, explains, given.is_verbose),
         Words::Export(words) => export(rt, words, explains),
-        Words::Inspect(words) => run_made(rt, explains, InspectCommand::new(rt, words)),
+        Words::Inspect(words) => inspect(rt, words, explains, given.is_verbose),
     }
 }
 

@@ -27,15 +27,15 @@ pub fn receive(rt: &HostRuntime, words: &ReceiveWords<'_>, explains: bool, is_ve
     if let Some(reception) = &ended.command.reception {
         tell_lost(rt, reception, &seen, is_verbose);
         if ended.status == 0 && seen.lacks_flow() {
-            tell_flows(rt, words, files, explains);
+            tell_flows(rt, words.recordings.as_slice(), files, explains);
         }
     }
     ended.status
 }
 
 /// Tells standard error the flows of those files that are recordings.
-fn tell_flows(rt: &HostRuntime, words: &ReceiveWords<'_>, files: &Files<'_>, explains: bool) {
-    if let Ok(names) = recordings(rt, words, files) {
+pub(crate) fn tell_flows(rt: &HostRuntime, names: &[&str], files: &Files<'_>, explains: bool) {
+    if let Ok(names) = recordings(rt, names, files) {
         let stream = Stream::Error(rt.stderr());
         let _ = run_made(
             rt,
@@ -48,16 +48,16 @@ fn tell_flows(rt: &HostRuntime, words: &ReceiveWords<'_>, files: &Files<'_>, exp
 /// The names of those files that are recordings.
 fn recordings<'a>(
     rt: &HostRuntime,
-    words: &ReceiveWords<'a>,
+    names: &[&'a str],
     files: &Files<'_>,
 ) -> Result<Vec<&'a str>, AllocError> {
-    let mut names = Vec::new(rt.alloc());
-    for (name, capture) in words.recordings.iter().zip(files.captures.iter()) {
+    let mut recordings = Vec::new(rt.alloc());
+    for (name, capture) in names.iter().zip(files.captures.iter()) {
         if capture.seen().is_recording() {
-            names.push(*name)?;
+            recordings.push(*name)?;
         }
     }
-    Ok(names)
+    Ok(recordings)
 }
 
 /// Says how many datagrams were kept and what became of the others, where none was kept or more

@@ -2,12 +2,12 @@ use Rattle.std.proofs.Common.{◌∙◌, List, ap, length, subst, sym}
 use Rattle.std.specs.Prelude.{IfErr}
 use Rattle.std.specs.List.{zip}
 use Rattle.command_end.proofs.Outcomes.{on_ok_all, vec_back}
+use Rattle.command_end.proofs.Quiet.{refused_both}
 use Rattle.devices.specs.Passed.{FileRead, file_ended, file_gave}
 use Rattle.devices.specs.declared.file_source.FileSource.{FileSource}
 use Rattle.receiver_engines.specs.MergeAllRefused.{IsMergeAllRefusal}
 use Rattle.run_outcome.specs.Moments.{WasRead}
 use Rattle.run_outcome.specs.Refusing.{OfRefusal}
-use Rattle.receiver_runs.proofs.Quiet.{refused_both}
 use Rattle.receiver_runs.proofs.merging.MergeCommandCommand.run.Goals as goal
 
 pub returns-clause-done : goal.returns-clause-done

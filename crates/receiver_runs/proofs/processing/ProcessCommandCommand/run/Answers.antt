@@ -2,6 +2,7 @@ use Rattle.std.proofs.Common.{◌≡◌, ◌⊎◌, ◌∙◌, List, ap, length,
 use Rattle.std.specs.Prelude.{IfErr, IsTrue}
 use Rattle.std.specs.List.{zip}
 use Rattle.command_end.proofs.Outcomes.{vec_back}
+use Rattle.command_end.proofs.Quiet.{refused_both}
 use Rattle.devices.specs.Passed.{file_ended, file_gave}
 use Rattle.devices.specs.declared.file_source.FileSource.{FileSource}
 use Rattle.receiver_engines.specs.Refused.{IsSaidRunRefusal}
@@ -9,7 +10,6 @@ use Rattle.run_outcome.specs.Moments.{WasRead, pair}
 use Rattle.run_outcome.specs.Refusing.{OfRefusal}
 use Rattle.run_outcome.specs.declared.refusal.Refusal.TheVariants.{OutputIsInput}
 use Rattle.run_outcome.specs.declared.refusal.Writer.TheVariants.{Process}
-use Rattle.receiver_runs.proofs.Quiet.{refused_both}
 use Rattle.receiver_runs.proofs.processing.ProcessCommandCommand.run.Goals as goal
 
 pub returns-clause-done : goal.returns-clause-done

@@ -5,7 +5,9 @@ use Rattle.std.specs.Option.{option_copied}
 use Rattle.command_end.proofs.Outcomes.{vec_back}
 use Rattle.devices.specs.Passed.{FileRead, file_ended, file_gave, file_took}
 use Rattle.devices.specs.declared.file_source.FileSource.{FileSource}
+use Rattle.recording_engines.specs.Files.{ended_by, gave_by}
 use Rattle.recording_engines.specs.Imported.{IsImportRefusal}
+use Rattle.recording_engines.specs.declared.file.ImportFile.{ImportFile}
 use Rattle.run_outcome.specs.Moments.{WasRead}
 use Rattle.run_outcome.specs.Refusing.{OfRefusal}
 use Rattle.run_outcome.specs.Text.{GivesText}
@@ -15,10 +17,10 @@ use Rattle.recording_runs.proofs.importing.ImportCommandCommand.run.Goals as goa
 
 pub returns-clause-done : goal.returns-clause-done
 returns-clause-done c =
-    let items = c.args.self.now.recordings.items in
+    let items = c.args.self.now.files.items in
     let same = ap length c.as_mut_slice.ensures.value in
     rw (
-      vec_back c.args.self.now.recordings.len items c.import-outcome.new.recordings
+      vec_back c.args.self.now.files.len items c.import-outcome.new.files
           (sym c.as_mut_slice.ensures.len ∙ same) (c.import-outcome.ensures.len ∙ same),
       c.settle.ensures.took,
     )
@@ -26,10 +28,10 @@ returns-clause-done c =
 
 pub returns-clause-refusal : goal.returns-clause-refusal
 returns-clause-refusal c =
-    let items = c.args.self.now.recordings.items in
+    let items = c.args.self.now.files.items in
     let same = ap length c.as_mut_slice.ensures.value in
     let back =
-    vec_back c.args.self.now.recordings.len items c.import-outcome.new.recordings
+    vec_back c.args.self.now.files.len items c.import-outcome.new.files
     (sym c.as_mut_slice.ensures.len ∙ same) (c.import-outcome.ensures.len ∙ same) in
     let sdp = c.args.self.now.sdp in
     let sdp' = c.import-outcome.new.sdp in
@@ -38,15 +40,15 @@ returns-clause-refusal c =
     IsImportRefusal (option_copied c.args.self.now.wanted.a)
     (option_copied c.args.self.now.wanted.b) (FileRead sdp sdp')
     (GivesText 65535 (file_gave sdp) (file_gave sdp') (file_ended sdp'))
-    (WasRead file_gave file_ended) (zip items c.import-outcome.new.recordings)
+    (WasRead (gave_by file_gave) (ended_by file_ended)) (zip items c.import-outcome.new.files)
     (file_took c.args.self.now.out) took r
     ⊎ (r ≡ OutputIsInput Import) × IsTrue c.args.self.now.is_input)))
     (sym c.settle.ensures.took)
     (rw c.as_mut_slice.ensures.value at c.import-outcome.ensures.refusal) in
-    subst (λ (ss : List FileSource). IfErr c.import-outcome.result (λ f. OfRefusal f (λ r.
+    subst (λ (ss : List (ImportFile _ FileSource)). IfErr c.import-outcome.result (λ f. OfRefusal f (λ r.
     IsImportRefusal (option_copied c.args.self.now.wanted.a)
     (option_copied c.args.self.now.wanted.b) (FileRead sdp sdp')
     (GivesText 65535 (file_gave sdp) (file_gave sdp') (file_ended sdp'))
-    (WasRead file_gave file_ended) (zip items ss)
+    (WasRead (gave_by file_gave) (ended_by file_ended)) (zip items ss)
     (file_took c.args.self.now.out) (file_took c.settle.new.self) r
     ⊎ (r ≡ OutputIsInput Import) × IsTrue c.args.self.now.is_input))) (sym back) settled

@@ -1,0 +1,137 @@
+-- What `inspect` tells of files, and what it refuses before it reads them (own).
+use Rattle.std.specs.Prelude.{◌≡◌, ℕ, ◌⊎◌, List, Bool, true, false, Option, None, Some, Result}
+use Rattle.std.specs.Prelude.{Ok, Err, All, Any, sum_by, if◌then◌else◌, ◌∷◌, [], vec_len}
+use Rattle.std.specs.List.{zip}
+use Rattle.capture_runs.specs.Looked.{IsCapture, IsFresh, IsNoCapture}
+use Rattle.capture_runs.specs.Opened.{AreUnread}
+use Rattle.capture_runs.specs.Received.{AccountsFiles, EndsRecording}
+use Rattle.capture_runs.specs.Refused.{IsFlowRefusal, IsTooLong}
+use Rattle.capture_runs.specs.Replayed.{replayed_ended, replayed_gave}
+use Rattle.capture_runs.specs.Window.{SourceRead}
+use Rattle.capture_runs.specs.declared.aim.Aim.{Aim}
+use Rattle.capture_runs.specs.declared.aim.Aim.TheVariants as aim
+use Rattle.capture_runs.specs.declared.aim.Inspected.{Inspected}
+use Rattle.capture_runs.specs.declared.opening.Files.{Files}
+use Rattle.capture_runs.specs.declared.replayed.Replayed.{Replayed}
+use Rattle.devices.specs.Passed.{file_failures}
+use Rattle.inspect_engine.specs.Told as flows
+use Rattle.inspect_engine.specs.declared.form.Form.TheVariants as lines
+use Rattle.inspect_engine.specs.declared.form.Form.{Form as FlowForm}
+use Rattle.run_outcome.specs.Fault.{Accounts, Failures, counts, failures_in}
+use Rattle.run_outcome.specs.Moments.{WasRead, pair}
+use Rattle.run_outcome.specs.declared.fault.Fault.{Fault}
+use Rattle.run_outcome.specs.declared.refusal.Refusal.{Refusal}
+use Rattle.run_outcome.specs.declared.refusal.Refusal.TheVariants.{Script}
+use Rattle.run_outcome.specs.declared.script_line.LineFault.TheVariants as line
+use Rattle.st_format.specs.declared.format.FormatFault.{FormatFault}
+use Rattle.stream_inspection.specs.Told as streams
+use Rattle.stream_inspection.specs.declared.target.Target.{Target}
+use Rattle.stream_inspection.specs.declared.target.Wanted.{Wanted}
+use Rattle.stream_inspection.specs.declared.target.Wanted.TheVariants.{Given, Said}
+use Rattle.stream_inspection.specs.declared.text.Form.TheVariants as columns
+use Rattle.stream_inspection.specs.declared.text.Form.{Form as StreamForm}
+
+-- ---- what is told
+
+-- Flows are told where no word names a stream and no file that was looked at begins as a capture.
+-- Where one does, the stream is that which the first file's text says.
+abbrev pub IsSeen : List Replayed → Aim → Type 0
+IsSeen looked aim.Flows = All IsNoCapture looked
+IsSeen looked (aim.Streams w) = Any IsCapture looked × (w ≡ Said)
+
+-- Else what came of the stream is told: of the format that is given; or of that which an SDP says.
+abbrev pub IsAim : Option (Result Target FormatFault) → Bool → List Replayed → Aim → Type 0
+IsAim (Some (Ok t)) is_named looked told = told ≡ aim.Streams (Given t)
+IsAim (Some (Err e)) is_named looked told = ⊥
+IsAim None true looked told = told ≡ aim.Streams Said
+IsAim None false looked told = IsSeen looked told
+
+-- what is read, of which nothing is read yet: that file of the SDP was
+pub record AreFresh (f : Inspected) : Type 0 where
+  pub streams : AreUnread f.streams.sdp f.streams.captures.items
+  pub flows : All IsFresh f.flows.items
+
+-- the files that are read are so many
+abbrev pub CountFiles : ℕ → Inspected → Aim → Type 0
+CountFiles n f aim.Flows = (vec_len f.looked.value ≡ n) × (vec_len f.flows ≡ n)
+CountFiles n f (aim.Streams w) = vec_len f.streams.captures ≡ n
+
+-- The refusals before files are read: that there is no such format, which is that of a script's
+-- line; of the SDP's length; of the words for flows.
+abbrev pub IsSetRefusal : Option (Result Target FormatFault) → Option (List ℕ) → Option (List ℕ)
+    → Inspected → Refusal → Type 0
+IsSetRefusal target a b f r =
+    ((fault : FormatFault) × (target ≡ Some (Err fault)) × (r ≡ Script 1 (line.Format fault)))
+    ⊎ IsTooLong f.streams.unread r ⊎ IsFlowRefusal a b r
+
+-- ---- what was told
+
+-- the form of each
+abbrev pub flow_form : Bool → FlowForm
+flow_form is_json = if is_json then lines.Json else lines.Lines
+
+abbrev pub stream_form : Bool → StreamForm
+stream_form is_json = if is_json then columns.Json else columns.Columns
+
+-- what was read of a file
+abbrev pub ReplayedRead : Replayed × Replayed → List ℕ → Type 0
+ReplayedRead = WasRead replayed_gave replayed_ended
+
+-- what was printed are the flows of the recordings that were read
+abbrev pub TellsFlows : Bool → List Replayed → List Replayed → List ℕ → List ℕ → Type 0
+TellsFlows is_json old new shown shown' =
+    flows.Tells (flow_form is_json) ReplayedRead (zip old new) false shown shown'
+
+-- what was printed is told of all datagrams of the captures and recordings that were read
+abbrev pub TellsStream : Wanted → Bool → Files → Files → List ℕ → List ℕ → Type 0
+TellsStream w is_json old new shown shown' =
+    streams.Tells w (stream_form is_json) SourceRead (pair old.sdp new.sdp)
+    (zip old.captures.items new.captures.items) None shown shown'
+
+abbrev pub TellsAim : Aim → Bool → Inspected → Inspected → List ℕ → List ℕ → Type 0
+TellsAim aim.Flows is_json old new shown shown' =
+    TellsFlows is_json old.flows.items new.flows.items shown shown'
+TellsAim (aim.Streams w) is_json old new shown shown' =
+    TellsStream w is_json old.streams new.streams shown shown'
+
+-- the refusals of what was read
+abbrev pub IsFlowsRefusal : Bool → List Replayed → List Replayed → List ℕ → List ℕ → Refusal
+    → Type 0
+IsFlowsRefusal is_json old new shown shown' =
+    flows.IsInspectRefusal (flow_form is_json) ReplayedRead (zip old new) shown shown'
+
+-- or the fault of a recording
+abbrev pub IsStreamRefusal : Wanted → Bool → Files → Files → List ℕ → List ℕ → Refusal → Type 0
+IsStreamRefusal w is_json old new shown shown' r =
+    streams.IsStreamsRefusal w (stream_form is_json) SourceRead (pair old.sdp new.sdp)
+    (zip old.captures.items new.captures.items) shown shown' r
+    ⊎ Any (EndsRecording r) new.captures.items
+
+abbrev pub IsAimRefusal : Aim → Bool → Inspected → Inspected → List ℕ → List ℕ → Refusal → Type 0
+IsAimRefusal aim.Flows is_json old new shown shown' r =
+    IsFlowsRefusal is_json old.flows.items new.flows.items shown shown' r
+IsAimRefusal (aim.Streams w) is_json old new shown shown' r =
+    IsStreamRefusal w is_json old.streams new.streams shown shown' r
+
+-- how often a file had failed
+abbrev pub failures_of : Replayed → ℕ
+failures_of r = file_failures r.file
+
+-- which devices failed, by what the run came to
+abbrev pub AccountsFlows : List Replayed → List Replayed → Failures → Result (Unit {0}) Fault
+    → Type 0
+AccountsFlows old new output outcome =
+    Accounts outcome (counts (sum_by failures_of old) (sum_by failures_of new) ∷ output ∷ [])
+
+abbrev pub AccountsStream : Files → Files → Failures → Result (Unit {0}) Fault → Type 0
+AccountsStream old new output outcome =
+    AccountsFiles outcome (counts (failures_in (λ s. s.failures) old.sdp)
+    (failures_in (λ s. s.failures) new.sdp)
+    ∷ counts (sum_by (λ s. s.failures) old.captures.items)
+    (sum_by (λ s. s.failures) new.captures.items) ∷ output ∷ [])
+
+abbrev pub AccountsAim : Aim → Inspected → Inspected → Failures → Result (Unit {0}) Fault → Type 0
+AccountsAim aim.Flows old new output outcome =
+    AccountsFlows old.flows.items new.flows.items output outcome
+AccountsAim (aim.Streams w) old new output outcome =
+    AccountsStream old.streams new.streams output outcome

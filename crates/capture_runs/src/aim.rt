@@ -1,0 +1,26 @@
+//! What `inspect` tells, and what it reads for that.
+use crate::opening::Files;
+use crate::replayed::Replayed;
+use std::snapshot::Snapshot;
+use stream_inspection::Wanted;
+
+/// What is told of files.
+#[derive(Clone, Copy)]
+pub enum Aim {
+    /// Which flows recordings have.
+    Flows,
+    /// What came of the stream that is looked for so, in captures and recordings.
+    Streams(Wanted),
+}
+
+/// What `inspect` reads.
+#[derive(Drop)]
+pub struct Inspected<'a> {
+    /// The files as they were looked at to find what is told, where that was done. Only proofs see
+    /// them.
+    pub looked: Snapshot<Vec<Replayed<'a>>>,
+    /// The recordings of which flows are told.
+    pub flows: Vec<Replayed<'a>>,
+    /// The SDP, and the captures and recordings of which a stream is told.
+    pub streams: Files<'a>,
+}

@@ -1,0 +1,384 @@
+//! `inspect` over the devices of this machine.
+ghost use Rattle.std.specs.Prelude.{◌≡◌, ◌⊎◌, [], Err, IfErr, IfOk, MatchResult, OnOk, is_some};
+ghost use Rattle.std.specs.Prelude.{if◌then◌else◌, length, vec_len, All, ◌||◌};
+ghost use Rattle.std.specs.Option.{option_copied};
+ghost use Rattle.capture_runs.specs.Inspected.{AccountsAim, AreFresh, CountFiles, IsAim};
+ghost use Rattle.capture_runs.specs.Inspected.{AccountsFlows, AccountsStream, IsAimRefusal};
+ghost use Rattle.capture_runs.specs.Inspected.{IsFlowsRefusal, IsSeen, IsSetRefusal};
+ghost use Rattle.capture_runs.specs.Inspected.{IsStreamRefusal, TellsAim, TellsFlows, TellsStream};
+ghost use Rattle.capture_runs.specs.Inspected.{flow_form, stream_form};
+ghost use Rattle.capture_runs.specs.Opened.{AreUnread, IsUnread};
+ghost use Rattle.capture_runs.specs.Refused.{IsFlowRefusal, IsTooLong};
+ghost use Rattle.devices.specs.Passed.{output_failures, output_took};
+ghost use Rattle.run_outcome.specs.Fault.{counts};
+ghost use Rattle.run_outcome.specs.Refusing.{OfRefusal};
+ghost use Rattle.run_outcome.specs.declared.fault.Fault.TheVariants.{Refused};
+
+use crate::aim::{Aim, Inspected};
+use crate::looking::{files_of, fresh_files, look_at};
+use crate::opening::{Files, Source, push_capture, text_of};
+use crate::receiving::{octets, told_by};
+use crate::replayed::Replayed;
+use command_end::{Command, Devices, Hints, Ran};
+use command_line::InspectWords;
+use devices::{OutputSink, Reading};
+use flow::Flows;
+use inspect_engine::Form as FlowForm;
+use recorded_capture::{CaptureSource, Seen, ways_each};
+use recording_engines::Importing;
+use run_outcome::{Fault, LineFault, Refusal};
+use st_format::FormatFault;
+use std::io::Stdout;
+use std::snapshot::Snapshot;
+use stream_inspection::{Form as StreamForm, Target, Wanted, inspect_streams};
+
+/// What `inspect` is asked for.
+#[derive(Clone, Copy)]
+pub struct InspectAsked<'a> {
+    /// The format and the payload type that are given, or why there is no such format.
+    pub target: Option<Result<Target, FormatFault>>,
+    /// The SDP's file, where one is named.
+    pub sdp: Option<&'a str>,
+    /// The flows of recordings of other tools.
+    pub flows: Importing<'a>,
+    /// The files of captures and recordings.
+    pub recordings: &'a [&'a str],
+    /// Whether it is told as objects of JSON.
+    pub is_json: bool,
+}
+
+impl InspectAsked<'_> {
+    /// Whether words but a format name a stream: an SDP, or a flow.
+    fn names_stream(&self) -> bool
+        ensures { result ≡ (is_some self.now.sdp
+            || (is_some self.now.flows.a || is_some self.now.flows.b)) }
+    {
+        self.sdp.is_some() || self.flows.a.is_some() || self.flows.b.is_some()
+    }
+}
+
+/// Tells which flows recordings have, or what came of a stream in captures and recordings.
+#[derive(Drop)]
+pub struct InspectCommand<'a> {
+    rt: &'a HostRuntime,
+    pub asked: InspectAsked<'a>,
+    /// What is told, or why no file is read.
+    pub opened: Result<Aim, Fault>,
+    pub files: Inspected<'a>,
+    pub output: OutputSink<Stdout>,
+}
+
+impl<'a> InspectCommand<'a> {
+    /// The command of these words, and of a format where one is given, of which nothing is done yet
+    /// but that the SDP is read, and files looked at for captures where nothing else says a stream.
+    pub fn new(
+        rt: &'a HostRuntime,
+        words: &'a InspectWords<'a>,
+        target: Option<Result<Target, FormatFault>>,
+    ) -> Self
+        ensures { ⟦<InspectCommand<'a> as Command>⟧.is_new result }
+    {
+        let asked = InspectAsked {
+            target,
+            sdp: words.sdp,
+            flows: Importing {
+                a: octets(words.a),
+                b: octets(words.b),
+            },
+            recordings: words.recordings.as_slice(),
+            is_json: words.is_json,
+        };
+        let mut files = nothing_read(rt);
+        let opened = open(rt, asked, &mut files);
+        InspectCommand {
+            rt,
+            asked,
+            opened,
+            files,
+            output: OutputSink::new(rt.stdout()),
+        }
+    }
+
+    /// What was seen of the packets of the recordings of which a stream was told. It is for a
+    /// person.
+    pub fn seen(&self) -> Seen {
+        self.files.streams.seen()
+    }
+}
+
+/// Where nothing is read.
+fn nothing_read<'a>(rt: &HostRuntime) -> Inspected<'a>
+    ensures { AreFresh result }
+{
+    let none = Vec::new(rt.alloc());
+    Inspected {
+        looked: Snapshot::of(&none),
+        flows: none,
+        streams: Files::new(rt),
+    }
+}
+
+/// Finds what is told, and opens what is read for that.
+fn open<'a>(
+    rt: &'a HostRuntime,
+    asked: InspectAsked<'a>,
+    files: &mut Inspected<'a>,
+) -> Result<Aim, Fault>
+    requires { AreFresh files.old }
+    ensures fresh { AreFresh files.new }
+    ensures aim { IfOk result (IsAim asked.entry.target (is_some asked.entry.sdp
+        || (is_some asked.entry.flows.a || is_some asked.entry.flows.b))
+        files.new.looked.value.items) }
+    ensures each { IfOk result (CountFiles (length asked.entry.recordings.now) files.new) }
+    ensures refusal { IfErr result (λ f. OfRefusal f (IsSetRefusal asked.entry.target
+        (option_copied asked.entry.flows.a) (option_copied asked.entry.flows.b) files.new)) }
+{
+    match asked.target {
+        Some(Ok(target)) => open_named(rt, asked, Wanted::Given(target), files),
+        Some(Err(fault)) => Err(LineFault::Format(fault).refused_at(1)),
+        None if asked.names_stream() => open_named(rt, asked, Wanted::Said, files),
+        None => open_looked(rt, asked, files),
+    }
+}
+
+/// Opens the files for a stream that words name.
+fn open_named<'a>(
+    rt: &'a HostRuntime,
+    asked: InspectAsked<'a>,
+    wanted: Wanted,
+    files: &mut Inspected<'a>,
+) -> Result<Aim, Fault>
+    requires { AreFresh files.old }
+    ensures fresh { AreFresh files.new }
+    ensures aim { IfOk result (λ aim. aim ≡ Aim.Streams wanted) }
+    ensures each { IfOk result (CountFiles (length asked.entry.recordings.now) files.new) }
+    ensures refusal { IfErr result (λ f. OfRefusal f (λ r. IsTooLong files.new.streams.unread r
+        ⊎ IsFlowRefusal (option_copied asked.entry.flows.a)
+        (option_copied asked.entry.flows.b) r)) }
+{
+    let recordings = files_of(rt, asked.recordings)?;
+    open_streams(rt, asked, recordings, &mut files.streams)?;
+    Ok(Aim::Streams(wanted))
+}
+
+/// Looks whether a file is a capture, and opens the files for the stream that its text says, or for
+/// flows.
+fn open_looked<'a>(
+    rt: &'a HostRuntime,
+    asked: InspectAsked<'a>,
+    files: &mut Inspected<'a>,
+) -> Result<Aim, Fault>
+    requires { AreFresh files.old }
+    ensures fresh { AreFresh files.new }
+    ensures aim { IfOk result (IsSeen files.new.looked.value.items) }
+    ensures each { IfOk result (CountFiles (length asked.entry.recordings.now) files.new) }
+    ensures refusal { IfErr result (λ f. OfRefusal f (λ r. IsTooLong files.new.streams.unread r
+        ⊎ IsFlowRefusal (option_copied asked.entry.flows.a)
+        (option_copied asked.entry.flows.b) r)) }
+{
+    let looked = look_at(rt, asked.recordings)?;
+    files.looked = Snapshot::of(&looked.files);
+    if looked.have_capture {
+        open_streams(rt, asked, looked.files, &mut files.streams)?;
+        return Ok(Aim::Streams(Wanted::Said));
+    }
+    files.flows = fresh_files(rt, looked.files)?;
+    Ok(Aim::Flows)
+}
+
+/// Reads the SDP where one is named, and makes captures of files, from their fronts.
+fn open_streams<'a>(
+    rt: &'a HostRuntime,
+    asked: InspectAsked<'a>,
+    recordings: Vec<Replayed<'a>>,
+    files: &mut Files<'a>,
+) -> Result<(), Fault>
+    requires { AreUnread files.old.sdp files.old.captures.items }
+    ensures unread { AreUnread files.new.sdp files.new.captures.items }
+    ensures each { OnOk result (vec_len files.new.captures ≡ vec_len recordings.entry) }
+    ensures refusal { IfErr result (λ f. OfRefusal f (λ r. IsTooLong files.new.unread r
+        ⊎ IsFlowRefusal (option_copied asked.entry.flows.a)
+        (option_copied asked.entry.flows.b) r)) }
+{
+    files.read_sdp(rt, asked.sdp)?;
+    files.captures = captures_over(rt, asked.flows, text_of(&files.sdp), recordings)?;
+    Ok(())
+}
+
+/// The captures of files, none of which is looked at yet, each with the flows that it is taken by
+/// if it is a recording.
+fn captures_over<'a>(
+    rt: &'a HostRuntime,
+    flows: Importing<'a>,
+    said: Option<&[u8]>,
+    files: Vec<Replayed<'a>>,
+) -> Result<Vec<Source<'a>>, Fault>
+    ensures unread { IfOk result (λ captures. All IsUnread captures.items) }
+    ensures each { IfOk result (λ captures. vec_len captures ≡ vec_len files.entry) }
+    ensures refusal { IfErr result (λ f. OfRefusal f (IsFlowRefusal
+        (option_copied flows.entry.a) (option_copied flows.entry.b))) }
+{
+    let mut files = files;
+    let ways = ways_for(rt, flows, said, files.len())?;
+    let mut captures = Vec::new(rt.alloc());
+    for way in &ways {
+        let file = files.remove(0).again()?;
+        push_capture(&mut captures, CaptureSource::new(rt.alloc(), *way, file))?;
+    }
+    Ok(captures)
+}
+
+/// The flows by which each of so many files is taken that is a recording, or the refusal that comes
+/// where one is.
+fn ways_for<'a>(
+    rt: &HostRuntime,
+    flows: Importing<'a>,
+    said: Option<&[u8]>,
+    count: usize,
+) -> Result<Vec<Result<Flows, Refusal>>, Fault>
+    ensures each { IfOk result (λ ways. length ways.items ≡ count) }
+    ensures refusal { IfErr result (λ f. OfRefusal f (IsFlowRefusal
+        (option_copied flows.entry.a) (option_copied flows.entry.b))) }
+{
+    ways_each(rt.alloc(), flows, said, count)
+}
+
+/// The form of flows that is asked for.
+fn form_of_flows(is_json: bool) -> FlowForm
+    ensures { result ≡ flow_form is_json }
+{
+    if is_json {
+        FlowForm::Json
+    } else {
+        FlowForm::Lines
+    }
+}
+
+/// The form of streams that is asked for.
+fn form_of_streams(is_json: bool) -> StreamForm
+    ensures { result ≡ stream_form is_json }
+{
+    if is_json {
+        StreamForm::Json
+    } else {
+        StreamForm::Columns
+    }
+}
+
+/// Tells the flows of recordings.
+fn tell_flows(
+    rt: &HostRuntime,
+    is_json: bool,
+    recordings: &mut Vec<Replayed<'_>>,
+    output: &mut OutputSink<Stdout>,
+) -> Result<(), Fault>
+    ensures told { OnOk result (TellsFlows is_json recordings.old.items recordings.new.items
+        (output_took output.old) (output_took output.new)) }
+    ensures refusal { IfErr result (λ f. OfRefusal f (IsFlowsRefusal is_json recordings.old.items
+        recordings.new.items (output_took output.old) (output_took output.new))) }
+    ensures owed { AccountsFlows recordings.old.items recordings.new.items
+        (counts (output_failures output.old) (output_failures output.new)) result }
+{
+    let form = form_of_flows(is_json);
+    inspect_engine::inspect(rt.alloc(), recordings.as_mut_slice(), form, output)
+}
+
+/// Tells what came of a stream, and a fault of what was read in place of a device's.
+fn tell_stream(
+    rt: &HostRuntime,
+    wanted: Wanted,
+    is_json: bool,
+    files: &mut Files<'_>,
+    output: &mut OutputSink<Stdout>,
+) -> Result<(), Fault>
+    ensures told { OnOk result (TellsStream wanted is_json files.old files.new
+        (output_took output.old) (output_took output.new)) }
+    ensures refusal { IfErr result (λ f. OfRefusal f (λ r. IsStreamRefusal wanted is_json
+        files.old files.new (output_took output.old) (output_took output.new) r)) }
+    ensures owed { AccountsStream files.old files.new
+        (counts (output_failures output.old) (output_failures output.new)) result }
+{
+    let form = form_of_streams(is_json);
+    let outcome = inspect_streams(
+        rt.alloc(),
+        wanted,
+        form,
+        &mut files.sdp,
+        files.captures.as_mut_slice(),
+        output,
+    );
+    told_by(outcome, files.captures.as_slice())
+}
+
+/// Where the reading of the last of some files stands that was begun.
+fn last_begun<'a>(files: &[Replayed<'a>]) -> Option<Reading<'a>> {
+    let mut last = None;
+    for file in files {
+        last = file.begun().or(last);
+    }
+    last
+}
+
+impl InspectCommand<'_> {
+    /// What tells more of a fault.
+    fn hints(&self) -> Hints {
+        Hints {
+            takes_recordings: !matches!(self.opened, Ok(Aim::Flows)),
+            has_format: self.asked.target.is_some(),
+            ..Hints::none()
+        }
+    }
+}
+
+impl<'a> Command for InspectCommand<'a> {
+    // (what is told was found, and the SDP read, which the flows of recordings wait for)
+    ghost is_new = { λ c. AreFresh c.files × (output_took c.output ≡ [])
+        × IfOk c.opened (IsAim c.asked.target (is_some c.asked.sdp
+        || (is_some c.asked.flows.a || is_some c.asked.flows.b)) c.files.looked.value.items)
+        × IfOk c.opened (CountFiles (length c.asked.recordings.now) c.files)
+        × IfErr c.opened (λ f. OfRefusal f (IsSetRefusal c.asked.target
+        (option_copied c.asked.flows.a) (option_copied c.asked.flows.b) c.files)) };
+
+    // What is printed are the flows of the recordings that were read; or what came of a stream in
+    // the captures and recordings that were read.
+    ghost does = { λ old new. MatchResult old.opened (λ aim. TellsAim aim old.asked.is_json
+        old.files new.files (output_took old.output) (output_took new.output)) (λ f. ⊥) };
+
+    // A refusal before files were read, or one of what was read.
+    ghost is_refused = { λ old new r. MatchResult old.opened (λ aim. IsAimRefusal aim
+        old.asked.is_json old.files new.files (output_took old.output) (output_took new.output) r)
+        (λ f. f ≡ Refused r) };
+
+    // (where it could not begin, it came to what stopped it)
+    ghost owes = { λ old new outcome. MatchResult old.opened (λ aim. AccountsAim aim old.files
+        new.files (counts (output_failures old.output) (output_failures new.output)) outcome)
+        (λ f. outcome ≡ Err f) };
+
+    fn run(&mut self) -> Ran {
+        let (rt, is_json) = (self.rt, self.asked.is_json);
+        let outcome = match self.opened {
+            Ok(Aim::Flows) => { tell_flows(rt, is_json, &mut self.files.flows, &mut self.output) }
+            Ok(Aim::Streams(wanted)) => {
+                let files = &mut self.files.streams;
+                tell_stream(rt, wanted, is_json, files, &mut self.output)
+            }
+            Err(fault) => Err(fault),
+        };
+        Ran {
+            outcome,
+            is_whole: true,
+        }
+    }
+
+    fn devices(&self) -> Devices<'_> {
+        let streams = self.files.streams.last_read();
+        Devices {
+            sdp: self.files.streams.sdp_reading(),
+            read: streams.or(last_begun(&self.files.flows)),
+            written: None,
+            output: self.output.writing(),
+            kept: None,
+            hints: self.hints(),
+        }
+    }
+}
