@@ -31,10 +31,11 @@ impl Wanting for Engine {
     }
 }
 
-/// For the text, for the flows of each recording, for the packets of both and for a list of them.
+/// For the SDP text, for the flows of each file, for a capture's text, for a packet of each recording,
+/// and for a record of the capture.
 #[test]
 fn of_import(rt: HostRuntime) -> Result<(), Fail> {
-    met(&rt, grows(rt.alloc(), &Engine::Import, 5)?);
+    met(&rt, grows(rt.alloc(), &Engine::Import, 6)?);
     Ok(())
 }
 

@@ -4,9 +4,13 @@
 #![tactic(auto)]
 
 #[cfg(test)]
+mod begun;
+#[cfg(test)]
 mod blocks;
 #[cfg(test)]
 mod checks;
+#[cfg(test)]
+mod either;
 #[cfg(test)]
 mod engines;
 #[cfg(test)]
@@ -33,6 +37,10 @@ mod pcap;
 mod reading;
 #[cfg(test)]
 mod recordings;
+#[cfg(test)]
+mod sources;
+#[cfg(test)]
+mod stream_numbers;
 #[cfg(test)]
 mod streams;
 #[cfg(test)]

@@ -6,8 +6,8 @@ use refusing::Refusing;
 use std::alloc::{AllocError, Global};
 use std::process::Abort;
 use std::test::Fail;
-use test_kit::generator::Generator;
 use test_kit::wanting::{Wanting, grows};
+use test_programs::Generator;
 
 /// Numbers in the order of their coming, and whether each is new: runs that grow at either end,
 /// that join one another and the highest, numbers in them, and the least and the greatest number.

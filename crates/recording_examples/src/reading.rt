@@ -3,8 +3,9 @@
 use crate::checks::met;
 use crate::engines::source;
 use flow::{Flow, Flows};
+use media_file::FileFault;
 use pcap_file::RecordingFault;
-use recording_reader::{OpeningFault, RecordView, RecordingReader};
+use recording_reader::{DatagramReader, FileOpeningFault, ReadingFault, RecordView};
 use refusing::Refusing;
 use st_format::memory::MemorySource;
 use st_format::{DatagramSource, Path, SourceFault, Turn};
@@ -47,10 +48,12 @@ pub const DATAGRAMS: [(Path, u64, &[u8]); 3] = [
 /// Path A by port 5004 and path B by port 5006, of any address.
 pub const FLOWS: Flows = Flows {
     a: Some(Flow {
+        source: None,
         address: None,
         port: 5004,
     }),
     b: Some(Flow {
+        source: None,
         address: None,
         port: 5006,
     }),
@@ -88,25 +91,35 @@ pub fn came<D: DatagramSource>(source: &mut D) -> Came {
     None
 }
 
-/// What comes of a source of octets as a recording; the source is lent.
+/// What comes of a source of octets as a file; the source is lent.
 fn read_lent(alloc: Global, source: &mut MemorySource) -> Result<Came, AllocError> {
-    match RecordingReader::open(alloc, FLOWS, source) {
+    let mut text = [0u8; 65535];
+    match DatagramReader::open(alloc, Some(FLOWS), source, &mut text) {
         Ok(mut reader) => Ok(came(&mut reader)),
         Err(failed) => unopened(failed.0),
     }
 }
 
-/// What comes of a recording that isn't opened.
-fn unopened(fault: OpeningFault) -> Result<Came, AllocError> {
+/// What comes of a file that isn't opened; `None` where there are no flows for it.
+pub fn unopened(fault: FileOpeningFault) -> Result<Came, AllocError> {
     let told = match fault {
-        OpeningFault::NoMemory => return Err(AllocError),
-        OpeningFault::Recording(RecordingFault::Device) => SourceFault::Device,
-        OpeningFault::Recording(fault) => SourceFault::Content(fault.number()),
+        FileOpeningFault::NoMemory => return Err(AllocError),
+        FileOpeningFault::NoFlows => return Ok(None),
+        FileOpeningFault::Reading(ReadingFault::Capture(FileFault::Device)) => SourceFault::Device,
+        FileOpeningFault::Reading(ReadingFault::Capture(fault)) => {
+            SourceFault::Content(fault.number())
+        }
+        FileOpeningFault::Reading(ReadingFault::Recording(RecordingFault::Device)) => {
+            SourceFault::Device
+        }
+        FileOpeningFault::Reading(ReadingFault::Recording(fault)) => {
+            SourceFault::Content(fault.number())
+        }
     };
     Ok(Some((0, Some(told))))
 }
 
-/// What comes of octets as a recording in pieces of five, where a call of the source fails: it fails
+/// What comes of octets as a file in pieces of five, where a call of the source fails: it fails
 /// once at most.
 fn read(alloc: Global, octets: &[u8], fails_in: u64) -> Result<Came, AllocError> {
     let mut source = MemorySource::new(Vec::from_slice(alloc, octets)?, 5, fails_in);
@@ -115,32 +128,36 @@ fn read(alloc: Global, octets: &[u8], fails_in: u64) -> Result<Came, AllocError>
     Ok(if failures < 2 { came } else { None })
 }
 
-/// How many octets of it there are, how many datagrams then come, and whether it ends there: none,
-/// and fewer than a file's head; the head alone; within a packet's head and its octets; up to each
-/// packet's end, and one fewer.
-const CUTS: [(usize, usize, bool); 14] = [
-    (0, 0, false),
-    (23, 0, false),
-    (24, 0, true),
-    (39, 0, false),
-    (70, 0, false),
-    (71, 1, true),
-    (106, 1, false),
-    (107, 1, true),
-    (181, 1, false),
-    (182, 2, true),
-    (225, 2, false),
-    (226, 2, true),
-    (271, 2, false),
-    (272, 3, true),
+/// How many octets of the recording there are, how many datagrams then come, and the number of the
+/// fault behind them: none, and fewer than tell the kind, so a capture's fault; fewer than a file's
+/// head; the head alone; within a packet's head and its octets; up to each packet's end, and one
+/// fewer.
+const CUTS: [(usize, usize, Option<u8>); 15] = [
+    (0, 0, Some(5)),
+    (3, 0, Some(5)),
+    (23, 0, Some(2)),
+    (24, 0, None),
+    (39, 0, Some(2)),
+    (70, 0, Some(2)),
+    (71, 1, None),
+    (106, 1, Some(2)),
+    (107, 1, None),
+    (181, 1, Some(2)),
+    (182, 2, None),
+    (225, 2, Some(2)),
+    (226, 2, None),
+    (271, 2, Some(2)),
+    (272, 3, None),
 ];
 
 #[test]
 fn cut(rt: HostRuntime) -> Result<(), Fail> {
-    for (count, datagrams, is_end) in &CUTS {
-        let fault = (!*is_end).then_some(SourceFault::Content(2));
+    for (count, datagrams, number) in &CUTS {
         let came = read(rt.alloc(), &RECORDING[..*count], 0)?;
-        met(&rt, came == Some((*datagrams, fault)));
+        met(
+            &rt,
+            came == Some((*datagrams, number.map(SourceFault::Content))),
+        );
     }
     Ok(())
 }
@@ -166,9 +183,11 @@ struct Borrowing;
 /// Whether the datagrams come so where they are borrowed, and others are counted by why; `None`
 /// where memory is wanted.
 fn is_borrowed<A: Allocator>(global: Global, alloc: A) -> Result<Option<bool>, AllocError> {
-    let mut reader = match RecordingReader::open(alloc, FLOWS, source(global, RECORDING)?) {
+    let mut text = [0u8; 65535];
+    let source = source(global, RECORDING)?;
+    let mut reader = match DatagramReader::open(alloc, Some(FLOWS), source, &mut text) {
         Ok(reader) => reader,
-        Err((OpeningFault::NoMemory, source)) if source.to_give() == RECORDING => {
+        Err((FileOpeningFault::NoMemory, source)) if source.to_give() == &RECORDING[4..] => {
             return Ok(None);
         }
         Err(_) => return Ok(Some(false)),
@@ -177,7 +196,7 @@ fn is_borrowed<A: Allocator>(global: Global, alloc: A) -> Result<Option<bool>, A
         if reader.advance() != Ok(true) {
             return Ok(Some(false));
         }
-        let is_next = match reader.datagram() {
+        let is_next = match reader.record() {
             Some(record) => is_record(place, &record) && reader.octets() == record.octets,
             None => false,
         };
@@ -190,7 +209,7 @@ fn is_borrowed<A: Allocator>(global: Global, alloc: A) -> Result<Option<bool>, A
     Ok(Some(
         is_over
             && reader.advance() == Ok(false)
-            && reader.datagram().is_none()
+            && reader.record().is_none()
             && reader.path().is_none()
             && reader.moment().is_none()
             && reader.octets().is_empty()

@@ -10,14 +10,14 @@ use std::test::Fail;
 use stream_inspection::{Form, Wanted, inspect_streams};
 
 /// What a camera says of its video: 4 pixels in each of 2 rows, by payload type 96.
-const SDP: &[u8] = b"v=0\no=- 1 1 IN IP4 192.0.2.1\ns=-\nt=0 0\n\
+pub const SDP: &[u8] = b"v=0\no=- 1 1 IN IP4 192.0.2.1\ns=-\nt=0 0\n\
     m=video 5004 RTP/AVP 96\nc=IN IP4 239.1.1.1/32\na=rtpmap:96 raw/90000\n\
     a=fmtp:96 sampling=YCbCr-4:2:2; width=4; height=2; exactframerate=60; depth=8; \
     TCS=SDR; colorimetry=BT709; PM=2110GPM; SSN=ST2110-20:2017\n";
 
 /// The packet number, the extended number and the sequence number, the timestamp and the marker.
 #[derive(Clone, Copy)]
-struct Sent(u32, u32, bool);
+pub struct Sent(pub u32, pub u32, pub bool);
 
 /// The packets of three timestamps. By A 65535 and 65538 don't come, and 65536 comes twice; by B
 /// 65536 doesn't, and 65537 comes behind 65538.
@@ -35,7 +35,7 @@ const SENT: [(Path, u64, Sent); 10] = [
 ];
 
 /// A datagram of the upper row, with this payload type.
-fn datagram(payload_type: u8, sent: Sent) -> [u8; 28] {
+pub fn datagram(payload_type: u8, sent: Sent) -> [u8; 28] {
     let mut octets = [0u8; 28];
     let number = sent.0.to_be_bytes();
     let timestamp = sent.1.to_be_bytes();
@@ -52,13 +52,26 @@ fn datagram(payload_type: u8, sent: Sent) -> [u8; 28] {
     octets
 }
 
-/// The capture of these packets with a text, and behind them a datagram of payload type 97, one of
-/// RTCP and one of five octets.
-fn capture(global: Global, text: &[u8]) -> Result<MemorySource, Fail> {
+/// The same of a sender that leaves the high half of the packet number 0.
+pub fn low_datagram(payload_type: u8, sent: Sent) -> [u8; 28] {
+    let mut octets = datagram(payload_type, sent);
+    octets[12] = 0;
+    octets[13] = 0;
+    octets
+}
+
+/// The capture of these packets with a text, as the sender says their numbers, and behind them a
+/// datagram of payload type 97, one of RTCP and one of five octets.
+fn capture(global: Global, text: &[u8], is_low: bool) -> Result<MemorySource, Fail> {
     let mut sink = sink(global)?;
     write_front(&mut sink, &text[..text.len().min(65535)])?;
     for (path, moment, sent) in SENT {
-        write_record(&mut sink, path, moment, &datagram(96, sent))?;
+        let octets = if is_low {
+            low_datagram(96, sent)
+        } else {
+            datagram(96, sent)
+        };
+        write_record(&mut sink, path, moment, &octets)?;
     }
     let other = Sent(5, 48, false);
     write_record(&mut sink, Path::A, 4000, &datagram(97, other))?;
@@ -119,11 +132,16 @@ const JSON: &[u8] = b"\
 {\"kind\":\"window\",\"timestamps\":[900,2400,3900]}
 ";
 
-/// A capture that says what it has, in both forms.
+/// A capture that says what it has, in both forms. It is told the same, whether or not the sender
+/// says the high halves of its packet numbers.
 #[test]
 fn streams_of_a_capture(rt: HostRuntime) -> Result<(), Fail> {
-    for (form, text) in [(Form::Columns, COLUMNS), (Form::Json, JSON)] {
-        let mut captures = [capture(rt.alloc(), SDP)?];
+    for (form, text, is_low) in [
+        (Form::Columns, COLUMNS, false),
+        (Form::Json, JSON, false),
+        (Form::Columns, COLUMNS, true),
+    ] {
+        let mut captures = [capture(rt.alloc(), SDP, is_low)?];
         let mut sdp = None;
         let mut printed = sink(rt.alloc())?;
         let ended = inspect_streams(
@@ -219,7 +237,7 @@ fn no_text(rt: HostRuntime) -> Result<(), Fail> {
 
 /// Whether the streams of a capture are told, or `None` where memory is wanted.
 pub fn are_told<A: Allocator + Copy>(global: Global, alloc: A) -> Result<Option<bool>, Fail> {
-    let mut captures = [capture(global, SDP)?];
+    let mut captures = [capture(global, SDP, false)?];
     let mut sdp = None;
     let mut printed = sink(global)?;
     let outcome = inspect_streams(

@@ -112,8 +112,10 @@ pub use Rattle.pcap_file.specs.Udp as RecordingUdp
 pub use Rattle.pcap_file.specs.Views as RecordingViews
 pub use Rattle.pcap_file.specs.Writing as RecordingWriting
 pub use Rattle.recording_counts.specs.LeftOut
-pub use Rattle.recording_reader.specs.Opening as RecordingOpening
-pub use Rattle.recording_reader.specs.Reader as RecordingReader
+pub use Rattle.recording_reader.specs.FileReader
+pub use Rattle.recording_reader.specs.Files as DatagramFiles
+pub use Rattle.recording_reader.specs.Kinds as DatagramKinds
+pub use Rattle.recording_reader.specs.Opening as FileOpening
 pub use Rattle.recording_reader.specs.Records as RecordingRecords
 pub use Rattle.recording_counts.specs.FlowCounts
 pub use Rattle.recording_counts.specs.Flows

@@ -105,19 +105,21 @@ pub mod files {
 }
 
 /// Recordings of other tools, as pcap and pcapng: their packets, as datagrams of UDP, and the flows
-/// of the two paths; and a reader that gives the datagrams of these to a receiver.
+/// of the two paths; and a reader that gives the datagrams of these, or of a capture, to a receiver.
 pub mod recordings {
     pub use flow::{Flow, Flows, read_flow};
     pub use pcap_file::{
         ByteOrder, DatagramView, Envelope, Envelope6, HEADS, HEADS6, INTERFACES, Interface,
         IpVersion, Layout, Link, LinkView, NoDatagram, PCAP_HEAD, Packet, PacketHead, PacketView,
         PcapHead, RECORD_HEAD, RecordingFault, Section, Step, next_block, next_packet, next_record,
-        open_recording, packet_datagram, read_datagram, read_first_section, read_link, read_packet,
-        read_pcap, read_pcap_head, read_record_head, read_udp, record_begins, record_rest,
-        write_pcap_head, write_record, write_record6,
+        open_behind, open_recording, packet_datagram, read_datagram, read_first_section, read_link,
+        read_packet, read_pcap, read_pcap_head, read_record_head, read_udp, record_begins,
+        record_rest, write_pcap_head, write_record, write_record6,
     };
     pub use recording_counts::{LeftOut, Omission};
-    pub use recording_reader::{OpeningFault, RecordView, RecordingReader, Standing};
+    pub use recording_reader::{
+        DatagramReader, FileOpeningFault, ReadingFault, RecordView, Standing,
+    };
 }
 
 /// Which flows of UDP datagrams have, and that as text.
