@@ -11,7 +11,7 @@ run import --sdp written.sdp --out back.cap exported.pcap
 says 'export, and import again by an SDP that is written' 0 'recorded A 8 B 8 left out 0' ''
 run export --a 239.1.1.1:5004 --out exported.pcap again.cap
 says 'export: path A alone' 0 'exported 8 left out 8' ''
-# To IPv6, both paths or one of them: what comes back is the same capture.
+# To IPv6, both paths or one of them, and from two sources to one place: what comes back is the same capture.
 while read -r a b; do
     run export --a "$a" --b "$b" --out exported.pcap again.cap
     says "export: to $a and $b" 0 'exported 16 left out 0' ''
@@ -22,7 +22,38 @@ done <<END
 [ff3e::1]:5004 [ff3e::2]:5006
 239.1.1.1:5004 [2001:db8::5]:5004
 [ff3e::1]:5004 239.1.1.1:5004
+198.51.100.1>239.1.1.1:5004 198.51.100.2>239.1.1.1:5004
+[2001:db8::a]>[ff3e::1]:5004 [2001:db8::b]>[ff3e::1]:5004
 END
+# Two sources to one address and port, told by the SDP alone, in its sections or in one and for the session; by --a alone; and
+# by neither.
+run export --a '198.51.100.1>239.1.1.1:5004' --b '198.51.100.2>239.1.1.1:5004' --out exported.pcap again.cap
+filter='a=source-filter: incl IN IP4'
+sed "s|^c=.*|c=IN IP4 239.1.1.1/8|; s|5006|5004|" "$recordings/two-cards.sdp" >one-place.sdp
+awk -v filter="$filter" '
+    { print }
+    /^c=/ { print filter (++section == 1 ? " 239.1.1.1 198.51.100.1" : " * 198.51.100.2") }
+' one-place.sdp >both-sections.sdp
+awk -v filter="$filter" '
+    /^t=/ { print filter " 239.1.1.1 198.51.100.2" }
+    { print }
+    /^c=/ && ++section == 1 { print filter " 239.1.1.1 198.51.100.1" }
+' one-place.sdp >session.sdp
+for text in both-sections session; do
+    run import --sdp $text.sdp --out back.cap exported.pcap
+    says "export, and import again by the sources of an SDP: $text" 0 'recorded A 8 B 8 left out 0' ''
+    tail -c +$((11 + $(wc -c <$text.sdp))) back.cap >back.records
+    tail -c +$((11 + $(wc -c <"$recordings/two-cards.sdp"))) again.cap >again.records
+    alike "export, and import again by the sources of an SDP: $text: the records" back.records again.records
+done
+run import --sdp one-place.sdp --a '198.51.100.2>5004' --out back.cap exported.pcap
+says 'import: one source of two' 0 'recorded A 8 B 0 left out 8' ''
+run import --sdp one-place.sdp --a '198.51.100.2>5004' --b 5004 --out back.cap exported.pcap
+says 'import: one source, and the rest' 0 'recorded A 8 B 8 left out 0' ''
+run import --sdp one-place.sdp --out no-import.cap exported.pcap
+says 'import: no source tells the paths' 1 '' 'st2110: import 3 OnePlace'
+run import --sdp one-place.sdp --a '198.51.100.2>5004' --b '198.51.100.2>5004' --out no-import.cap exported.pcap
+says 'import: one source of both paths' 1 '' 'st2110: import 3 OnePlace'
 # The longest datagrams that a packet has room for: 65,507 octets over IPv4, and 65,527 over IPv6.
 octets "5332304341503032 0000" >long.cap
 for size in 65507 65508 65527 65528; do
@@ -33,7 +64,8 @@ run export --a 239.1.1.1:5004 --out exported.pcap long.cap
 says 'export: the longest datagram' 0 'exported 1 left out 3' ''
 run export --a '[ff3e::1]:5004' --out exported.pcap long.cap
 says 'export: the longest datagram over IPv6' 0 'exported 3 left out 1' ''
-for words in '--a 5004' '--a ff3e::1:5004' '--a [ff3e::1]:5004 --b 5004' '--a 239.1.1.1:5004 --b 239.1.1.2'; do
+for words in '--a 5004' '--a ff3e::1:5004' '--a [ff3e::1]:5004 --b 5004' '--a 239.1.1.1:5004 --b 239.1.1.2' \
+    '--a [fe80::1]>239.1.1.1:5004' '--a 192.0.2.1>5004'; do
     # shellcheck disable=SC2086
     run export $words --out no-export.pcap again.cap
     says "export: $words" 1 '' 'st2110: export 1 BadFlow'

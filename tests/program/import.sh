@@ -174,6 +174,42 @@ run import --sdp "$recordings/alike.sdp" --out one-place.cap "$recordings/alike-
 says 'import: one address and port, three recordings' 1 '' 'st2110: import 3 OnePlace'
 none 'import: one address and port, no capture' one-place.cap
 
+# A capture beside a recording, in either order and of standard input: the same records as of both recordings, of which the
+# capture's have no packets left out. Its text is passed over.
+run import --sdp "$recordings/loopback.sdp" --a 239.1.1.1:5004 --b 239.1.1.2:5004 --out late-a.cap "$recordings/late-a.pcap"
+says 'import: a capture to be joined' 0 "$(cat out)" ''
+wanted late 239.1.1.1,5004 239.1.1.2,5004 late-b
+left=${counts##* }
+# joined COMMAND..: whether import says the counts of late-a.cap and late-b.pcap and makes of them what both recordings come to.
+joined() {
+    says "import: $1" 0 "recorded A 10 B 4 left out $left" ''
+    alike "import: $1: the capture" recorded.cap want.cap
+}
+wanted late 239.1.1.1,5004 239.1.1.2,5004 late-a late-b
+run import --sdp "$recordings/late.sdp" --out recorded.cap late-a.cap "$recordings/late-b.pcap"
+joined 'a capture and a recording'
+"$program" import --sdp "$recordings/late.sdp" --out recorded.cap - "$recordings/late-b.pcap" <late-a.cap >out 2>err
+status=$?
+joined 'a capture of standard input and a recording'
+wanted late 239.1.1.1,5004 239.1.1.2,5004 late-b late-a
+run import --sdp "$recordings/late.sdp" --out recorded.cap "$recordings/late-b.pcap" late-a.cap
+joined 'a recording and a capture'
+# Captures need no flows of their own: three of them, where both paths have one address and port; and none has a record.
+run import --sdp "$recordings/alike.sdp" --out recorded.cap late-a.cap late-a.cap late-a.cap
+says 'import: three captures' 0 'recorded A 30 B 0 left out 0' ''
+octets '5332304341503032 0000' >empty.cap
+run import --sdp "$recordings/alike.sdp" --out recorded.cap empty.cap empty.cap empty.cap
+says 'import: captures without a record' 0 'recorded A 0 B 0 left out 0' ''
+# Where a capture's last record isn't whole, all records before it are recorded.
+head -c $(($(wc -c <late-a.cap) - 1)) late-a.cap >cut.cap
+run import --sdp "$recordings/late.sdp" --out recorded.cap cut.cap
+says 'import: a capture cut short' 1 '' 'st2110: capture 5 Truncated'
+mv -f recorded.cap.partial part.cap
+run import --sdp "$recordings/late.sdp" --out recorded.cap late-a.cap
+head -c "$(wc -c <part.cap)" recorded.cap >front.cap
+alike 'import: a capture cut short: the capture' part.cap front.cap
+[ "$(wc -c <part.cap)" -gt "$(($(wc -c <recorded.cap) - 100))" ] || fail 'import: a capture cut short' 'too little is recorded'
+
 # Of all devices at once, with both headers of Linux; in the second each packet is there twice.
 comes 6 0 group 239.1.1.1,5004 - cooked.pcap
 gives 'cooked' 900,4500 "delivered 6
@@ -306,7 +342,9 @@ cut_at_each() {
             read -r fault <err
             case "$status $line $fault" in
                 "0 recorded $came left out 0 ") [ "$cut" = "$whole_to" ] || wrong="$wrong $cut: status 0;" ;;
-                '1  st2110: recording 2 Truncated') [ "$cut" != "$whole_to" ] || wrong="$wrong $cut: it is whole;" ;;
+                '1  st2110: recording 2 Truncated') [ "$cut" -ge 4 ] && [ "$cut" != "$whole_to" ] || wrong="$wrong $cut: it is whole;" ;;
+                # Before the first four octets it may be a capture.
+                '1  st2110: capture 5 Truncated') [ "$cut" -lt 4 ] || wrong="$wrong $cut: it is a recording;" ;;
                 *) wrong="$wrong $cut: $status $line $fault;" ;;
             esac
             # Before the first datagram there may be no capture yet.
@@ -363,23 +401,26 @@ done
 while IFS='|' read -r fault digits; do
     octets "$digits" >hand.recording
     run import --sdp "$recordings/loopback.sdp" --out no-import.cap hand.recording
-    says "import: $fault: $(printf '%s' "$digits" | head -c 60)" 1 '' "st2110: recording $fault"
+    says "import: $fault: $(printf '%s' "$digits" | head -c 60)" 1 '' "st2110: $fault"
 done <<END
-2 Truncated|
-2 Truncated|A1B2C3
-2 Truncated|$pcap_head 00000000 00000000 00000001 00000001
-2 Truncated|$section 00000006
-3 BadMagic|A1B2C3D5 0002 0004 00000000 00000000 00040000 00000001
-3 BadMagic|0A0D0D0A 0000001C 1A2B3C4E 0001 0000 FFFFFFFFFFFFFFFF 0000001C
-4 BadVersion|A1B2C3D4 0002 0003 00000000 00000000 00040000 00000001
-4 BadVersion|0A0D0D0A 0000001C 1A2B3C4D 0002 0000 FFFFFFFFFFFFFFFF 0000001C
-5 BadBlock|0A0D0D0A 0000001C 1A2B3C4D 0001 0000 FFFFFFFFFFFFFFFF 00000020
-5 BadBlock|$section 00000005 FFFFFFFC
-6 BadInterface|$section $packet
-7 TooManyInterfaces|$section $many $interface
-8 BadTime|$section 00000001 00000024 0001 0000 00000000 000E 0008 FFFFFFFFFFFFFFFF 0000 0000 00000024 $packet
-9 PacketTooLong|$pcap_head 00000000 00000000 FFFFFFFF FFFFFFFF
-10 Packed|1F8B0800
+capture 5 Truncated|
+capture 5 Truncated|A1B2C3
+recording 2 Truncated|$pcap_head 00000000 00000000 00000001 00000001
+recording 2 Truncated|$section 00000006
+capture 3 BadName|A1B2C3D5 0002 0004 00000000 00000000 00040000 00000001
+recording 3 BadMagic|0A0D0D0A 0000001C 1A2B3C4E 0001 0000 FFFFFFFFFFFFFFFF 0000001C
+recording 4 BadVersion|A1B2C3D4 0002 0003 00000000 00000000 00040000 00000001
+recording 4 BadVersion|0A0D0D0A 0000001C 1A2B3C4D 0002 0000 FFFFFFFFFFFFFFFF 0000001C
+recording 5 BadBlock|0A0D0D0A 0000001C 1A2B3C4D 0001 0000 FFFFFFFFFFFFFFFF 00000020
+recording 5 BadBlock|$section 00000005 FFFFFFFC
+recording 6 BadInterface|$section $packet
+recording 7 TooManyInterfaces|$section $many $interface
+recording 8 BadTime|$section 00000001 00000024 0001 0000 00000000 000E 0008 FFFFFFFFFFFFFFFF 0000 0000 00000024 $packet
+recording 9 PacketTooLong|$pcap_head 00000000 00000000 FFFFFFFF FFFFFFFF
+capture 5 Truncated|1F8B0800
+capture 4 BadVersion|5332304341503033
+capture 5 Truncated|5332304341503031 00
+capture 6 BadField|5332304341503031 02 0000000000000000 0000
 END
 # The last of 64 interfaces has an empty datagram to the stream's port, at 2^32 microseconds.
 octets "$section $many 00000006 0000004C 0000003F 00000001 00000000 0000002A 0000002A 000000000000 000000000000 0800
@@ -392,9 +433,9 @@ says 'import: 64 interfaces' 0 'recorded A 1 B 0 left out 0' ''
     octets '00 000003E800000000 0000'
 } >want.cap
 alike 'import: 64 interfaces: the capture' recorded.cap want.cap
-for recording in '10 Packed|loopback.pcap.gz' '3 BadMagic|loopback.sdp'; do
-    run import --sdp "$recordings/loopback.sdp" --out no-import.cap "$recordings/${recording#*|}"
-    says "import: ${recording#*|}" 1 '' "st2110: recording ${recording%|*}"
+for recording in loopback.pcap.gz loopback.sdp; do
+    run import --sdp "$recordings/loopback.sdp" --out no-import.cap "$recordings/$recording"
+    says "import: $recording" 1 '' 'st2110: capture 3 BadName'
 done
 
 # Where nothing was recorded, import tells the flows that there are; not of standard input, which it has read.
@@ -421,7 +462,8 @@ status=$?
 says 'import: standard input' 0 'recorded A 8 B 8 left out 0' ''
 run import --sdp "$recordings/two-cards.sdp" --out again.cap "$recordings/two-cards.pcapng"
 alike 'import: standard input, the capture' piped.cap again.cap
-for words in '--a 500x4' '--b 239.1.1.256:5006' '--a 239.1.1.1' '--b 65536'; do
+for words in '--a 500x4' '--b 239.1.1.256:5006' '--a 239.1.1.1' '--b 65536' '--a >5004' '--a 192.0.2.1>239.1.1.1' \
+    '--b studio>5004'; do
     # shellcheck disable=SC2086
     run import --sdp "$recordings/two-cards.sdp" $words --out no-import.cap "$recordings/two-cards.pcapng"
     says "import: $words" 1 '' 'st2110: import 2 BadFlow'

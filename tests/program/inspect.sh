@@ -79,3 +79,7 @@ run inspect "$recordings/loopback.pcap" "$recordings/loopback.pcap.gz"
 says 'inspect: packed' 1 '' 'st2110: recording 10 Packed'
 run inspect no-such-file
 says 'inspect: no such file' 3 '' 'st2110: device'
+# A pipe, of which what was read to see that it is no capture is given again.
+# shellcheck disable=SC2002
+cat "$recordings/two-cards.pcapng" | "$program" inspect - >out 2>err
+alike 'inspect: a pipe' out again

@@ -306,7 +306,10 @@ adds "a host's name" 1 '' 'flows 4 BadConnection' \
     "host.sdp, octet $(wc -c <host.sdp); wanted c=IN IP4 ADDRESS or c=IN IP6 ADDRESS"
 cp "$recorded/loopback.pcap.gz" packed.pcap.gz
 run import -v --sdp q.sdp --out v.cap packed.pcap.gz
-adds 'a packed recording' 1 '' 'recording 10 Packed' \
+adds 'a packed recording' 1 '' 'capture 3 BadName' \
+    'packed.pcap.gz, octet 8; wanted a capture, which begins S20CAP, or a recording, which begins as pcap or pcapng; gzip has packed the file, and zcat unpacks it'
+run inspect -v packed.pcap.gz
+adds 'a packed recording, inspected' 1 '' 'recording 10 Packed' \
     'packed.pcap.gz, octet 4; wanted a recording, which begins as pcap or pcapng; gzip has packed the file, and zcat unpacks it'
 run receive -v --sdp q.sdp --window 9 --state v.rcv packed.pcap.gz
 adds 'a packed recording, received' 1 '' 'capture 3 BadName' \
