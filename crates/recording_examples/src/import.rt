@@ -66,6 +66,25 @@ fn file<A: Allocator>(
     Ok(ImportFile::Closed(source(global, octets)?))
 }
 
+/// Three files in their order.
+fn three<A: Allocator>(
+    global: Global,
+    first: ImportFile<A, MemorySource>,
+    second: ImportFile<A, MemorySource>,
+    third: ImportFile<A, MemorySource>,
+) -> Result<Vec<ImportFile<A, MemorySource>>, AllocError>
+    requires first_closed { IsClosed first }
+    requires second_closed { IsClosed second }
+    requires third_closed { IsClosed third }
+    ensures { IfOk result (λ files. AllClosed files.items) }
+{
+    let mut files = Vec::new(global);
+    files.push(first)?;
+    files.push(second)?;
+    files.push(third)?;
+    Ok(files)
+}
+
 /// A run of `import` of these files by these flows, and what was counted.
 fn import_by<A: Allocator + Copy>(
     global: Global,
@@ -108,12 +127,13 @@ pub fn is_imported<A: Allocator + Copy>(
     alloc: A,
 ) -> Result<Option<bool>, AllocError> {
     let capture = capture(global)?;
-    let mut files = [
+    let mut files = three(
+        global,
         file(global, RECORDING)?,
         file(global, OTHER)?,
         file(global, OLDER)?,
-    ];
-    let (run, counts) = import_by(global, alloc, WANTED, &mut files)?;
+    )?;
+    let (run, counts) = import_by(global, alloc, WANTED, files.as_mut_slice())?;
     let is_written = run.answered(&capture, b"recorded A 2 B 3 left out 1\n");
     Ok(match counts {
         Some(counts) => Some(are_counted(&counts) && is_written == Some(true)),
@@ -130,12 +150,13 @@ fn joined(rt: HostRuntime) -> Result<(), Fail> {
 /// A run of both recordings and a third file, of whose source a call fails.
 fn run_of(global: Global, octets: &[u8], fails_in: u64) -> Result<Run, AllocError> {
     let third = MemorySource::new(Vec::from_slice(global, octets)?, 64, fails_in);
-    let mut files = [
+    let mut files = three(
+        global,
         file(global, RECORDING)?,
         file(global, OTHER)?,
         ImportFile::Closed(third),
-    ];
-    Ok(import_by(global, global, WANTED, &mut files)?.0)
+    )?;
+    Ok(import_by(global, global, WANTED, files.as_mut_slice())?.0)
 }
 
 /// Each call of a capture's source fails in turn: what was written is a first part of the capture,
@@ -211,20 +232,22 @@ const ALIKE: Importing<'static> = Importing {
 #[test]
 fn one_place(rt: HostRuntime) -> Result<(), Fail> {
     let global = rt.alloc();
-    let mut files = [
+    let mut files = three(
+        global,
         file(global, OLDER)?,
         file(global, RECORDING)?,
         file(global, OLDER)?,
-    ];
-    let (run, _) = import_by(global, global, ALIKE, &mut files)?;
+    )?;
+    let (run, _) = import_by(global, global, ALIKE, files.as_mut_slice())?;
     met(&rt, refused_by(&run) == Some(("import", 3)));
     met(&rt, run.written.held().is_empty());
-    let mut files = [
+    let mut files = three(
+        global,
         file(global, OLDER)?,
         file(global, OLDER)?,
         file(global, OLDER)?,
-    ];
-    let (run, _) = import_by(global, global, ALIKE, &mut files)?;
+    )?;
+    let (run, _) = import_by(global, global, ALIKE, files.as_mut_slice())?;
     met(&rt, run.outcome.is_ok());
     met(
         &rt,
