@@ -2,7 +2,7 @@ use Rattle.std.proofs.Common.{List, ℕ, [], ◌∷◌, ◌++◌, append-nil, sy
 use Rattle.std.specs.List.{zip}
 use Rattle.st_format.specs.Member.{SameDatagrams}
 use Rattle.run_laws.specs.Received.{datagrams_read}
-use Rattle.run_examples.proofs.merging.merge_and_receive.Goals as goal
+use Rattle.run_tests.proofs.merging.merge_and_receive.Goals as goal
 
 pub returns : goal.returns
 returns g c =

@@ -1,4 +1,4 @@
-use Rattle.run_examples.proofs.receiving.receive_twice.Goals as goal
+use Rattle.run_tests.proofs.receiving.receive_twice.Goals as goal
 
 pub returns : goal.returns
 returns g c =
