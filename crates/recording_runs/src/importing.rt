@@ -10,7 +10,7 @@ ghost use Rattle.recording_engines.specs.Files.{AllClosed, ended_by, failures_by
 ghost use Rattle.recording_engines.specs.Imported.{Imports, IsImportRefusal};
 ghost use Rattle.recording_engines.specs.declared.importing.ImportCounts.{ImportCounts as Sums};
 ghost use Rattle.recording_runs.specs.Files.{AreNew};
-ghost use Rattle.run_outcome.specs.Fault.{Accounts, counts};
+ghost use Rattle.run_outcome.specs.Fault.{Accounts, IfRefused, counts};
 ghost use Rattle.run_outcome.specs.Moments.{WasRead};
 ghost use Rattle.run_outcome.specs.Refusing.{OfRefusal};
 ghost use Rattle.run_outcome.specs.Text.{GivesText};
@@ -152,6 +152,8 @@ fn import<'a>(
         (WasRead (gave_by file_gave) (ended_by file_ended)) (zip files.old files.new)
         (file_took out.old) (file_took out.new) r
         ⊎ (r ≡ OutputIsInput Import) × IsTrue is_input)) }
+    ensures quiet { IfErr result (λ f. IfRefused f
+        (output_took output.new ≡ output_took output.old)) }
     ensures owed { Accounts result (counts (file_failures sdp.old) (file_failures sdp.new)
         ∷ counts (sum_by (failures_by file_failures) files.old)
         (sum_by (failures_by file_failures) files.new)
@@ -180,12 +182,14 @@ impl<'a> Command for ImportCommand<'a> {
         (file_took old.out) (file_took new.out) (output_took old.output)
         (output_took new.output) sums };
 
-    ghost is_refused = { λ old new r. IsImportRefusal (option_copied old.wanted.a)
+    // Then nothing is printed.
+    ghost is_refused = { λ old new r. (IsImportRefusal (option_copied old.wanted.a)
         (option_copied old.wanted.b) (FileRead old.sdp new.sdp)
         (GivesText 65535 (file_gave old.sdp) (file_gave new.sdp) (file_ended new.sdp))
         (WasRead (gave_by file_gave) (ended_by file_ended)) (zip old.files.items new.files.items)
         (file_took old.out) (file_took new.out) r
-        ⊎ (r ≡ OutputIsInput Import) × IsTrue old.is_input };
+        ⊎ (r ≡ OutputIsInput Import) × IsTrue old.is_input)
+        × (output_took new.output ≡ output_took old.output) };
 
     ghost is_placed = { λ c. IsInPlace c.out × IsFalse c.is_input };
 
