@@ -4,7 +4,7 @@ ghost use Rattle.lane_kernels.specs.Octets.{IsSelected};
 
 use std::simd::prelude::*;
 
-/// 255 where the octets differ, else 0.
+/// 255 where the octets of two rows differ, else 0.
 pub fn differs(a: &[u8], b: &[u8], out: &mut [u8])
     requires lengths { length b.now ≡ length a.now }
     requires room { length out.old ≡ length a.now }

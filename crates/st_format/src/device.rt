@@ -58,7 +58,7 @@ impl SinkFault {
     }
 }
 
-/// A source of datagrams failed.
+/// What failed at a call of a source of datagrams: its device, or what that carries.
 #[derive(Clone, Copy, Debug, PartialEq, Eq, Error)]
 pub enum SourceFault {
     /// The device failed. Why is its own matter.
@@ -109,7 +109,7 @@ pub trait ByteSource {
     /// empty buffer or one that failed, it is not said.
     ghost ended: { Self → Type 0 };
 
-    /// How often it has failed.
+    /// How many of its calls failed so far.
     ghost failures: { Self → ℕ };
 
     /// The octets to come that it holds already, first one first. None where it doesn't say so.
@@ -188,7 +188,7 @@ pub trait ByteSink {
     /// All octets that its calls took so far, first one first.
     ghost took: { Self → List ℕ };
 
-    /// How often it has failed.
+    /// How many of its calls failed so far.
     ghost failures: { Self → ℕ };
 
     /// The references by which it reaches what it writes to, which stay. None where it owns that.
@@ -223,7 +223,7 @@ pub trait DatagramSink {
     /// All datagrams that its calls took so far, in order.
     ghost took: { Self → List (List ℕ) };
 
-    /// How often it has failed.
+    /// How many of its calls failed so far.
     ghost failures: { Self → ℕ };
 
     /// What becomes of the sink by a call that takes a datagram. Where a sink of octets lies below
@@ -270,7 +270,7 @@ pub trait DatagramSource {
     /// How many datagrams it has delivered.
     ghost delivered: { Self → ℕ };
 
-    /// How often it has failed.
+    /// How many of its calls failed so far.
     ghost failures: { Self → ℕ };
 
     /// Its last fault, if it has failed.

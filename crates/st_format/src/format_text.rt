@@ -84,7 +84,7 @@ impl fmt::Display for Format {
     }
 }
 
-/// The format that five words say.
+/// The format of five words parted by single spaces: the rate is all behind the fourth.
 #[tactic(auto, unfolding(crate::specs::Forms::read_format))]
 fn read_format(text: &[u8]) -> Result<Format, FormatTextFault>
     ensures { made_fields result ≡ read_format text.now }

@@ -15,14 +15,13 @@ pub fn split_once(text: &[u8], separator: u8) -> Option<(&[u8], &[u8])>
     }
 }
 
-/// The index of the first `octet`.
 fn place_of(text: &[u8], octet: u8) -> Option<usize>
     ensures { result ≡ position (λ x. x == octet) text.now }
 {
     text.iter().position(|x| *x == octet)
 }
 
-/// A line without a CR at its end.
+/// A line without the one CR at its end, where it has one: lines may end in CR and LF.
 pub fn without_carriage_return(line: &[u8]) -> &[u8]
     ensures { result.now ≡ strip_carriage_return line.now }
 {
