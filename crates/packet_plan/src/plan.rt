@@ -26,13 +26,13 @@ use thiserror::Error;
 /// of two, and a header of six (RFC 3550, 5.1; RFC 4175, 4).
 const ONE_SEGMENT: u32 = 20;
 
-/// The greatest size of a packet, in octets.
+/// The greatest size of a packet, in octets with its RTP header (own).
 const MOST_OCTETS: u32 = 9000;
 
 /// Why there is no plan. The size is tested first.
 #[derive(Clone, Copy, Debug, PartialEq, Eq, Error)]
 pub enum PlanFault {
-    /// The memory was refused.
+    /// The allocator refused the memory for the packets' first pgroups.
     #[error("the memory was refused")]
     NoMemory = 1,
     /// The greatest size is below 20 octets and a pgroup, or above 9000.
@@ -43,7 +43,7 @@ pub enum PlanFault {
 impl PlanFault {
     ghost use Rattle.packet_plan.specs.Faults.{plan_fault_name, plan_fault_number};
 
-    /// Its number: 1 or 2.
+    /// Its number: 1 or 2, which isn't the order of the tests.
     pub fn number(self) -> u8
         ensures { result ≡ plan_fault_number self }
     {
@@ -143,7 +143,7 @@ impl<A: Allocator> Plan<A> {
         })
     }
 
-    /// How many packets there are.
+    /// How many packets there are: from 1 to 2^26.
     pub fn len(&self) -> u32
         ensures value { result ≡ length self.now.packets }
         ensures some { 0 < length self.now.packets }
@@ -265,7 +265,7 @@ impl<A: Allocator> Plan<A> {
         )
     }
 
-    /// The format that the plan was made for.
+    /// The format that the plan was made for: that of the pictures that are sent by it.
     pub fn format(&self) -> Format
         ensures { result ≡ self.now.format }
     {

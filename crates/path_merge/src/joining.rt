@@ -8,7 +8,7 @@ use frame_assembly::Frame;
 use st_format::Format;
 use std::alloc::Allocator;
 
-/// Frames of which nothing is known.
+/// Frames of which nothing is known, of one format. `NoMemory` where the memory was refused.
 pub fn blank_frames<A: Allocator + Copy>(
     alloc: A,
     format: Format,

@@ -15,7 +15,7 @@ pub trait Observer {
         ensures { self.new ≡ after self.old answer };
 }
 
-/// Takes note of nothing.
+/// Takes note of nothing, where nobody wants the answers.
 #[derive(Drop)]
 pub struct Unobserved;
 

@@ -64,7 +64,7 @@ pub fn sample_at(format: &Format, octets: &[u8], i: usize) -> u16
     }
 }
 
-/// The same by the depth.
+/// The same by the depth alone, so that a caller may have it as a literal.
 #[inline(always)]
 fn unpack_at(depth: Depth, octets: &[u8], samples: &mut [u16])
     requires { 8 * length octets.now ≡ bits_of depth * length samples.old }
@@ -78,7 +78,7 @@ fn unpack_at(depth: Depth, octets: &[u8], samples: &mut [u16])
     }
 }
 
-/// The same by the depth.
+/// The same by the depth alone, so that a caller may have it as a literal.
 #[inline(always)]
 fn pack_at(depth: Depth, samples: &[u16], octets: &mut [u8])
     requires lengths { 8 * length octets.old ≡ bits_of depth * length samples.now }

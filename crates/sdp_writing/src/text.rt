@@ -10,7 +10,7 @@ use flow::Flow;
 use std::alloc::{AllocError, Allocator};
 use std::net::{IpAddr, Ipv4Addr, Ipv6Addr};
 
-/// Puts a line and its end behind a text.
+/// Puts a line and its end, CR and LF (RFC 8866, 5), behind a text.
 pub(crate) fn add_line<A: Allocator>(text: &mut Vec<u8, A>, line: &[u8]) -> Result<(), AllocError>
     ensures { OnOk result (text.new.items ≡ text.old.items ++ ended line.now) }
 {
@@ -19,7 +19,7 @@ pub(crate) fn add_line<A: Allocator>(text: &mut Vec<u8, A>, line: &[u8]) -> Resu
     Ok(())
 }
 
-/// The time to live of an address that begins with this octet.
+/// `/64` where an address of IPv4 begins as a multicast one does (RFC 8866, 5.7), else nothing.
 fn lifetime(first: u8) -> &'static str
     ensures { result.now ≡ lifetime_text first }
 {
