@@ -31,9 +31,9 @@ use std::snapshot::Snapshot;
 pub enum Standing {
     /// At the front of a record or at the end, which one isn't known.
     Reads,
-    /// At the end.
+    /// At the end, which stays.
     Ended,
-    /// At its fault.
+    /// At its fault, which stays.
     Failed(FileFault),
 }
 
@@ -174,7 +174,7 @@ impl<S: ByteSource> CaptureReader<S> {
         }
     }
 
-    /// How many octets the capture's text has.
+    /// How many octets the capture's text has: at most 65,535.
     pub fn text_len(&self) -> usize
         ensures { result ≡ self.now.text_len }
     {
@@ -216,7 +216,7 @@ impl<S: ByteSource> CaptureReader<S> {
     }
 }
 
-/// A fault as a source of datagrams tells it.
+/// A fault as a source of datagrams tells it: one of the content by its number.
 fn told(fault: FileFault) -> SourceFault
     ensures { result ≡ source_fault fault }
 {
