@@ -43,8 +43,8 @@ impl Hints {
         }
     }
 
-    /// What was wanted where a file isn't of a kind that the command takes: all kinds that it takes.
-    /// A file of which nothing was read, at octet 0, is of none.
+    /// What was wanted where a file isn't of a kind that the command takes: all kinds that it
+    /// takes. A file of which nothing was read, at octet 0, is of none.
     pub(crate) fn kinds(&self, refusal: Refusal, octet: u64) -> Option<&'static str> {
         let is_empty = octet == 0;
         match refusal {

@@ -229,8 +229,8 @@ fn blamed_by(refusal: Refusal) -> Blamed {
     }
 }
 
-/// Says where the fault of a run is, what was wanted there, and what stays of what was written. That
-/// standard error may fail too changes nothing: the status is the fault's.
+/// Says where the fault of a run is, what was wanted there, and what stays of what was written.
+/// That standard error may fail too changes nothing: the status is the fault's.
 pub(crate) fn explain(rt: &HostRuntime, fault: Fault, devices: &Devices<'_>) {
     let told = Told {
         said: match fault {

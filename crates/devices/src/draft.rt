@@ -15,7 +15,7 @@ use std::os::unix;
 use std::os::unix::fs::MetadataExt;
 use std::path::{Path, PathBuf};
 
-/// How many names are tried for a draft.
+/// How many names are tried for a draft: as many drafts of one file may be left over.
 const TRIES: u32 = 1000;
 
 /// How many octets of a file's name stand in that of its draft: with what comes behind them they
@@ -30,7 +30,7 @@ pub(crate) struct Draft<'a, R: Files + Alloc> {
     name: PathBuf<R::A>,
     /// The name that it is to take.
     target: PathBuf<R::A>,
-    /// What stands there.
+    /// What stands there, whose permissions the draft takes, and its owner where that may be.
     replaced: Option<Metadata>,
     writer: BufWriter<Noted<R::File>, R::A>,
 }
@@ -127,12 +127,12 @@ impl<'a, R: Files + Alloc> Draft<'a, R> {
         let _ = self.writer.flush();
     }
 
-    /// Removes it.
+    /// Removes it, as far as that goes.
     pub(crate) fn remove(&self) {
         let _ = fs::remove_file(self.files, &self.name);
     }
 
-    /// The name that it has.
+    /// The name that it has until it takes the other.
     pub(crate) fn name(&self) -> &str {
         self.name.as_str()
     }

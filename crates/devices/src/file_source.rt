@@ -26,9 +26,9 @@ pub struct FileSource<'a> {
     progress: Progress,
     gave: History,
     failures: u64,
-    /// Whether its reading began.
+    /// Whether its reading began: the last file that did is the one that a fault is told of.
     is_begun: bool,
-    /// How many octets were read.
+    /// How many octets were read, or passed: the place where the reading stands.
     octet: u64,
     /// Whether it begins as what gzip packs.
     is_packed: bool,
@@ -95,7 +95,7 @@ impl<'a> FileSource<'a> {
         }
     }
 
-    /// Where the reading stands.
+    /// Where the reading stands: its name, how many octets were read, and why it failed last.
     pub fn reading(&self) -> Reading<'a> {
         Reading {
             name: self.name,

@@ -14,7 +14,7 @@ pub struct InputSource<R: Read + Drop> {
     is_ended: bool,
     gave: History,
     failures: u64,
-    /// How many octets were read.
+    /// How many octets were read: the place where the reading stands.
     octet: u64,
     /// Why it failed last.
     fault: Option<io::Error>,
@@ -47,7 +47,7 @@ impl<R: Read + Drop> InputSource<R> {
         }
     }
 
-    /// Where the reading stands.
+    /// Where the reading stands: how many octets were read, and why it failed last.
     pub fn reading(&self) -> Reading<'static> {
         Reading {
             name: "standard input",

@@ -14,7 +14,8 @@ pub enum Stream {
 }
 
 impl Stream {
-    /// The stream of this name.
+    /// The stream of this name: standard output, or a device or a pipe, which is opened to be
+    /// written.
     pub(crate) fn open(rt: &HostRuntime, name: &str) -> io::Result<Stream> {
         if name == OUTPUT {
             Ok(Stream::Output(rt.stdout()))

@@ -48,7 +48,7 @@ impl<'t, K: ByteSink> Model for LateCapture<'t, K> {
 }
 
 impl<'t, K: ByteSink> LateCapture<'t, K> {
-    /// A capture with this text that isn't begun.
+    /// A capture with this text that isn't begun: its front goes out with the first datagram.
     pub(crate) fn new(sink: K, text: &'t [u8]) -> Self
         requires few { length text.now ≤ 65535 }
         ensures sink { result.sink ≡ sink }
@@ -69,7 +69,7 @@ impl<'t, K: ByteSink> LateCapture<'t, K> {
         }
     }
 
-    /// Gives the sink back, as it then is.
+    /// Gives the sink back, as it then is: without a datagram as it was.
     pub(crate) fn into_inner(self) -> K
         ensures { result ≡ self.entry.sink }
     {

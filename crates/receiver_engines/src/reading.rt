@@ -42,7 +42,7 @@ pub fn read_receivers<A: Allocator + Copy, S: ByteSource>(
     Ok(receivers)
 }
 
-/// Reads the receiver of a place.
+/// Reads the receiver of a place in the list.
 fn read_at<A: Allocator + Copy, S: ByteSource>(
     alloc: A,
     states: &mut [S],

@@ -18,7 +18,7 @@ pub enum Status {
 }
 
 impl Status {
-    /// The exit status.
+    /// The exit status, 0 to 4.
     pub fn number(self) -> u8
         ensures { result ≡ status_number self }
     {

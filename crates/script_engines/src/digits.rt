@@ -62,7 +62,7 @@ fn decode_block(text: &[u8], octets: &mut [u8], at: usize) -> bool
     true
 }
 
-/// The values of 32 digits.
+/// The values of 32 digits; of an octet that is no digit 16 or more.
 #[inline(always)]
 fn digit_values(digits: u8x32) -> u8x32
     ensures { AreDigitValues 32 digits result }

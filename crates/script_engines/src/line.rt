@@ -114,7 +114,7 @@ fn read_depth(text: &[u8]) -> Option<Depth>
     }
 }
 
-/// What a line `open` says; its window is text yet.
+/// What a line `open` says; its window is text yet, since reading that takes memory.
 pub(crate) fn read_open_line(text: &[u8]) -> Option<OpenLine<'_>>
     ensures is { IfSome result (λ line.
         IsOpenLine text.now line.payload_type line.ssrc line.window.now) }
@@ -141,7 +141,7 @@ fn read_opening(text: &[u8]) -> Option<OpenLine<'_>>
     })
 }
 
-/// A payload type: up to 127.
+/// A payload type: up to 127, as it has 7 bits (RFC 3550, 5.1).
 pub(crate) fn read_payload_type(text: &[u8]) -> Option<u8>
     ensures range { IfSome result (λ n. n ≤ 127) }
     ensures is { IfSome result (λ n. IsNumberOf text.now n) }
