@@ -71,7 +71,7 @@ impl Hints {
         }
     }
 
-    /// What a command takes that takes captures.
+    /// What a command takes where it takes captures: these alone, or recordings of other tools too.
     fn captures(&self) -> &'static str {
         if self.takes_recordings {
             "a capture, which begins S20CAP, or a recording, which begins as pcap or pcapng"

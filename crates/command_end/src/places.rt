@@ -195,7 +195,7 @@ enum Blamed {
     Described(Located),
 }
 
-/// What a refusal is of.
+/// What a refusal is of: the word that has a value, or the file that has the octets.
 fn blamed_by(refusal: Refusal) -> Blamed {
     match refusal {
         Refusal::Script(_, LineFault::Form(Form::TextEnd)) => Blamed::Sdp,
@@ -258,7 +258,7 @@ struct Told<'a> {
 }
 
 impl Told<'_> {
-    /// Whether anything is told.
+    /// Whether anything is told; else there is no line more.
     fn is_some(&self) -> bool {
         self.said.is_some() || self.left.is_some() || self.sound.is_some()
     }

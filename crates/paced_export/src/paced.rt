@@ -94,7 +94,7 @@ where
     print(Line::Exported(counts.written, counts.left_out), output)
 }
 
-/// The pace of frames that were read ahead, from this moment on.
+/// The pace of frames that were read ahead. Without a record no first timestamp is asked for.
 fn pace_from<A: Allocator>(start: u64, told: &Ahead<A>) -> Pace
     requires { start < 2 ^ 32 * 1000000000 }
     ensures start { result.start ≡ start }
@@ -146,7 +146,7 @@ fn export_capture<A: Allocator + Copy, S: ByteSource, K: ByteSink>(
     }
 }
 
-/// Room for any packet.
+/// Room for the greatest packet, which is made once for all.
 fn packet_room<A: Allocator>(alloc: A) -> Result<Vec<u8, A>, AllocError>
     ensures { IfOk result (λ room. vec_len room ≡ 65605) }
 {
