@@ -100,7 +100,7 @@ pub fn gained_copy<A: Allocator, B: Allocator>(
 /// What is made of each value of a picture, from it and its component alone.
 #[derive(Clone, Copy)]
 enum Change {
-    /// It is brought to the range.
+    /// It becomes the nearest one of the range.
     Limit(RangeKind),
     /// It is brought so many 4096ths as far from what it keeps, and to video data.
     Gain(u32),

@@ -62,10 +62,10 @@ pub trait Command {
     fn devices(&self) -> Devices<'_>;
 }
 
-/// A command that ended.
+/// A command that was run and ended, and what it came to.
 #[derive(Drop)]
 pub struct Ended<C> {
-    /// The exit status.
+    /// The exit status, as `run_command` says it: 0, 1, 3 or 4.
     pub status: u8,
     /// Whether all that it wrote is written out.
     pub is_whole: bool,

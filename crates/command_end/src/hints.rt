@@ -19,9 +19,9 @@ pub struct Hints {
 /// A receiver's frames, as it asks memory for them.
 #[derive(Clone, Copy)]
 pub struct Room {
-    /// How many frames.
+    /// How many frames: one for each timestamp of the window.
     pub frames: usize,
-    /// How many octets each takes.
+    /// How many octets each takes, for its samples and its mark words.
     pub octets: u64,
 }
 
@@ -33,7 +33,7 @@ impl Room {
 }
 
 impl Hints {
-    /// Where nothing is known.
+    /// No hints: for a command that has no more to tell.
     pub fn none() -> Hints {
         Hints {
             takes_recordings: false,

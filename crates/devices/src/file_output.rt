@@ -28,7 +28,7 @@ use std::mem;
 pub enum Rest {
     /// It stays beside the name, since what it has is sound.
     Stays,
-    /// It is removed.
+    /// It is removed, since a part of it is of no use.
     Goes,
 }
 
@@ -235,7 +235,7 @@ fn nothing_written<'a>() -> Settled<'a>
     }
 }
 
-/// That what was written was removed before.
+/// That what was to take the name was removed before.
 fn removed() -> io::Error {
     io::Error::from(ErrorKind::NotFound)
 }

@@ -32,13 +32,13 @@ pub struct FileSink<'a> {
 /// How far a file is written.
 #[derive(Drop)]
 pub(crate) enum Progress<'a> {
-    /// Nothing is written.
+    /// Nothing is written, so there is no file yet.
     Front,
     /// What was written went to what has the name.
     Direct(BufWriter<Noted<Stream>>),
     /// What was written stands beside the name.
     Beside(Draft<'a, HostRuntime>),
-    /// What was written was removed.
+    /// What was written is gone, as it was not whole; what it took is still told.
     Removed(Draft<'a, HostRuntime>),
 }
 
@@ -131,7 +131,7 @@ impl<'a> FileSink<'a> {
         self.fault
     }
 
-    /// Whether it failed.
+    /// Whether a call failed, which no later one mends.
     pub(crate) fn has_failed(&self) -> bool
         ensures { result ≡ true ↔ 0 < self.now.failures }
     {

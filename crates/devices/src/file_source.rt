@@ -41,7 +41,7 @@ pub struct FileSource<'a> {
 enum Progress {
     /// The file isn't open yet.
     Front,
-    /// It is open.
+    /// It is open, and was not read to its end.
     Within(BufReader<File>),
     /// It was read to its end, and closed.
     Past,
@@ -81,7 +81,7 @@ impl<'a> FileSource<'a> {
         source
     }
 
-    /// Whether it is this plain file.
+    /// Whether it is this plain file, whatever name either has; never where that is none.
     pub fn is(&self, file: Option<Identity>) -> bool {
         file.is_some() && identity_of(self.rt, self.path) == file
     }

@@ -7,7 +7,7 @@ use crate::stream::{OUTPUT, Stream};
 use st_format::{ByteSink, DeviceFault};
 use std::io::{self, Write};
 
-/// Any writer, as standard output.
+/// Standard output, or any other writer in its place.
 #[derive(Drop)]
 pub struct OutputSink<W: Write + Drop> {
     writer: W,

@@ -5,7 +5,7 @@ use std::io::{self, Stderr, Stdout, Write};
 /// The name of standard output.
 pub(crate) const OUTPUT: &str = "-";
 
-/// A stream that is written.
+/// A stream that is written: a device or a pipe by its name, standard output, or standard error.
 #[derive(Drop)]
 pub enum Stream {
     Named(File),

@@ -73,7 +73,7 @@ impl Page {
         Ok(())
     }
 
-    /// Adds a word behind what waits.
+    /// Adds a word behind what waits; there is room for it.
     pub(crate) fn add(&mut self, word: &[u8])
         requires { length self.old + length word.now ≤ GATHERED }
         ensures { self.new ≡ self.old ++ word.now }

@@ -105,7 +105,7 @@ impl From<ColourFault> for JobFault {
 /// Why a job's picture wasn't sent.
 #[derive(Clone, Copy, Debug, PartialEq, Eq, Error)]
 pub enum SendJobFault {
-    /// There is no picture.
+    /// The job is refused, or memory was wanted for its picture.
     #[error("there is no picture: {0}")]
     Job(JobFault),
     /// The greatest size of a packet is below 20 octets and a pgroup of the job's picture, or above

@@ -51,7 +51,7 @@ pub(crate) fn format_of_one(job: &Job, format: Format) -> Result<Format, JobFaul
 /// The greatest gain (own): four times as far, in 4096ths.
 pub(crate) const MOST_GAIN: u32 = 16384;
 
-/// The same of two pictures.
+/// The same of two pictures, of which only a wipe is made.
 pub(crate) fn format_of_two(job: &Job, a: Format, b: Format) -> Result<Format, JobFault>
     ensures format { IfOk result (λ f. IsJobFormat f job.now (a ∷ b ∷ [])) }
     ensures sound { OnOk result (IsSoundJob job.now (a ∷ b ∷ [])) }
@@ -66,7 +66,7 @@ pub(crate) fn format_of_two(job: &Job, a: Format, b: Format) -> Result<Format, J
     }
 }
 
-/// The same of three pictures.
+/// The same of three pictures, of which only a key is made.
 pub(crate) fn format_of_three(
     job: &Job,
     a: Format,

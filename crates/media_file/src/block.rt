@@ -27,7 +27,7 @@ fn code_of(sampling: Sampling) -> u8
     }
 }
 
-/// The format block of a format.
+/// The fourteen octets that a format is told by, the highest octet of each number first (own).
 pub fn format_block(format: &Format) -> [u8; BLOCK]
     ensures { result ≡ format_text (fields_of format.now) }
 {

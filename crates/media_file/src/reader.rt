@@ -26,14 +26,14 @@ use st_format::{ByteSource, DatagramSource, SourceFault, Turn};
 use std::marker::Model;
 use std::snapshot::Snapshot;
 
-/// Where a reader stands.
+/// How far a reader has come.
 #[derive(Clone, Copy)]
 pub enum Standing {
     /// At the front of a record or at the end, which one isn't known.
     Reads,
-    /// At the end, which stays.
+    /// It has told the end, and tells it at each later call.
     Ended,
-    /// At its fault, which stays.
+    /// It came to a fault, and tells it at each later call.
     Failed(FileFault),
 }
 

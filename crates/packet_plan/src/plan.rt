@@ -165,7 +165,7 @@ impl<A: Allocator> Plan<A> {
         let _format = &self.format;
     }
 
-    /// The runs of a packet, one for each of its segments.
+    /// The runs of a packet, from 0 on: one to three, each what a segment of it carries.
     pub fn packet(&self, index: u32) -> ArrayVec<PacketRun, 3>
         requires { index < length self.now.packets }
         ensures { result.items ≡ packet_at self.now index }

@@ -30,7 +30,7 @@ pub struct Received {
 pub struct ReceiveFault {
     /// How many datagrams it had delivered in this call. They are taken.
     pub delivered: u64,
-    /// Its fault, as the source told it.
+    /// What the source told of its failure.
     pub fault: SourceFault,
 }
 

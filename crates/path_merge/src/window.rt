@@ -37,7 +37,7 @@ fn has_double(window: &[u32]) -> bool
     }
 }
 
-/// Whether a window has a timestamp.
+/// Whether a window has a timestamp already: none may stand twice in it.
 pub fn has_timestamp(window: &[u32], timestamp: u32) -> bool
     ensures { IsTrue result ↔ IsMember timestamp window.now }
 {

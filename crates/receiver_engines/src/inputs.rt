@@ -138,7 +138,7 @@ fn with_held<'a, A: Allocator + Copy>(
     inputs
 }
 
-/// Each frame with the fill.
+/// An input for each frame, all with the one fill. Only memory can fail.
 fn filled_inputs<'a, A: Allocator + Copy>(
     alloc: A,
     frames: &[&'a Frame<A>],

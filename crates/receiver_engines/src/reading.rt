@@ -68,7 +68,7 @@ fn read_at<A: Allocator + Copy, S: ByteSource>(
     read_receiver(alloc, &mut states[place])
 }
 
-/// Reads the picture that is held, where there is one.
+/// Reads the picture that is to be held, if a file of one is named.
 pub fn read_held<A: Allocator, S: ByteSource>(
     alloc: A,
     hold: &mut Option<S>,

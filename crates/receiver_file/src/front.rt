@@ -20,7 +20,7 @@ const RECEIVER: &[u8] = b"S20RCV";
 /// The fields behind the format block: seven octets (own).
 #[derive(Clone, Copy)]
 pub(crate) struct Head {
-    /// Up to 127.
+    /// The payload type of the datagrams that it takes: up to 127.
     pub payload_type: u8,
     /// The source that is pinned, or none.
     pub ssrc: Option<u32>,

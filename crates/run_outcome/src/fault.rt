@@ -148,7 +148,7 @@ pub fn of_state(fault: FileFault) -> Fault
     of_file(fault, Refusal::State(fault))
 }
 
-/// A fault of a file, which is this refusal where it is one of the content.
+/// What ends a run at a file: this refusal, unless the device failed or memory was wanted.
 fn of_file(fault: FileFault, refusal: Refusal) -> Fault
     ensures { result ≡ file_fault fault refusal }
 {

@@ -74,7 +74,7 @@ fn digit_values(digits: u8x32) -> u8x32
     decimal.simd_lt(u8x32::splat(10)).select(decimal, letter)
 }
 
-/// Whether all of these are values of digits.
+/// Whether all of these are below 16, as values of digits are.
 #[inline(always)]
 fn are_values(values: u8x32) -> bool
     ensures is { IsTrue result → (k : ℕ) → k < 32 → slice_index values k < 16 }

@@ -33,14 +33,14 @@ pub(crate) struct OpenLine<'a> {
     ghost in_range: { payload_type ≤ 127 },
 }
 
-/// A line behind those two.
+/// A line of `trace` behind those two.
 #[derive(Clone, Copy)]
 pub(crate) enum TraceLine<'a> {
     /// `A HEX` or `B HEX`.
     Datagram(Path, &'a [u8]),
-    /// `slide TS`.
+    /// `slide TS`: the window moves on to this timestamp.
     Slide(u32),
-    /// `numbers FIRST COUNT`.
+    /// `numbers FIRST COUNT`: from now on the numbers of kept datagrams are noted.
     Numbers(u32, u32),
     /// `cell TS ROW COL COMP`.
     Cell(SamplePlace),

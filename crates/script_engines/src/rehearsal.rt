@@ -37,7 +37,7 @@ pub(crate) struct Head<A: Allocator> {
     pub receivers: u8,
     /// The number of the line that says the greatest size of a packet.
     pub max_line: usize,
-    /// That of the line that says the window.
+    /// That of the line that says the window: it is told where a window is refused.
     pub window_line: usize,
     /// That of the line that says how many receivers there are.
     pub receivers_line: usize,

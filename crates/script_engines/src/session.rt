@@ -101,7 +101,7 @@ impl<A: Allocator> Session<A> {
         Ok(())
     }
 
-    /// What is known of a sample.
+    /// What is known of a sample; `Nowhere` where the window or the format hasn't its place.
     pub fn cell(&self, place: SamplePlace) -> Line
         ensures there { IsSamplePlace self.now.receiver place.timestamp (position_of place)
             → result ≡ cell_answer
@@ -173,7 +173,7 @@ impl<A: Allocator + Copy> Session<A> {
     }
 }
 
-/// Notes a number, where numbers are noted.
+/// Notes the number of a datagram that was kept, once a line `numbers` was followed.
 fn note<A: Allocator>(numbers: &mut Option<SeqMap<A>>, number: u32)
     ensures { numbers.new ≡ with_number number numbers.old }
 {

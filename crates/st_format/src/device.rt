@@ -267,13 +267,13 @@ pub trait DatagramSource {
     /// said.
     ghost ended: { Self → Type 0 };
 
-    /// How many datagrams it has delivered.
+    /// How many datagrams its calls gave so far.
     ghost delivered: { Self → ℕ };
 
     /// How many of its calls failed so far.
     ghost failures: { Self → ℕ };
 
-    /// Its last fault, if it has failed.
+    /// The fault of its last call that failed; none before one.
     ghost last_fault: { Self → Option Fault };
 
     /// What the source of octets below it told when this source began to read it, which stays.

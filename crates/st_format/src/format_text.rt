@@ -22,7 +22,7 @@ pub enum FormatTextFault {
     /// It isn't of the form `N` or `N/D`.
     #[error("a rate is N or N/D, as 60 or 60000/1001")]
     NotRate,
-    /// It is of the form, and there is no such format or rate.
+    /// It is of the form; a field says what no format or rate has.
     #[error("{0}")]
     Refused(FormatFault),
 }

@@ -16,13 +16,13 @@ pub enum Sampling {
 /// How many bits a sample has (SMPTE ST 2110-20, depth).
 #[derive(Clone, Copy, Debug, PartialEq, Eq)]
 pub enum Depth {
-    /// 8 bits.
+    /// 8 bits: a sample is an octet.
     D8,
-    /// 10 bits.
+    /// 10 bits: four samples are five octets.
     D10,
-    /// 12 bits.
+    /// 12 bits: two samples are three octets.
     D12,
-    /// 16 bits.
+    /// 16 bits, whole numbers (SMPTE ST 2110-20, depth `16`, not `16f`).
     D16,
 }
 
@@ -69,7 +69,7 @@ impl Sampling {
         }
     }
 
-    /// The sampling whose word a text is. Any other text is none.
+    /// The sampling of a word, which is just that: case matters, and other samplings are none.
     #[tactic(auto, unfolding(crate::specs::Words::sampling_named))]
     pub fn of_word(text: &[u8]) -> Option<Sampling>
         ensures is { IfSome result (λ s. text.now ≡ sampling_text s) }

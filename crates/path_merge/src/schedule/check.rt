@@ -14,7 +14,7 @@ use std::alloc::Allocator;
 /// The most pictures of one sender (own).
 const MOST_PICTURES: usize = 10_000;
 
-/// The most receivers (own).
+/// The most receivers of a schedule (own).
 const MOST_RECEIVERS: u8 = 8;
 
 /// Whether a schedule can be played, its events aside, or the first fault: of its window, its

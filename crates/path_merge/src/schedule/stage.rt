@@ -20,7 +20,7 @@ use std::alloc::Allocator;
 #[derive(Drop)]
 pub struct Stage<A: Allocator> {
     pub receivers: Vec<Receiver<A>, A>,
-    /// What was handed out, in order.
+    /// The frames that left windows, in the order of the events.
     pub handed: Vec<Handed<A>, A>,
     /// The datagrams that were sent, in order.
     pub sent: Vec<Vec<u8, A>, A>,
