@@ -106,7 +106,7 @@ impl ByteSource for Lending {
 /// How a file is read.
 #[derive(Clone, Copy)]
 enum Reading {
-    /// As it was.
+    /// Pgroup by pgroup, as it was before runs were taken.
     Before,
     /// As it is, of a source that lends nothing.
     Now,

@@ -30,12 +30,12 @@ pub struct Ran {
 }
 
 impl Ran {
-    /// What it printed.
+    /// What it wrote to output.
     pub fn printed(&self) -> &[u8] {
         self.output.held()
     }
 
-    /// What it told of a fault.
+    /// What it wrote to faults.
     pub fn told(&self) -> &[u8] {
         self.faults.held()
     }

@@ -179,7 +179,7 @@ const COUNTS: Counts = Counts {
     contested: 1,
 };
 
-/// *last-sample-differs*.
+/// *last-sample-differs*: 34 by 1, where just the last octet differs.
 #[test]
 fn last_sample_differs(rt: HostRuntime) -> Result<(), Fail> {
     let format = Format::new(Sampling::Ycc422, Depth::D8, 34, 1, 60, 1)?;

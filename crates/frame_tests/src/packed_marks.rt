@@ -66,7 +66,7 @@ fn is_received(alloc: Global, format: Format) -> bool {
     }
 }
 
-/// *packed-marks*.
+/// *packed-marks*: a pgroup of four columns of which one sample is contested.
 #[test]
 fn packed_marks(rt: HostRuntime) -> Result<(), Fail> {
     let format = Format::new(Sampling::Ycc444, Depth::D10, 4, 1, 60, 1)?;

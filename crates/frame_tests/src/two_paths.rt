@@ -68,7 +68,7 @@ const DIFFERING: Counts = Counts {
 enum Step {
     /// It takes a datagram.
     Take(Path, &'static [u8], Result<Taken, Refusal>),
-    /// The other one is merged into it.
+    /// The farther one, which was opened alike, is merged into it.
     Merge,
     /// Its window moves on to a timestamp.
     Slide(u32, Result<u32, SlideFault>),
@@ -327,7 +327,7 @@ const HALF_CONTESTED: Counts = Counts {
     contested: 1,
 };
 
-/// *segments-that-disagree*.
+/// *segments-that-disagree*: two segments of one datagram differ.
 const SEGMENTS: [Step; 2] = [
     Step::Take(Path::A, DISAGREE_FIRST, FIRST),
     Step::Has(
@@ -366,7 +366,7 @@ fn no_growth(rt: HostRuntime) -> Result<(), Fail> {
     Ok(())
 }
 
-/// The first refusal, by A.
+/// A receiver that refused nothing yet refuses an empty datagram, by A.
 const REFUSES: [Step; 3] = [
     Step::Refused(0, None),
     Step::Take(Path::A, b"", Err(SHORT)),

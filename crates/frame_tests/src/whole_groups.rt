@@ -51,7 +51,7 @@ fn give_one(frame: &mut Frame, number: usize, octets: &[u8]) -> bool {
     }
 }
 
-/// Gives a frame the same one by one.
+/// Gives a frame the same groups, each by a call of its own.
 fn give_each(frame: &mut Frame, first: usize, count: usize, octets: &[u8]) -> bool {
     let size = frame.format().pgroup().octets;
     let mut can_be = true;

@@ -89,7 +89,7 @@ fn matrixed(inputs: &[Picture], place: Place, bits: u32) -> Option<u16> {
     })
 }
 
-/// The weight of a wipe at a place.
+/// How many 256ths of the second picture a wipe has at a place, plainly reckoned.
 fn weight(shape: WipeShape, place: Place) -> u16 {
     let x = match shape.axis {
         Axis::Columns => place.1,

@@ -80,7 +80,7 @@ fn sends(
         && has_taken(alloc, &sink, fails_in, datagrams)
 }
 
-/// *send-gain-one*.
+/// *send-gain-one*: a gain of 4096 of a whole frame and of a half one; sizes that are refused.
 #[test]
 fn send_gain_one(rt: HostRuntime) -> Result<(), Fail> {
     let (whole, half) = (merged(rt.alloc())?, upper(rt.alloc())?);

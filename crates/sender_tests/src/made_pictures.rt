@@ -217,7 +217,7 @@ fn fails_at(
     )
 }
 
-/// Frames of some samplings, all of one depth.
+/// Frames of one size and depth, one of each sampling.
 fn frames(
     alloc: Global,
     samplings: &[Sampling],

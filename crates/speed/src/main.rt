@@ -106,7 +106,7 @@ fn measure(rt: &HostRuntime, case: Case, rounds: u32, prints: bool) -> Result<()
     measure_calls(rt, &first, &mut room, case, rounds, prints)
 }
 
-/// Measures the calls of a case on its stream and in its room.
+/// Measures each call of a case, against a copy of as many octets.
 fn measure_calls(
     rt: &HostRuntime,
     first: &Stream,

@@ -104,7 +104,7 @@ fn set(picture: &mut Picture, place: (u32, u32, u8), value: u16, change: Change)
     }
 }
 
-/// Sends a picture by a plan into a sink.
+/// Sends each packet of a picture, by a plan of at most 9000 octets a packet.
 pub fn send_all<K: DatagramSink>(
     plan: &Plan,
     picture: &Picture,

@@ -24,12 +24,12 @@ impl Generator {
         ((self.state >> 33) % u64::from(limit.max(1))) as u32
     }
 
-    /// The same of a size.
+    /// The same for an index: a size below a limit.
     pub fn size(&mut self, limit: usize) -> usize {
         self.below(u32::try_from(limit).unwrap_or(u32::MAX)) as usize
     }
 
-    /// Whether one of so many draws is the first.
+    /// True once in so many draws, on the average.
     pub fn one_in(&mut self, draws: u32) -> bool {
         self.below(draws) == 0
     }

@@ -94,7 +94,7 @@ impl Cells {
     }
 }
 
-/// How many cells are one.
+/// How many cells hold this word.
 fn count_of(cells: &[u32], one: u32) -> usize {
     let mut count = 0usize;
     for cell in cells {

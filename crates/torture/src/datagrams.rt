@@ -80,7 +80,7 @@ impl Round {
     }
 }
 
-/// The refusal at a place, and its path.
+/// The number of the refusal that is kept at a place, and its path; none where none is.
 fn refusal(receiver: &Receiver, place: usize) -> Option<(Path, u8)> {
     if place < receiver.refusal_count() {
         let (path, refusal) = receiver.refusal_at(place);

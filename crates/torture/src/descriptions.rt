@@ -32,7 +32,7 @@ const PARTS: [(&[u8], &[u8]); 12] = [
 const LINE: &[u8] =
     b"a=fmtp:112 sampling=RGB; width=8; height=2; exactframerate=60; depth=16; colorimetry=";
 
-/// And behind that.
+/// What the line has behind its colorimetry.
 const REST: &[u8] = b"; PM=2110GPM; SSN=ST2110-20:2017";
 
 /// Colorimetries, in which the legs of a text may differ.

@@ -121,7 +121,7 @@ impl Script {
         self.text.is_short |= self.ends.push(self.text.octets.len()).is_err();
     }
 
-    /// The line at a place.
+    /// The octets of the line that stands at a place of the order.
     fn line(&self, place: usize) -> &[u8] {
         let number = self.order.get(place).copied().unwrap_or(0);
         let begin = match number.checked_sub(1) {

@@ -189,7 +189,7 @@ pub fn offer(good: &Good<'_>, format: &Format, cells: &mut Cells) {
     }
 }
 
-/// The same of a segment.
+/// The same of one segment, sample by sample as they are spelled.
 fn offer_segment(octets: &[u8], head: &Head, format: &Format, cells: &mut Cells) {
     let bits = format.depth().bits();
     let by_pixel = match format.sampling() {

@@ -260,7 +260,7 @@ pub fn put_counts(word: &[u8], timestamp: u32, counts: [usize; 3], output: &mut 
 }
 
 impl Noted {
-    /// Notes a number, where it is one of those that are noted.
+    /// Notes a number's place, where it is below the count.
     fn note(&mut self, number: u32, output: &mut Text) {
         let place = number.wrapping_sub(self.first);
         if place < self.count {

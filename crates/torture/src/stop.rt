@@ -53,7 +53,7 @@ impl Stop {
         }
     }
 
-    /// At the event of a number.
+    /// At the event of this number, counted from 0, which isn't admitted.
     pub fn event(number: usize) -> Stop {
         Stop {
             place: EVENT,

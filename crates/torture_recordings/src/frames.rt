@@ -9,7 +9,7 @@ const LINKS: [u32; 16] = [
     1, 1, 1, 1, 1, 0, 101, 108, 113, 113, 228, 229, 276, 276, 105, 147,
 ];
 
-/// How many tags there are.
+/// How many tags of a VLAN stand before a packet, each number as often as it stands here.
 const TAGS: [u32; 10] = [0, 0, 0, 0, 0, 1, 1, 2, 2, 3];
 
 /// Families of addresses: of IPv4, and of IPv6 in the BSDs and macOS; the last one is Linux's.

@@ -6,7 +6,7 @@ use crate::numbers::Order;
 use crate::text::Text;
 use test_programs::Generator;
 
-/// How many sections there are.
+/// How many sections a file has, each number as often as it stands here.
 const SECTIONS: [u32; 8] = [1, 1, 1, 1, 1, 2, 2, 3];
 
 /// How many interfaces a section has before its packets.
@@ -54,7 +54,7 @@ pub fn put_blocks(generator: &mut Generator, text: &mut Text) {
     }
 }
 
-/// Puts a section behind.
+/// Puts a section, with its interfaces and packets, behind the text.
 fn put_section(generator: &mut Generator, text: &mut Text) {
     let mut section = Section {
         order: generator.order(),
