@@ -76,7 +76,7 @@ const EVENTS: [Event; 4] = [
     Event::Slide(0, 2400),
 ];
 
-/// Whether a schedule of a plan is played.
+/// Whether a schedule of a plan is played, and hands out one frame.
 fn plays(alloc: Global, plan: &Plan, pictures: &[Picture]) -> bool {
     match play(alloc, plan, pictures, STAMP, &[900], 2, &EVENTS) {
         Ok(played) => played.handed.len() == 1,
@@ -108,7 +108,7 @@ fn misses_all(alloc: Global, count: u32) -> bool {
     }
 }
 
-/// How a sampling is spelled in texts.
+/// The word that texts have for a sampling.
 pub fn spelled(sampling: Sampling) -> &'static str {
     match sampling {
         Sampling::Ycc422 => "YCbCr-4:2:2",
@@ -154,7 +154,7 @@ fn is_told(alloc: Global, format: Format) -> bool {
     }
 }
 
-/// A wipe from the first column on.
+/// A wipe over the first four columns.
 const SHAPE: WipeShape = WipeShape {
     axis: Axis::Columns,
     position: 0,
@@ -204,7 +204,7 @@ fn is_run(alloc: Global, job: &Job, inputs: &[Picture]) -> bool {
     }
 }
 
-/// The job of one picture of a sampling.
+/// A job of one picture that a sampling can have: each sampling another one.
 fn job_of(sampling: Sampling) -> Job {
     match sampling {
         Sampling::Rgb => Job::ToYcc444,

@@ -14,7 +14,7 @@ pub struct Failing {
     pub faults: u64,
 }
 
-/// No device fails.
+/// Devices of which no call fails.
 pub const SOUND: Failing = Failing {
     source: 0,
     output: 0,

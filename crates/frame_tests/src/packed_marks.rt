@@ -24,7 +24,7 @@ const COUNTS: Counts = Counts {
     contested: 1,
 };
 
-/// A cell, or `None` where there is no such position.
+/// The cell at a position; `None` where there is no such position.
 pub fn cell(frame: &Frame, row: u32, column: u32, component: u8) -> Option<Cell> {
     if frame.format().has_position(row, column, component) {
         Some(frame.cell(row, column, component))

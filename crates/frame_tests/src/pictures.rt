@@ -120,7 +120,7 @@ fn small_is_set_alone(alloc: Global, format: Format) -> bool {
     }
 }
 
-/// One value changes, and no other.
+/// A set changes the value at its place, and no other.
 #[test]
 fn one_value(rt: HostRuntime) -> Result<(), Fail> {
     met(&rt, small_is_set_alone(rt.alloc(), small()?));

@@ -289,7 +289,7 @@ fn join_all(cells: &mut [Cell], others: &[Cell]) {
     }
 }
 
-/// The counts of a list of cells.
+/// How many cells of the model are of each kind.
 fn counted(cells: &[Cell]) -> Counts {
     let (mut present, mut missing, mut contested) = (0u64, 0u64, 0u64);
     for cell in cells {

@@ -14,7 +14,7 @@ fn is_written<T: Display>(alloc: Global, value: &T, text: &str) -> Result<bool, 
     Ok(value.to_string(alloc)?.as_str() == text)
 }
 
-/// What is read of a text, by the trait.
+/// What `FromStr` reads of a text.
 fn read<E: Drop, T: FromStr<Err = E> + Drop>(text: &str) -> Result<T, E> {
     text.parse::<T>()
 }

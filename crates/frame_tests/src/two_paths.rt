@@ -66,7 +66,7 @@ const DIFFERING: Counts = Counts {
 
 /// What is done with the nearer one of two receivers, and what comes of it.
 enum Step {
-    /// It takes a datagram.
+    /// It takes a datagram by a path, and answers so.
     Take(Path, &'static [u8], Result<Taken, Refusal>),
     /// The farther one, which was opened alike, is merged into it.
     Merge,
@@ -83,7 +83,7 @@ enum Step {
     /// The frame that slid out.
     Out(Counts),
     Window(&'static [u32]),
-    /// How many refusals it keeps.
+    /// It keeps so many refusals.
     Refusals(usize),
     /// The refusal at a place, where it keeps so many.
     Refused(usize, Option<(Path, Refusal)>),

@@ -15,7 +15,7 @@ use test_programs::Generator;
 /// How many groups the frames have at most: two rows of 24 columns.
 const MOST_GROUPS: usize = 48;
 
-/// How many octets they have at most.
+/// How many octets they have at most: a group has 15 or fewer.
 const MOST_OCTETS: usize = 15 * MOST_GROUPS;
 
 /// How many groups the frames of a format have.

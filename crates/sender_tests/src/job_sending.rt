@@ -60,7 +60,7 @@ fn send_held(
     Some(send_job(alloc, job, &[JobInput { frame, base }], 42, STAMP, sink))
 }
 
-/// Unity.
+/// A gain of one: 4096 of 4096ths.
 const ONE: Job = Job::Gain(4096);
 
 /// Whether a receiver's frame at gain one gives these datagrams from a sink that fails at one put,

@@ -294,7 +294,7 @@ fn failing_sinks(rt: HostRuntime) -> Result<(), Fail> {
     Ok(())
 }
 
-/// A key that is made as it is sent.
+/// The call of a key that is made as it is sent, for growths that are refused.
 struct MadeKey;
 
 impl Wanting for MadeKey {
