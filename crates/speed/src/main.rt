@@ -129,7 +129,7 @@ fn measure_calls(
     Ok(())
 }
 
-/// Prints a case, and the line of the copy of its octets.
+/// Prints what a case is, and how long a copy of as many octets takes.
 fn print_case(rt: &HostRuntime, case: Case, copied: u64, octets: usize) -> Result<(), Fault> {
     let (depth, width, height, size, _) = case;
     let bits = depth.bits();

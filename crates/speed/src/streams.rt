@@ -61,7 +61,7 @@ impl Stream {
         })
     }
 
-    /// All octets of the datagrams.
+    /// The octets of all datagrams in one list, for what is compared with a copy of them.
     pub fn octets(&self, alloc: Global) -> Result<Vec<u8>, Fault> {
         let mut octets = Vec::new(alloc);
         for datagram in self.datagrams.taken() {

@@ -37,7 +37,7 @@ pub fn small() -> Result<Format, FormatFault> {
     Format::new(Sampling::Ycc422, Depth::D8, 4, 2, 60, 1)
 }
 
-/// Counts of these numbers.
+/// Counts of these numbers, as a constant may have them.
 pub const fn counted(present: u64, missing: u64, contested: u64) -> Counts {
     Counts {
         present,

@@ -8,7 +8,7 @@ pub struct Generator {
 }
 
 impl Generator {
-    /// Begins at a seed.
+    /// Begins at a seed, by which all that is drawn is fixed.
     pub fn new(seed: u64) -> Generator {
         Generator { state: seed }
     }
@@ -43,7 +43,7 @@ impl Generator {
         }
     }
 
-    /// One of these numbers; 0 where there is none.
+    /// One of these numbers, each as likely; 0 where there is none.
     pub fn pick(&mut self, numbers: &[u32]) -> u32 {
         let place = self.size(numbers.len());
         numbers.get(place).copied().unwrap_or(0)

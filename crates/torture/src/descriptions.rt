@@ -106,7 +106,7 @@ fn read(alloc: Global, text: &[u8]) -> Result<(u8, Vec<u8>), Fault> {
     }
 }
 
-/// The canonical line.
+/// The canonical line of what was read; a fault of this program where memory is wanted.
 fn line_of(alloc: Global, sdp: &Sdp) -> Result<Vec<u8>, Fault> {
     fmtp_text(alloc, sdp).ok().ok_or(Fault)
 }

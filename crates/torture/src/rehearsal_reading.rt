@@ -47,7 +47,7 @@ pub fn follow(alloc: Global, text: &[u8], output: &mut Text) -> Result<(), Stop>
     played
 }
 
-/// The first five lines.
+/// What the first five lines say; each has just its form.
 fn read_front(lines: &mut Lines<'_>) -> Result<Front, Stop> {
     let format = read_format(lines)?;
     let base = read_stamp(lines)?;

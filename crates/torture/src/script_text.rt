@@ -107,7 +107,7 @@ impl<'a> Fields<'a> {
         }
     }
 
-    /// A field.
+    /// The next field, empty where there is none: the line is wrong then.
     pub fn next(&mut self) -> &'a [u8] {
         match self.pieces.next() {
             Some(piece) => piece,

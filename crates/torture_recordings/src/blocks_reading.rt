@@ -158,7 +158,7 @@ fn enter<'a>(
     Ok(())
 }
 
-/// The value of the first option of a code, if there is one.
+/// The value of the first option of this code; none where the list ends without one.
 fn option(octets: &[u8], code: u64, order: Order) -> Result<Option<&[u8]>, u8> {
     let mut at = 0usize;
     for _ in octets.iter() {
