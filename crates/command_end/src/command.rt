@@ -22,7 +22,8 @@ pub struct Ran {
     pub is_whole: bool,
 }
 
-/// A command over its devices.
+/// A command over its devices, as `main` runs it: of a fault a `run_` call of `st2110_tool` leaves
+/// a status and a line, and `--verbose` explains the fault itself, by the devices.
 pub trait Command {
     /// Nothing was read and nothing written yet, and no device has failed.
     ghost is_new: { Self → Type 0 };

@@ -89,8 +89,9 @@ impl<'a, R: Files + Alloc> Draft<'a, R> {
         }
     }
 
-    /// Writes out what is buffered, and has the device say that it has all. What was replaced gives
-    /// its permissions, and its owner where that may be.
+    /// Writes out what is buffered, and has the device say that it has all: else a loss of power
+    /// may leave an empty file under the name, and a full disk of another machine isn't told. What
+    /// was replaced gives its permissions, and its owner where that may be.
     fn make_ready(&mut self) -> io::Result<()>
         ensures written { OnOk result (writer_buffer self.new.writer ≡ []) }
         ensures kept { draft_took self.new ≡ draft_took self.old }
@@ -171,7 +172,8 @@ fn beside<R: Alloc>(rt: &R, target: Path<'_>, turn: u32) -> io::Result<PathBuf<R
     Ok(target.with_file_name(rt.alloc(), name.as_str())?)
 }
 
-/// Tells whether a file can be made beside this one, by making one and removing it.
+/// Tells whether a file can be made beside this one, by making one and removing it: rights alone
+/// don't tell (a full table of inodes, a file system that may only be read).
 pub(crate) fn try_beside<R: Files + Alloc>(files: &R, target: Path<'_>) -> io::Result<()> {
     let (name, _file) = make_beside(files, target)?;
     fs::remove_file(files, &name)

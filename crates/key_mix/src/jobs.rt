@@ -35,7 +35,7 @@ pub fn run_job<A: Allocator, C: Allocator + Copy>(
     }
 }
 
-/// The same of one picture: a range, a gain, or other components.
+/// The same of one picture. It stays the caller's, so a range and a gain are made of a copy.
 fn run_on_one<A: Allocator, C: Allocator + Copy>(
     alloc: C,
     job: &Job,

@@ -26,7 +26,8 @@ use packet_plan::{Plan, Raster, Stamp, send_frame};
 use st_format::{DatagramSink, Format, Picture};
 use std::alloc::{AllocError, Allocator, Global};
 
-/// A frame, and what a sample without a value gets: what a job takes for a picture.
+/// A frame, and what a sample without a value gets: what a job takes for a picture. One allocator
+/// for both keeps the inputs of a slice of one type.
 #[derive_where(Clone, Copy)]
 pub struct JobInput<'a, A: Allocator = Global> {
     /// Its samples may be missing or contested.

@@ -38,7 +38,7 @@ fn gain_of(x: u16, zero: u32, g: u32, low: u32, high: u32) -> u16
 }
 
 /// Brings each value `g / 4096` as far from `zero`, and then to the nearest one from `low` to
-/// `high`.
+/// `high`. Only tests call it: `gain_about` takes the zeros of all components in one pass.
 pub fn gain(values: &mut [u16], zero: u16, g: u32, low: u16, high: u16)
     requires of_g { g ≤ 16384 }
     requires range { low ≤ high }

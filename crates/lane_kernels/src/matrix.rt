@@ -84,7 +84,8 @@ fn luma_of(red: u16, green: u16, blue: u16, low: u32, high: u32) -> u16
     ((sum + 2500) / 5000).max(low).min(high) as u16
 }
 
-/// The luma (BT.709) of each pixel of `bits` bits, brought to video data.
+/// The luma (BT.709) of each pixel of `bits` bits, brought to video data. Only tests call it:
+/// `ycc709` makes whole pixels.
 pub fn luma709(r: &[u16], g: &[u16], b: &[u16], bits: u32, out: &mut [u16])
     requires depth { (8 ≤ bits) × (bits ≤ 16) }
     requires of_r { length r.now ≡ length out.old }
@@ -244,7 +245,7 @@ fn colour709(
     }
 }
 
-/// Cb (BT.709) of each pixel of `bits` bits, brought to video data.
+/// Cb (BT.709) of each pixel of `bits` bits, brought to video data. Only tests call it.
 pub fn cb709(r: &[u16], g: &[u16], b: &[u16], bits: u32, out: &mut [u16])
     requires depth { (8 ≤ bits) × (bits ≤ 16) }
     requires of_r { length r.now ≡ length out.old }
@@ -261,7 +262,7 @@ pub fn cb709(r: &[u16], g: &[u16], b: &[u16], bits: u32, out: &mut [u16])
     colour709(Difference::Cb, b, r, g, bits, out);
 }
 
-/// Cr (BT.709) of each pixel of `bits` bits, brought to video data.
+/// Cr (BT.709) of each pixel of `bits` bits, brought to video data. Only tests call it.
 pub fn cr709(r: &[u16], g: &[u16], b: &[u16], bits: u32, out: &mut [u16])
     requires depth { (8 ≤ bits) × (bits ≤ 16) }
     requires of_r { length r.now ≡ length out.old }

@@ -39,7 +39,9 @@ pub struct Pacing<'a> {
 /// 2110-21, gapped).
 ///
 /// The capture is read twice, first from `ahead` and then from `capture`, which are to give the
-/// same: the first reading tells how many records each frame has.
+/// same: the first reading tells how many records each frame has, in less memory than frames that
+/// are held would take. That both gave the same no clause says: the moments are those of the
+/// second's records by the first's counts.
 ///
 /// # Errors
 ///

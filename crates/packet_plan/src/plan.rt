@@ -80,7 +80,8 @@ impl From<AllocError> for PlanFault {
 }
 
 /// Which pgroups each packet of a picture carries. It keeps the number of each packet's first
-/// pgroup, four octets a packet.
+/// pgroup, four octets a packet and at most 256 MiB. Where a packet ends is a formula of where it
+/// begins, so any packet is written by itself.
 ///
 /// Contracts see it as its format, its greatest size and a list of packets, each a list of runs.
 #[derive(Drop)]

@@ -160,7 +160,8 @@ impl<A: Allocator> Receiver<A> {
         let _format = &self.format;
     }
 
-    /// Takes a datagram that came by a path: joins what it offers to the frame of its timestamp.
+    /// Takes a datagram that came by a path: joins what it offers to the frame of its timestamp,
+    /// alike whichever path it was (SMPTE ST 2022-7).
     ///
     /// The first refusal is answered, in the order of their numbers. A refused datagram changes no
     /// frame; it is kept as one of the last 64 refusals, with its path. No memory is taken.

@@ -26,8 +26,8 @@ use st_format::{Depth, Format};
 
 /// Reads the samples that octets spell, in the order in which they are sent.
 ///
-/// The octets are whole pgroups, none too, and the slices agree: the octets have as many bits
-/// as the samples.
+/// The slices agree: the octets have as many bits as the samples. That is all that is asked, and
+/// less than that they are whole pgroups, none too.
 pub fn unpack(format: &Format, octets: &[u8], samples: &mut [u16])
     requires { Agree format.now (length octets.now) (length samples.old) }
     ensures spelled { Spells (bits_of format.now.depth) octets.now samples.new }

@@ -12,7 +12,8 @@ use std::marker::Model;
 use std::snapshot::Snapshot;
 
 /// Writes a capture with a text, of records by path A, into a sink of octets. It is begun at the
-/// first datagram: a sink of which nothing is asked before isn't touched.
+/// first datagram, as a `CaptureWriter` is as it is opened: a sink of which nothing is asked before
+/// isn't touched.
 ///
 /// After a fault it takes nothing more, and the sink is asked for nothing.
 #[derive(Drop)]

@@ -63,7 +63,8 @@ pub enum Refusal {
     ImportPlaces,
     /// Recordings have too many datagrams of the flows.
     ImportRecords,
-    /// The file that this command is to write is one of those that it is to read.
+    /// The file that this command is to write is one of those that it is to read, whatever its
+    /// name. It is looked for behind the words, before any file is read.
     OutputIsInput(Writer),
     /// The SDP is refused, in a place of it where that is one's.
     Sdp(Located),

@@ -63,7 +63,8 @@ pub(crate) fn read_format_line(text: &[u8]) -> Option<FormatLine>
     read_format_fields(rest)
 }
 
-/// The six fields behind the word `format`.
+/// The six fields behind the word `format`. A depth that is none is at fault as an empty field is;
+/// other numbers that no format has are of the form, and `Format::new` refuses them.
 fn read_format_fields(text: &[u8]) -> Option<FormatLine>
     ensures is { IfSome result (λ line. AreFormat text.now line) }
     ensures none { IfNone result ((line : FormatLine) → AreFormat text.now line → ⊥) }

@@ -16,7 +16,8 @@ use std::alloc::Allocator;
 /// The greatest number of octets of a script (own): 16 MiB.
 pub(crate) const LIMIT: usize = 16_777_216;
 
-/// A script that was read whole, before its first line is followed.
+/// A script that was read whole, before its first line is followed: so no line takes memory for its
+/// text, and the limit is one test.
 #[derive(Drop)]
 pub(crate) struct Script<A: Allocator> {
     /// Its octets; of a script that passes the limit, the lines before the one in which it does.

@@ -61,7 +61,8 @@ fn add_ipv4<A: Allocator + Copy>(
     add_line(text, line.as_bytes())
 }
 
-/// Puts the line of an address behind a text, where there is one.
+/// Puts the line of an address behind a text, where there is one, as `Display` spells it: so a text
+/// is a function of values, and not of words.
 fn add_connection<A: Allocator + Copy>(
     alloc: A,
     text: &mut Vec<u8, A>,

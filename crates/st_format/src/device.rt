@@ -128,7 +128,8 @@ pub trait ByteSource {
     /// An `Err` is one failure more. It gives nothing: the octets still to give stay, and a later
     /// call may give them. What `buf` then holds is not said.
     ///
-    /// What a source tells of its octets is numbers below 256, as a call shows.
+    /// What a source tells of its octets is numbers below 256. Just a call shows it: a law of the
+    /// trait ranges over all views, also of values that there aren't.
     fn read(&mut self, buf: &mut [u8]) -> Result<usize, DeviceFault>
         ensures room { length buf.new ≡ length buf.old }
         ensures within { IfOk result (λ n. n ≤ length buf.new) }
@@ -158,7 +159,7 @@ pub trait ByteSource {
     /// no octet, and never fails.
     ///
     /// A source that lends octets passes as many of them. One that doesn't say what it holds passes
-    /// none, and stays as it is.
+    /// none, and stays as it is. So does this body, which is proved for every source.
     fn pass(&mut self, _count: usize) -> bool
         ensures within { IsTrue result → _count ≤ length (at_hand self.old) }
         ensures given { IsTrue result

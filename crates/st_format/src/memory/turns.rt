@@ -18,7 +18,7 @@ pub enum MemoryTurn<A: Allocator = Global> {
 }
 
 /// Gives the turns of a vector, and fails at one call if it is told to. A datagram of more than
-/// 65,535 octets fails too, and stays the next.
+/// 65,535 octets fails too when its turn comes, and stays the next: so any vector is one of turns.
 #[derive(Drop)]
 pub struct MemoryTurns<A: Allocator = Global> {
     turns: Vec<MemoryTurn<A>, A>,
