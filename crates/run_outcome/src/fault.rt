@@ -20,7 +20,7 @@ pub enum Fault {
     Refused(Refusal),
     /// A device failed. Which one its own count says.
     Device,
-    /// Memory was wanted, and the allocator refused it.
+    /// Memory was wanted, and there was none.
     Memory,
 }
 

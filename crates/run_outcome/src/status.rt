@@ -13,7 +13,7 @@ pub enum Status {
     CommandLine = 2,
     /// A device failed, standard error among them.
     Device = 3,
-    /// Memory was wanted, and the allocator refused it.
+    /// Memory was wanted, and there was none.
     Memory = 4,
 }
 
