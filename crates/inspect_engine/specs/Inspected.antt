@@ -57,8 +57,8 @@ abbrev pub NotesRecording : {A : Type 0} → ℕ → List ℕ → List ℕ → T
 NotesRecording room before now ended end old new =
     NotesUnless room (IsRead before now ended) end old new
 
--- Of a recording of which this was seen, packets were noted, up to its end or up to a fault, whatever
--- was read before.
+-- Of a recording of which this was seen, packets were noted, up to its end or up to a fault,
+-- whatever was read before.
 pub record NotesBehind {A : Type 0} (room : ℕ) (seen : Seen) (read now : List ℕ) (ended : Type 0)
     (end : Option RecordingFault) (old new : Inspection A) : Type 0 where
   pub packets : List Recorded

@@ -74,7 +74,7 @@ pub record AreMissingRuns (m : Numbers) (runs : List (ℕ × ℕ)) : Type 0 wher
 abbrev pub closed_run : ℕ → ℕ → List (ℕ × ℕ)
 closed_run start end = if nat_lt start end then (start, end - start) ∷ [] else []
 
--- all the runs behind, where the run of start goes up to the place
+-- the runs of flags from a place on, where none was noted from start up to it
 abbrev pub runs_from : ℕ → ℕ → List Bool → List (ℕ × ℕ)
 runs_from start place [] = closed_run start place
 runs_from start place (true ∷ flags) =

@@ -36,7 +36,7 @@ impl<A: Allocator> BitList<A> {
         Ok(BitList { count, words })
     }
 
-    /// How many flags there are, as it was made.
+    /// How many flags there are: as many as it was made with.
     pub fn len(&self) -> usize
         ensures { result ≡ length self.now }
     {
