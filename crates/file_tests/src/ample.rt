@@ -21,7 +21,7 @@ fn zeros(alloc: Global, format: Format) -> Result<Picture, PictureFault> {
     Picture::new(alloc, format, [0, 0, 0])?.try_copy(alloc)
 }
 
-/// Whether a frame settles to a picture.
+/// Whether a frame settled over zeros is a picture of them.
 fn settles(alloc: Global, frame: &Frame, picture: &Picture) -> bool {
     match frame.settle(alloc, Base::<Global>::Fill([0, 0, 0])) {
         Ok(settled) => settled.same(picture),
@@ -29,7 +29,7 @@ fn settles(alloc: Global, frame: &Frame, picture: &Picture) -> bool {
     }
 }
 
-/// Whether the copy of a frame does.
+/// Whether the copy of a frame does, over memory of its own.
 fn copy_settles(alloc: Global, frame: &Frame, picture: &Picture) -> bool {
     match frame.try_copy(alloc) {
         Ok(copy) => settles(alloc, &copy, picture),
@@ -76,7 +76,7 @@ const EVENTS: [Event; 4] = [
     Event::Slide(0, 2400),
 ];
 
-/// Whether a schedule of a plan is played.
+/// Whether a schedule of a plan is played, and hands out one frame.
 fn plays(alloc: Global, plan: &Plan, pictures: &[Picture]) -> bool {
     match play(alloc, plan, pictures, STAMP, &[900], 2, &EVENTS) {
         Ok(played) => played.handed.len() == 1,
@@ -108,7 +108,7 @@ fn misses_all(alloc: Global, count: u32) -> bool {
     }
 }
 
-/// How a sampling is spelled in texts.
+/// The word that texts have for a sampling.
 pub fn spelled(sampling: Sampling) -> &'static str {
     match sampling {
         Sampling::Ycc422 => "YCbCr-4:2:2",
@@ -154,14 +154,14 @@ fn is_told(alloc: Global, format: Format) -> bool {
     }
 }
 
-/// A wipe from the first column on.
+/// A wipe over the first four columns.
 const SHAPE: WipeShape = WipeShape {
     axis: Axis::Columns,
     position: 0,
     soft: 4,
 };
 
-/// Whether the wipe of a picture of zeros is such a picture.
+/// Whether the wipe between two pictures of zeros is such a picture.
 fn is_wiped(alloc: Global, zeros: &Picture) -> bool {
     match wipe(alloc, zeros, zeros, SHAPE) {
         Ok(wiped) => wiped.same(zeros),
@@ -204,7 +204,7 @@ fn is_run(alloc: Global, job: &Job, inputs: &[Picture]) -> bool {
     }
 }
 
-/// The job of one picture of a sampling.
+/// A job of one picture that a sampling can have: each sampling another one.
 fn job_of(sampling: Sampling) -> Job {
     match sampling {
         Sampling::Rgb => Job::ToYcc444,
@@ -316,7 +316,7 @@ fn is_saved(alloc: Global, receiver: &Receiver) -> bool {
     }
 }
 
-/// Whether a receiver of a format is.
+/// Whether a receiver of a format, opened with two timestamps, is.
 fn receiver_is_file(alloc: Global, format: Format) -> bool {
     match Receiver::open(alloc, format, 96, None, &[900, 2400]) {
         Ok(receiver) => is_saved(alloc, &receiver),
@@ -368,7 +368,7 @@ fn has_memory(alloc: Global, format: Format, of_key: Format) -> bool {
         && inputs_have_memory(alloc, format, of_key)
 }
 
-/// The same of a size.
+/// The same of a size, with a key of the sampling that goes with it.
 fn size_has_memory(
     alloc: Global,
     sampling: Sampling,

@@ -103,7 +103,7 @@ fn capture_is_run(alloc: Global, text: &[u8], capture: &[u8]) -> Result<bool, Fa
     Ok(is_received && receiver_is_run(alloc, received.written.held())?)
 }
 
-/// A picture's file.
+/// A picture's file, of zeros.
 fn picture_file(alloc: Global, format: Format) -> Result<Vec<u8>, Fail> {
     let mut file = file_sink(alloc)?;
     write_picture(&mut file, &Picture::new(alloc, format, [0, 0, 0])?)?;

@@ -30,7 +30,7 @@ const CUT: &[u8] = b"S20CAP01\0\0\0\0\0\0\0\0\0\0\x1C\
     \x01\0\0\0\0\0\0\0\0\0\x1C\
     \x80\xE0\0\x01\0\0\x03\x84\0\0\0\x01\0\0\0\x08\0\0\0\0\x80\x10\x80\x11\x80\x12\x80";
 
-/// A source of a file.
+/// A source of a file, which gives three octets a call.
 fn source(alloc: Global, file: &[u8]) -> Result<MemorySource, AllocError> {
     Ok(MemorySource::new(Vec::from_slice(alloc, file)?, 3, 0))
 }

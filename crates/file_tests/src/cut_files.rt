@@ -228,7 +228,7 @@ fn answer_at(rows: &[Row], octets: usize) -> Answer {
     answer
 }
 
-/// A file with an octet at a place, or behind it.
+/// A file with another octet at a place, or with one more behind it.
 fn edited(alloc: Global, file: &[u8], place: usize, octet: u8) -> Result<Vec<u8>, AllocError> {
     let mut octets = Vec::from_slice(alloc, file)?;
     if place < octets.len() {

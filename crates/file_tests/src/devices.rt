@@ -23,7 +23,7 @@ const TOLD: &[u8] = b"st2110: script 4\n";
 /// What a device that fails is told as.
 const DEVICE: &[u8] = b"st2110: device\n";
 
-/// Whether a run ended with this status, printed this and told this.
+/// Whether a run ended with this status, and wrote just these octets to output and faults.
 fn ended(run: &Ran, status: u8, printed: &[u8], told: &[u8]) -> bool {
     run.status == status && run.printed() == printed && run.told() == told
 }
@@ -37,7 +37,7 @@ fn one_octet_a_call(rt: HostRuntime) -> Result<(), Fail> {
     Ok(())
 }
 
-/// The first octets of some.
+/// So many first octets, or all where they are fewer.
 fn first(octets: &[u8], count: u64) -> &[u8] {
     &octets[..(count as usize).min(octets.len())]
 }

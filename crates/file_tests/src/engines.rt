@@ -27,10 +27,10 @@ const INPUTS: [&str; 4] = [
     RECEIVER,
 ];
 
-/// What is written.
+/// What each of the four writes, in digits.
 const WRITTEN: [&str; 4] = [MIGRATED, RECEIVER, SENT, RECEIVER];
 
-/// What is printed.
+/// What each of the four prints.
 const PRINTED: [&[u8]; 4] = [
     b"records 1\n",
     b"delivered 1\nframe 900 present 8 missing 8 contested 0\n",
@@ -127,7 +127,7 @@ fn each_growth_refused(rt: HostRuntime) -> Result<(), Fail> {
     Ok(())
 }
 
-/// *processed*.
+/// *processed*: `process` of merge-two-halves' file.
 #[derive(Clone, Copy)]
 struct Processed;
 

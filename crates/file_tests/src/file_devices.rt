@@ -261,7 +261,7 @@ fn receivers_to_a_sink_that_fails(rt: HostRuntime) -> Result<(), Fail> {
 /// before the version, then the front, and each record that is whole.
 const WRITTEN: [(usize, usize); 4] = [(0, 0), (8, 13), (47, 52), (86, 91)];
 
-/// How many are.
+/// How many octets are written, once so many are read.
 fn written_at(octets: usize) -> usize {
     let mut answer = 0;
     for (from, written) in &WRITTEN {

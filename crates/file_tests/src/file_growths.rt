@@ -16,7 +16,7 @@ use test_kit::wanting::{Wanting, grows, growths};
 /// A file that is read.
 #[derive(Clone, Copy)]
 enum Reading {
-    /// *capture-of-one*.
+    /// *capture-of-one*'s file, read as a capture.
     Capture,
     /// *picture-file*.
     Picture,
@@ -26,7 +26,7 @@ enum Reading {
     Receiver,
 }
 
-/// A source of a file.
+/// A source of a file, which gives five octets a call.
 fn source(global: Global, file: &[u8]) -> Result<MemorySource, AllocError> {
     Ok(MemorySource::new(Vec::from_slice(global, file)?, 5, 0))
 }

@@ -27,7 +27,7 @@ pub type Answer = (usize, Option<FileFault>);
 
 /// A call that reads a file.
 pub trait Reading {
-    /// What it answers, and the source as it then is.
+    /// The call over this source: its answer, and how far the source has come.
     fn read(
         &self,
         alloc: Global,

@@ -16,7 +16,7 @@ pub struct FileRun {
     pub told: MemorySink,
 }
 
-/// A source of a file.
+/// A source of a file, which gives seven octets a call.
 pub fn source(global: Global, file: &[u8]) -> Result<MemorySource, AllocError> {
     Ok(MemorySource::new(Vec::from_slice(global, file)?, 7, 0))
 }
@@ -41,7 +41,7 @@ fn begun(global: Global) -> Result<FileRun, AllocError>
     })
 }
 
-/// A run of `migrate` of a capture with a text.
+/// A run of `migrate` over devices of seven octets a call, with this text and this capture.
 pub fn migrate_on<A: Allocator + Copy>(
     global: Global,
     alloc: A,

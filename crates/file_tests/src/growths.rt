@@ -56,7 +56,7 @@ const SLID: &[u8] = b"kept 1\nkept 2\nkept 2\nrefused slide 1 InWindow\n\
 
 const TOLD: &[u8] = b"st2110: script 2\n";
 
-/// A script that is refused.
+/// A script that is refused at its second line.
 const REFUSED: &[u8] = b"format YCbCr-4:2:2 8 4 2 60/1\nbad\n";
 
 /// Whether a run ended so, or `None` where it wanted memory: it prints a first part of its output

@@ -182,7 +182,7 @@ fn stops(ran: &Ran, status: u8, line: &[u8]) -> bool {
     ran.status == status && ran.printed.held().is_empty() && ran.told.held() == line
 }
 
-/// *loopback*.
+/// *loopback*: `loop` over a link in memory.
 #[derive(Clone, Copy)]
 struct Loopback;
 

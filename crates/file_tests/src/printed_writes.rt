@@ -47,7 +47,7 @@ impl ByteSink for Noting {
     }
 }
 
-/// The engines that print.
+/// The engines that print many lines.
 #[derive(Clone, Copy, PartialEq, Eq)]
 enum Engine {
     Trace,

@@ -103,10 +103,10 @@ impl ByteSource for Lending {
     }
 }
 
-/// How a file is read.
+/// By which of the readings a file is read.
 #[derive(Clone, Copy)]
 enum Reading {
-    /// As it was.
+    /// Pgroup by pgroup, as it was before runs were taken.
     Before,
     /// As it is, of a source that lends nothing.
     Now,
@@ -185,7 +185,7 @@ fn is_mixed(format: &Format, octets: &[u8], mask: u16) -> bool
     differing(format, octets, blanked) == 0
 }
 
-/// What octets come to.
+/// What reading octets comes to: its fault, and what was asked of the source.
 fn outcome_of(
     alloc: Global,
     octets: &[u8],

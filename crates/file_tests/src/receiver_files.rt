@@ -16,7 +16,7 @@ pub const FILE: &[u8] =
     b"S20RCV01\0\x08\0\x04\0\x02\0\0\0\x3C\0\0\0\x01\x60\0\0\0\0\0\x01\0\0\x03\x84\
     \x02\0\x02\x80\0\x80\x11\x01\x80\x12\x80\x13\0\0";
 
-/// Whether a receiver is saved as a file.
+/// Whether a receiver's file has just these octets.
 fn saves<A: Allocator>(alloc: Global, receiver: &Receiver<A>, file: &[u8]) -> bool {
     match Vec::with_capacity(alloc, 4096) {
         Ok(room) => {
@@ -105,7 +105,7 @@ fn tells_depth(alloc: Global, file: &[u8], bits: u8) -> bool {
     }
 }
 
-/// The same of a receiver that is saved.
+/// The same of the file that a receiver is saved as.
 fn saved_tells_depth(alloc: Global, receiver: &Receiver, bits: u8) -> bool {
     match Vec::with_capacity(alloc, 4096) {
         Ok(room) => {

@@ -86,7 +86,7 @@ fn has_fault(
     Ok(true)
 }
 
-/// The first `end` octets of a file, of which one is changed.
+/// The first `end` octets of a file, with another one at a place.
 fn changed(
     alloc: Global,
     file: &[u8],

@@ -23,7 +23,7 @@ const MOST_TEXT: usize = 18;
 /// How many lengths are noted at most.
 const MOST: usize = 128;
 
-/// The lengths of writes.
+/// The lengths of a sink's writes, in order, and how many there were.
 #[derive(Drop)]
 struct Lengths {
     list: [usize; MOST],

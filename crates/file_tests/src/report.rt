@@ -12,7 +12,7 @@ use std::test::Fail;
 use test_kit::datagrams::{begin, opened, put_head, takes_octets};
 use test_kit::small_format::{ANOTHER, UPPER, small};
 
-/// The report of *contested*.
+/// What a report tells of *contested*'s receiver.
 pub const REPORT: &[u8] = b"receiver YCbCr-4:2:2 8 4 2 60/1 pt 96 ssrc any\n\
     frame 900 present 7 missing 8 contested 1\n\
     missing row 1 columns 0 to 3\n\
@@ -197,7 +197,6 @@ fn takes_each_second(alloc: Global, receiver: &mut Receiver) -> Result<bool, All
     Ok(are_taken)
 }
 
-/// How many lines a text has.
 fn lines(text: &[u8]) -> usize {
     text.iter().filter(|octet| **octet == b'\n').count()
 }
@@ -232,7 +231,7 @@ fn each_second_group(rt: HostRuntime) -> Result<(), Fail> {
     Ok(())
 }
 
-/// Whether a run ended so.
+/// Whether a run ended by this status, and wrote just these octets to output and faults.
 fn ended(run: &Ran, status: u8, printed: &[u8], told: &[u8]) -> bool {
     run.status == status && run.printed() == printed && run.told() == told
 }

@@ -14,7 +14,7 @@ pub struct Failing {
     pub faults: u64,
 }
 
-/// No device fails.
+/// Devices of which no call fails.
 pub const SOUND: Failing = Failing {
     source: 0,
     output: 0,
@@ -30,12 +30,12 @@ pub struct Ran {
 }
 
 impl Ran {
-    /// What it printed.
+    /// What it wrote to output.
     pub fn printed(&self) -> &[u8] {
         self.output.held()
     }
 
-    /// What it told of a fault.
+    /// What it wrote to faults.
     pub fn told(&self) -> &[u8] {
         self.faults.held()
     }

@@ -48,7 +48,7 @@ fn devices_of_a_description(rt: HostRuntime) -> Result<(), Fail> {
     Ok(())
 }
 
-/// A run that wants memory prints nothing.
+/// Whether a run wants memory, and has printed nothing then.
 fn wants_memory(run: &Ran) -> bool {
     run.status == 4 && run.told() == b"st2110: memory\n".as_slice() && run.printed().is_empty()
 }

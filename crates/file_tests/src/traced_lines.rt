@@ -17,7 +17,7 @@ const FRONT: &[u8] = b"format YCbCr-4:2:2 8 8 2 60/1\nopen 96 any 900\n";
 const DATAGRAM: &[u8; 72] =
     b"80E000010000038400000001000000100000000080108011801280138014801580168017";
 
-/// How many octets those are.
+/// How many octets the digits spell.
 const OCTETS: usize = 36;
 
 /// How many octets a line has at most in the test of lengths.

@@ -36,7 +36,7 @@ const VALUES: [(u32, u32, u8, Option<u16>); 4] = [
     (1, 2, 2, Some(70)),
 ];
 
-/// *held*.
+/// *held*: contested's frame settled over a picture that is held.
 #[test]
 fn held(rt: HostRuntime) -> Result<(), Fail> {
     let receiver = contested(rt.alloc())?;

@@ -12,7 +12,7 @@ use test_kit::datagrams::{begin, opened, put_head};
 use test_kit::small_format::KINDS;
 use test_programs::Generator;
 
-/// The widths go up to 130.
+/// Widths up to this are tried: past four vectors of 32 octets.
 const MOST_WIDTH: u32 = 130;
 
 /// Takes a row of one row's datagram, and tells whether it was not refused.
@@ -179,7 +179,7 @@ const COUNTS: Counts = Counts {
     contested: 1,
 };
 
-/// *last-sample-differs*.
+/// *last-sample-differs*: 34 by 1, where just the last octet differs.
 #[test]
 fn last_sample_differs(rt: HostRuntime) -> Result<(), Fail> {
     let format = Format::new(Sampling::Ycc422, Depth::D8, 34, 1, 60, 1)?;

@@ -141,7 +141,7 @@ fn refusals_from_the_oldest(rt: HostRuntime) -> Result<(), Fail> {
     Ok(())
 }
 
-/// The fault of an opening, if it is one.
+/// The fault that refuses an opening; none where a receiver is opened.
 fn fault(alloc: Global, opening: Opening<'_>) -> Option<OpenFault> {
     match opening.open(alloc) {
         Ok(_) => None,

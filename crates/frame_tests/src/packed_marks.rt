@@ -24,7 +24,7 @@ const COUNTS: Counts = Counts {
     contested: 1,
 };
 
-/// A cell, or `None` where there is no such position.
+/// The cell at a position; `None` where there is no such position.
 pub fn cell(frame: &Frame, row: u32, column: u32, component: u8) -> Option<Cell> {
     if frame.format().has_position(row, column, component) {
         Some(frame.cell(row, column, component))
@@ -66,7 +66,7 @@ fn is_received(alloc: Global, format: Format) -> bool {
     }
 }
 
-/// *packed-marks*.
+/// *packed-marks*: a pgroup of four columns of which one sample is contested.
 #[test]
 fn packed_marks(rt: HostRuntime) -> Result<(), Fail> {
     let format = Format::new(Sampling::Ycc444, Depth::D10, 4, 1, 60, 1)?;

@@ -60,7 +60,7 @@ fn unpacked(
     Ok(samples)
 }
 
-/// Whether the octets spell the samples one by one.
+/// Whether each sample is what `sample_at` reads of the octets at its number.
 fn spells(format: &Format, octets: &[u8], samples: &[u16]) -> bool {
     let mut is_each = true;
     for i in 0..samples.len() {

@@ -91,7 +91,7 @@ fn sets(picture: &mut Picture) -> bool {
     set(picture, 1, 2, 2, 7) && set(picture, 1, 3, 2, 7) && !set(picture, 1, 2, 2, 256)
 }
 
-/// What there is then.
+/// Row, column, component and value once those were set; none where there is no position.
 const SET: [(u32, u32, u8, Option<u16>); 4] = [
     (1, 2, 2, Some(7)),
     (1, 3, 2, None),
@@ -120,7 +120,7 @@ fn small_is_set_alone(alloc: Global, format: Format) -> bool {
     }
 }
 
-/// One value changes, and no other.
+/// A set changes the value at its place, and no other.
 #[test]
 fn one_value(rt: HostRuntime) -> Result<(), Fail> {
     met(&rt, small_is_set_alone(rt.alloc(), small()?));
@@ -141,7 +141,7 @@ const CONTESTED: [&str; 2] = [
     "80E00001000003840000000100000008000000008020801180128013",
 ];
 
-/// The receiver of *contested*.
+/// A receiver that took *contested*'s datagrams.
 pub fn contested(alloc: Global) -> Result<Receiver, Fail> {
     let mut receiver = opened(alloc, small()?)?;
     for digits in CONTESTED {
@@ -191,7 +191,7 @@ fn copies_and_settles(alloc: Global, receiver: &Receiver) -> bool {
     }
 }
 
-/// *copies-and-settling*.
+/// *copies-and-settling*: contested's frame, copied, and settled over a fill.
 #[test]
 fn copies_and_settling(rt: HostRuntime) -> Result<(), Fail> {
     let receiver = contested(rt.alloc())?;

@@ -62,7 +62,7 @@ fn picture(alloc: Global, format: Format, seed: u64) -> Result<Vec<u16>, AllocEr
     Ok(samples)
 }
 
-/// Keeps the bits of a mask.
+/// Keeps the bits of a mask, so that each value fits its depth.
 fn keep_bits(samples: &mut [u16], mask: u16) {
     for i in 0..samples.len() {
         samples[i] &= mask;
@@ -110,7 +110,6 @@ fn draw_place(generator: &mut Generator, format: &Format) -> Place {
     Place { row, group, count }
 }
 
-/// How many samples some groups have.
 fn samples_in(format: &Format, groups: u32) -> usize {
     (groups as usize).wrapping_mul(format.pgroup().samples)
 }
@@ -290,7 +289,7 @@ fn join_all(cells: &mut [Cell], others: &[Cell]) {
     }
 }
 
-/// The counts of a list of cells.
+/// How many cells of the model are of each kind.
 fn counted(cells: &[Cell]) -> Counts {
     let (mut present, mut missing, mut contested) = (0u64, 0u64, 0u64);
     for cell in cells {
@@ -317,7 +316,7 @@ fn order(sampling: Sampling) -> (u32, &'static [(u32, u8)]) {
     }
 }
 
-/// Whether a cell is there and is that of a number.
+/// Whether there is a cell of a number in the list, and it is this one.
 fn is_at(cells: &[Cell], number: usize, cell: Option<Cell>) -> bool {
     number < cells.len() && cell == Some(cells[number])
 }

@@ -8,7 +8,7 @@ use std::process::Abort;
 use test_kit::formulas::{cb, clipped, cr, gained, keyed, luma, mixed, scale};
 use test_programs::Generator;
 
-/// How many corners a depth has.
+/// How many corners a depth has: the values at which a formula may turn.
 const CORNERS: usize = 14;
 
 /// The bits of a sample at each depth.
@@ -63,7 +63,6 @@ fn corners(bits: u32) -> [u16; CORNERS] {
     ]
 }
 
-/// Whether each value has at most so many bits.
 fn fit(values: &[u16], bits: u32) -> bool
     requires { bits ≤ 16 }
     ensures { IsTrue result → EachIndex values.now (λ k. slice_index values.now k < 2 ^ bits) }
@@ -72,7 +71,6 @@ fn fit(values: &[u16], bits: u32) -> bool
     values.iter().all(|v| u32::from(*v) < end)
 }
 
-/// Whether no value is above `most`.
 fn are_up_to(values: &[u16], most: u16) -> bool
     ensures { IsTrue result → EachIndex values.now (λ k. slice_index values.now k ≤ most) }
 {

@@ -9,12 +9,12 @@ use std::str::FromStr;
 use std::test::Fail;
 use test_kit::words::all_say;
 
-/// Whether a value is written as this text.
+/// Whether `Display` writes a value as this text.
 fn is_written<T: Display>(alloc: Global, value: &T, text: &str) -> Result<bool, AllocError> {
     Ok(value.to_string(alloc)?.as_str() == text)
 }
 
-/// What is read of a text, by the trait.
+/// What `FromStr` reads of a text.
 fn read<E: Drop, T: FromStr<Err = E> + Drop>(text: &str) -> Result<T, E> {
     text.parse::<T>()
 }

@@ -66,9 +66,9 @@ const DIFFERING: Counts = Counts {
 
 /// What is done with the nearer one of two receivers, and what comes of it.
 enum Step {
-    /// It takes a datagram.
+    /// It takes a datagram by a path, and answers so.
     Take(Path, &'static [u8], Result<Taken, Refusal>),
-    /// The other one is merged into it.
+    /// The farther one, which was opened alike, is merged into it.
     Merge,
     /// Its window moves on to a timestamp.
     Slide(u32, Result<u32, SlideFault>),
@@ -83,7 +83,7 @@ enum Step {
     /// The frame that slid out.
     Out(Counts),
     Window(&'static [u32]),
-    /// How many refusals it keeps.
+    /// It keeps so many refusals.
     Refusals(usize),
     /// The refusal at a place, where it keeps so many.
     Refused(usize, Option<(Path, Refusal)>),
@@ -327,7 +327,7 @@ const HALF_CONTESTED: Counts = Counts {
     contested: 1,
 };
 
-/// *segments-that-disagree*.
+/// *segments-that-disagree*: two segments of one datagram differ.
 const SEGMENTS: [Step; 2] = [
     Step::Take(Path::A, DISAGREE_FIRST, FIRST),
     Step::Has(
@@ -366,7 +366,7 @@ fn no_growth(rt: HostRuntime) -> Result<(), Fail> {
     Ok(())
 }
 
-/// The first refusal, by A.
+/// A receiver that refused nothing yet refuses an empty datagram, by A.
 const REFUSES: [Step; 3] = [
     Step::Refused(0, None),
     Step::Take(Path::A, b"", Err(SHORT)),

@@ -18,7 +18,7 @@ enum Held {
     Slid,
     /// The copy of *contested*'s frame of *copies-and-settling*.
     Copy,
-    /// The same frame settled.
+    /// That frame, settled: memory is wanted for its values.
     Settled,
 }
 

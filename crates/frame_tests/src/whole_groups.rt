@@ -15,7 +15,7 @@ use test_programs::Generator;
 /// How many groups the frames have at most: two rows of 24 columns.
 const MOST_GROUPS: usize = 48;
 
-/// How many octets they have at most.
+/// How many octets they have at most: a group has 15 or fewer.
 const MOST_OCTETS: usize = 15 * MOST_GROUPS;
 
 /// How many groups the frames of a format have.
@@ -51,7 +51,7 @@ fn give_one(frame: &mut Frame, number: usize, octets: &[u8]) -> bool {
     }
 }
 
-/// Gives a frame the same one by one.
+/// Gives a frame the same groups, each by a call of its own.
 fn give_each(frame: &mut Frame, first: usize, count: usize, octets: &[u8]) -> bool {
     let size = frame.format().pgroup().octets;
     let mut can_be = true;

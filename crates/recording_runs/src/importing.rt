@@ -24,7 +24,7 @@ use recording_engines::{ImportCounts, ImportFile, Importing};
 use run_outcome::{Fault, Writer};
 use std::alloc::{AllocError, Global};
 
-/// A file of `import` on this machine.
+/// A file of `import`, of this machine and in global memory.
 type InputFile<'a> = ImportFile<Global, FileSource<'a>>;
 
 /// Makes a capture of captures and recordings.
@@ -73,7 +73,7 @@ fn importing<'a>(words: &ImportWords<'a>) -> Importing<'a> {
     }
 }
 
-/// The octets of a text, where there is one.
+/// The octets of a text that may be absent.
 pub(crate) fn octets(text: Option<&str>) -> Option<&[u8]> {
     match text {
         Some(text) => Some(text.as_bytes()),
@@ -92,13 +92,13 @@ fn given_files<'a>(rt: &'a HostRuntime, names: &[&'a str]) -> Result<Vec<InputFi
     Ok(files)
 }
 
-/// Whether the capture is one of the files that are read.
+/// Whether the capture that is to be written is one of the files that are read.
 fn is_read(out: &FileOutput<'_>, sdp: &FileSource<'_>, files: &[InputFile<'_>]) -> bool {
     let file = out.identity();
     sdp.is(file) || files.iter().any(|it| is_of(it, file))
 }
 
-/// Whether a file is this plain one.
+/// Whether a file of `import`, as a capture or as a recording, is this plain one.
 fn is_of(it: &InputFile<'_>, file: Option<Identity>) -> bool {
     match it.source() {
         Some(source) => source.is(file),

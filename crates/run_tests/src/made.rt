@@ -34,7 +34,7 @@ pub const LOWER_ROW: &[u8] =
     b"S20RCV01\0\x08\0\x04\0\x02\0\0\0\x3C\0\0\0\x01\x60\0\0\0\0\0\x01\0\0\x03\x84\
     \0\0\x01\x80\x14\x80\x15\x01\x80\x16\x80\x17";
 
-/// A source of some octets.
+/// A source of these octets.
 pub fn source(alloc: Global, octets: &[u8]) -> Result<MemorySource, AllocError> {
     Ok(MemorySource::new(Vec::from_slice(alloc, octets)?, 7, 0))
 }

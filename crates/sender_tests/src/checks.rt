@@ -2,7 +2,7 @@
 //! are the few.
 use std::process::Abort;
 
-/// The test is met.
+/// Ends the test as failed unless it is met.
 pub fn met(rt: &impl Abort, is_met: bool) {
     assert!(rt; is_met);
 }

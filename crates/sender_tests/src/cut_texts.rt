@@ -49,7 +49,7 @@ const FAULTS: [(usize, Option<SdpFault>); 35] = [
     (560, None),
 ];
 
-/// The fault of so many octets.
+/// The fault of the text's first octets, so many of them.
 fn fault_at(octets: usize) -> Option<SdpFault> {
     let mut answer = None;
     for (from, fault) in &FAULTS {

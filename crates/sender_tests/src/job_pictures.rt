@@ -57,7 +57,7 @@ fn is_colour(sampling: Sampling, component: u8) -> bool {
     sampling != Sampling::Rgb && component > 0
 }
 
-/// A value within a range.
+/// The nearest value of a range, plainly reckoned.
 fn limited(range: RangeKind, is_colour: bool, bits: u32, value: u16) -> u16 {
     let s = scale(bits);
     let (low, high) = match (range, is_colour) {
@@ -68,7 +68,7 @@ fn limited(range: RangeKind, is_colour: bool, bits: u32, value: u16) -> u16 {
     clipped(i128::from(value), low, high)
 }
 
-/// A value raised by a gain.
+/// A value `g / 4096` as far from what it keeps, within video data, plainly reckoned.
 fn raised(g: u32, is_colour: bool, bits: u32, value: u16) -> u16 {
     let s = scale(bits);
     let zero = s.wrapping_mul(if is_colour { 128 } else { 16 });
@@ -89,7 +89,7 @@ fn matrixed(inputs: &[Picture], place: Place, bits: u32) -> Option<u16> {
     })
 }
 
-/// The weight of a wipe at a place.
+/// How many 256ths of the second picture a wipe has at a place, plainly reckoned.
 fn weight(shape: WipeShape, place: Place) -> u16 {
     let x = match shape.axis {
         Axis::Columns => place.1,
@@ -106,13 +106,13 @@ fn weight(shape: WipeShape, place: Place) -> u16 {
     }
 }
 
-/// The mix of a wipe at a place.
+/// The values of two inputs at a place, mixed by the weight of a wipe.
 fn wiped(inputs: &[Picture], shape: WipeShape, place: Place) -> Option<u16> {
     let (a, b) = (input(inputs, 0, place)?, input(inputs, 1, place)?);
     Some(mixed(a, b, weight(shape, place)))
 }
 
-/// The mix of a key at a place.
+/// The values of two inputs at a place, mixed by the luma of a third.
 fn keyed_at(inputs: &[Picture], place: Place, bits: u32) -> Option<u16> {
     let (a, b) = (input(inputs, 0, place)?, input(inputs, 1, place)?);
     let by = input(inputs, 2, (place.0, place.1, 0))?;

@@ -60,7 +60,7 @@ fn send_held(
     Some(send_job(alloc, job, &[JobInput { frame, base }], 42, STAMP, sink))
 }
 
-/// Unity.
+/// A gain of one: 4096 of 4096ths.
 const ONE: Job = Job::Gain(4096);
 
 /// Whether a receiver's frame at gain one gives these datagrams from a sink that fails at one put,
@@ -80,7 +80,7 @@ fn sends(
         && has_taken(alloc, &sink, fails_in, datagrams)
 }
 
-/// *send-gain-one*.
+/// *send-gain-one*: a gain of 4096 of a whole frame and of a half one; sizes that are refused.
 #[test]
 fn send_gain_one(rt: HostRuntime) -> Result<(), Fail> {
     let (whole, half) = (merged(rt.alloc())?, upper(rt.alloc())?);

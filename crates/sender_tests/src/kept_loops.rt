@@ -58,7 +58,7 @@ fn pixel_keys(of_key: Sampling, scale: u16, row: &[u16], keys: &mut [u16]) {
     }
 }
 
-/// The keys of the samples of a row.
+/// A key for each sample of a row, by the loops of pictures that are kept.
 fn row_keys(sampling: Sampling, of_key: Sampling, scale: u16, row: &[u16], keys: &mut [u16]) {
     match sampling {
         Sampling::Ycc422 => pair_keys(of_key, scale, row, keys),

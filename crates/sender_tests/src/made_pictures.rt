@@ -217,7 +217,7 @@ fn fails_at(
     )
 }
 
-/// Frames of some samplings, all of one depth.
+/// Frames of one size and depth, one of each sampling.
 fn frames(
     alloc: Global,
     samplings: &[Sampling],
@@ -294,7 +294,7 @@ fn failing_sinks(rt: HostRuntime) -> Result<(), Fail> {
     Ok(())
 }
 
-/// A key that is made as it is sent.
+/// The call of a key that is made as it is sent, for growths that are refused.
 struct MadeKey;
 
 impl Wanting for MadeKey {

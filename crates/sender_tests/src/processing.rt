@@ -93,7 +93,7 @@ fn is_thinned(alloc: Global) -> bool {
     }
 }
 
-/// *matrix*.
+/// *matrix*: values of R, G and B in Y, Cb and Cr; what is refused; what 4:2:2 keeps.
 #[test]
 fn matrix(rt: HostRuntime) {
     for (depth, rgb, ycc) in MATRIX {
@@ -147,7 +147,7 @@ fn is_no_key(alloc: Global, depth: Depth, fault: JobFault) -> bool {
     key(alloc, &a, &a, &by).err() == Some(fault)
 }
 
-/// *key-rounds*.
+/// *key-rounds*: mixes that are rounded, and keys that are refused.
 #[test]
 fn key_rounds(rt: HostRuntime) {
     for case in KEYS {
@@ -263,7 +263,7 @@ const OUTSIDE: [WipeShape; 4] = [
     },
 ];
 
-/// *wipe-weights*.
+/// *wipe-weights*: values along columns and by rows, and shapes that are refused.
 #[test]
 fn wipe_weights(rt: HostRuntime) {
     for case in WIPES {
@@ -368,7 +368,7 @@ fn is_refused(alloc: Global, case: (Job, usize, JobFault)) -> bool {
     }
 }
 
-/// *gain-and-limit*.
+/// *gain-and-limit*: values of both, and jobs that are refused.
 #[test]
 fn gain_and_limit(rt: HostRuntime) {
     for case in REFUSED {

@@ -207,7 +207,7 @@ fn mixes(rt: HostRuntime) -> Result<(), Fail> {
     Ok(())
 }
 
-/// *send-gain-one*.
+/// The call of *send-gain-one*, for growths that are refused.
 #[derive(Clone, Copy)]
 struct SendOne;
 

@@ -358,7 +358,7 @@ fn faults_without_a_place(rt: HostRuntime) {
     met(&rt, has_no_place(wanting, SdpFault::NoMemory));
 }
 
-/// A text without a fault is read.
+/// Of a text that is read well no place is told.
 #[test]
 fn a_text_without_a_fault(rt: HostRuntime) {
     met(&rt, located(rt.alloc(), CAMERA).is_none());

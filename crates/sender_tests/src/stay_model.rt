@@ -54,7 +54,6 @@ impl ModelStay {
 struct Window([ModelStay; 3]);
 
 impl Window {
-    /// Whether a timestamp is in the window.
     fn has(&self, timestamp: u32) -> bool {
         self.0.iter().any(|stay| stay.timestamp == timestamp)
     }
@@ -68,7 +67,7 @@ impl Window {
         }
     }
 
-    /// The first stay, which ends.
+    /// The first stay, which ends: the others move up, and one of `next` begins.
     fn slide(&mut self, next: u32) -> ModelStay {
         let [first, second, third] = self.0;
         self.0 = [second, third, stay(next)];
@@ -183,7 +182,6 @@ impl Model {
 struct Random(u64);
 
 impl Random {
-    /// A number below a bound.
     fn below(&mut self, bound: u64) -> u64
         requires { 0 < bound }
         ensures { result < bound }

@@ -44,8 +44,8 @@ pub mod formats {
     };
 }
 
-/// SDP texts: what one announces, where it is at fault, and the fmtp line of what was read; and texts
-/// that are written of a stream.
+/// SDP texts: what one announces, where it is at fault, and the fmtp line of what was read; and
+/// texts that are written of a stream.
 pub mod describe {
     pub use sdp_format::{
         FlowsFault, Located, Place, Range, Sdp, SdpFault, fmtp_text, read_flows, read_located,
@@ -105,7 +105,8 @@ pub mod files {
 }
 
 /// Recordings of other tools, as pcap and pcapng: their packets, as datagrams of UDP, and the flows
-/// of the two paths; and a reader that gives the datagrams of these, or of a capture, to a receiver.
+/// of the two paths; and a reader that gives the datagrams of these, or of a capture, to a
+/// receiver.
 pub mod recordings {
     pub use flow::{Flow, Flows, read_flow};
     pub use pcap_file::{
