@@ -9,7 +9,7 @@ if_refused Device q = tt
 if_refused Memory q = tt
 
 -- A fault that is no refusal.
-pub never_refused : (f : Fault) {Q : Type 0} → IfRefused f ⊥ → IfRefused f Q
-never_refused (Refused r) never = absurd never
-never_refused Device never = tt
-never_refused Memory never = tt
+pub never_refused : (f : Fault) (Q : Type 0) → IfRefused f ⊥ → IfRefused f Q
+never_refused (Refused r) Q never = absurd never
+never_refused Device Q never = tt
+never_refused Memory Q never = tt

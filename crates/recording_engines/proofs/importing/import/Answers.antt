@@ -197,4 +197,4 @@ pub returns-in_err-print-clause-quiet : goal.returns-in_err-print-clause-quiet
 returns-in_err-print-clause-quiet g c =
     let p = err_from_is_err_and c.from_residual-in_err-print.result
     c.from_residual-in_err-print.ensures.1 in
-    rw (p.1, p.2) (never_refused c.in_err-print.field-0.0 c.in_err-print.ensures.unrefused)
+    rw (p.1, p.2) (never_refused c.in_err-print.field-0.0 _ c.in_err-print.ensures.unrefused)
