@@ -69,6 +69,16 @@ pub mod receive {
     pub use st_format::Path;
 }
 
+/// Receivers whose window follows a stream of which no timestamp is known before: frames, oldest
+/// first, one by one or from a source into a sink.
+pub mod follow {
+    pub use following::{
+        FollowFault, FollowObserver, FollowTally, Followed, Follower, FrameFault, FrameSink,
+        FrameSinkFault, MOST_FRAMES, MemoryFrames, Shown, StreamFault, TEN_SECONDS, TurnTaken,
+        Unobserved, finish, follow, follow_eagerly, hand_out, take_turn,
+    };
+}
+
 /// Which packet numbers came, and the runs of those that did not.
 pub mod numbers {
     pub use path_merge::{MAX_COUNT, Noted, SeqMap, SeqMapFault};
