@@ -16,3 +16,4 @@ pub mod Coming
 pub mod Rescues
 pub mod TypedTexts
 pub mod Said
+pub mod Quiet
