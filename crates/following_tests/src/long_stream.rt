@@ -53,18 +53,24 @@ struct Line<A: Allocator> {
     handed: u32,
 }
 
+/// The first sample of a row, where the frame has it.
+fn first_of<A: Allocator>(frame: &Frame<A>, row: u32) -> Option<Cell> {
+    if frame.format().has_position(row, 0, 0) {
+        Some(frame.cell(row, 0, 0))
+    } else {
+        None
+    }
+}
+
 /// Whether the frame that came out is the next picture: all of it there, with the values that were
 /// sent.
 fn is_next<A: Allocator>(frame: &Frame<A>, timestamp: u32, place: u32) -> bool {
-    if !frame.format().has_position(0, 0, 0) || !frame.format().has_position(1, 0, 0) {
-        return false;
-    }
     let upper = Cell::Value(u16::from(value_of(place, 0)));
     let lower = Cell::Value(u16::from(value_of(place, 1)));
     timestamp == timestamp_of(place)
         && frame.counts() == counted(16, 0, 0)
-        && frame.cell(0, 0, 0) == upper
-        && frame.cell(1, 0, 0) == lower
+        && first_of(frame, 0) == Some(upper)
+        && first_of(frame, 1) == Some(lower)
 }
 
 /// Counts a frame that came out, and tells whether it is the next picture, or none came.

@@ -72,8 +72,10 @@ fn is_fit(stage: &Stage) -> bool
         → stage.now.frame.format ≡ stage.now.follower.opening.format }
     ensures room { IsTrue result → 65535 ≤ length stage.now.buf.items }
 {
-    let format = stage.frame.format();
-    format.same(&stage.follower.format()) && stage.buf.len() >= 65_535
+    if !stage.frame.format().same(&stage.follower.format()) {
+        return false;
+    }
+    stage.buf.len() >= 65_535
 }
 
 /// What following a source answers, up to so many turns.
