@@ -205,14 +205,14 @@ misworded 'send: a number of 33 bits' \
 run send --out f.cap --paths c p.pic
 misworded 'send: a path C' "invalid value 'c' for '--paths <PATHS>'\n  [possible values: a, b, both]" -
 
-# The commands of README's first page.
+# The commands of README's first page, and a migrated capture that is received.
 run send --sdp "$root/examples/four-by-two.sdp" --base 900 --max 40 --paths both --out sent.cap "$root/examples/four-by-two.pic"
 says 'README: send' 0 'sent 2' ''
 run receive --window 900 --state sent.rcv sent.cap
 says 'README: receive' 0 "delivered 4
 $whole" ''
 run migrate --sdp "$root/examples/four-by-two.sdp" --out new.cap "$root/examples/one-record-01.cap"
-says 'README: migrate' 0 'records 1' ''
+says 'migrate: a capture that is received' 0 'records 1' ''
 run receive --window 900 --state new.rcv new.cap
 says 'README: receive what was migrated' 0 "delivered 1
 $frame" ''
