@@ -1,0 +1,175 @@
+-- What was noted of a file that a reader read.
+use Rattle.std.proofs.Common.{◌≡◌, ◌∙◌, ℕ, ◌⊎◌, inl, inr, List, [], ◌∷◌, length, true, Option, None}
+use Rattle.std.proofs.Common.{Some, Result, Ok, Err, sym, subst}
+use Rattle.std.specs.Prelude.{IfErr, IfOk, IsSome, OnOk}
+use Rattle.capture_engines.specs.Files.{flows_in}
+use Rattle.capture_engines.specs.Received.{IsFrontRefusal, IsTakeRefusal}
+use Rattle.capture_engines.specs.declared.way.Way.{Way}
+use Rattle.capture_engines.proofs.ReceivedRefusals.{text_refused}
+use Rattle.flow.specs.declared.flows.Flows.{Flows}
+use Rattle.media_file.specs.Faults.{file_fault_origin}
+use Rattle.media_file.specs.Records.{Entry}
+use Rattle.pcap_file.specs.Fields.{recording_fault_origin}
+use Rattle.recording_reader.specs.FileReader.{FileReader, HasGivenFile, IsKnownBy}
+use Rattle.recording_reader.specs.Files.{AreFirst, HasFront, HaveFileRecords, IfFile, IsFileFault}
+use Rattle.recording_reader.specs.Files.{records_of_file, text_of_file}
+use Rattle.recording_reader.specs.Kinds.{is_recording}
+use Rattle.recording_reader.specs.declared.fault.ReadingFault.{ReadingFault}
+use Rattle.recording_reader.specs.declared.fault.ReadingFault.TheVariants.{Capture, Recording}
+use Rattle.recording_reader.specs.declared.way.Standing.{Standing}
+use Rattle.recording_reader.specs.declared.way.Standing.TheVariants.{Ended, Failed, Reads}
+use Rattle.run_outcome.specs.Refusing.{OfRefusal}
+use Rattle.run_outcome.specs.declared.fault.Fault.{Fault}
+use Rattle.st_format.specs.Given.{IfOfContent, OfContent, OfDevice, OfMemory, Origin}
+use Rattle.st_format.specs.History.{IsRead}
+use Rattle.st_format.proofs.Origins.{if_content, if_content_weaker}
+use Rattle.stream_inspection.specs.Aim.{Announces}
+use Rattle.stream_inspection.specs.Read.{EndsBy, HasRecords, IfEnd, IsEnd, NotesFile, NotesRecords}
+use Rattle.stream_inspection.specs.Read.{Settles, SettlesBy}
+use Rattle.stream_inspection.specs.declared.inspection.Inspection.{Inspection}
+use Rattle.stream_inspection.specs.declared.target.Target.{Target}
+
+-- ---- ends
+
+of_file : (f : ReadingFault) (P : Type 0) → P → IfFile f P
+of_file (Capture f) P p = if_content file_fault_origin f P p
+of_file (Recording f) P p = if_content recording_fault_origin f P p
+
+file_weaker : (f : ReadingFault) (P Q : Type 0) → (P → Q) → IfFile f P → IfFile f Q
+file_weaker (Capture f) P Q then is = if_content_weaker file_fault_origin f P Q then is
+file_weaker (Recording f) P Q then is = if_content_weaker recording_fault_origin f P Q then is
+
+pub if_end : (end : Option ReadingFault) (P Q : Type 0) → (P → Q) → IfEnd end P → IfEnd end Q
+if_end None P Q then is = then is
+if_end (Some f) P Q then is = file_weaker f P Q then is
+
+-- what holds at each of some octets, where the fault is the content's
+each_content : (o : Origin) (told P : List ℕ → Type 0)
+    → ((octets : List ℕ) → told octets → IfOfContent o (P octets))
+    → IfOfContent o ((octets : List ℕ) → told octets → P octets)
+each_content OfDevice told P h = tt
+each_content OfMemory told P h = tt
+each_content OfContent told P h = h
+
+each_file : (f : ReadingFault) (told P : List ℕ → Type 0)
+    → ((octets : List ℕ) → told octets → IfFile f (P octets))
+    → IfFile f ((octets : List ℕ) → told octets → P octets)
+each_file (Capture f) told P h = each_content (file_fault_origin f) told P h
+each_file (Recording f) told P h = each_content (recording_fault_origin f) told P h
+
+-- ---- what is looked for
+
+settles_file : (before after : Option Target) (text octets : List ℕ) → text_of_file octets ≡ text
+    → SettlesBy before text after → Settles before (octets ∷ []) after
+settles_file (Some t) after text octets is settles = settles
+settles_file None after text octets is settles = (
+  settles.0,
+  settles.1,
+  subst (λ (l : List ℕ). Announces l settles.0) (sym is) settles.2,
+)
+
+-- ---- a file that was read up to an end
+
+module _ {S : Type 0} (gave : S → List ℕ) (ended : S → Type 0) (r : FileReader S) (w : Way)
+    (by : r.flows ≡ flows_in w) (kind : r.is_recording ≡ true → IsSome r.flows)
+    (given : HasGivenFile gave ended r) where
+  abbrev Told : List ℕ → Type 0
+  Told = IsRead r.before.gave (gave r.source) (ended r.source)
+
+  -- what is known by where its reader stands
+  known_at : (standing : Standing) → r.standing ≡ standing → (octets : List ℕ) → Told octets
+      → IsKnownBy r.flows standing octets r.records r.left_out
+  known_at standing is octets read =
+      subst (λ (s : Standing). IsKnownBy r.flows s octets r.records r.left_out) is
+      (given octets read).known
+
+  all_there : (octets : List ℕ) → HaveFileRecords r.flows octets r.records r.left_out
+      → records_of_file (flows_in w) octets ≡ r.records
+  all_there octets have =
+      subst (λ (f : Option Flows). records_of_file f octets ≡ r.records) by have.records_are
+
+  ends_at : (end : Option ReadingFault) → IsEnd r.standing (length r.records) end
+      → IfEnd end ((octets : List ℕ) → Told octets → EndsBy (flows_in w) octets r.records end)
+  ends_at None over = λ octets read.
+      let known = known_at Ended over octets read in (all_there octets known.0, known.1)
+  ends_at (Some f) (inl failed) =
+      each_file f Told (λ octets. EndsBy (flows_in w) octets r.records (Some f))
+      (λ octets read.
+      file_weaker f
+      (HaveFileRecords r.flows octets r.records r.left_out × IsFileFault f octets)
+      (EndsBy (flows_in w) octets r.records (Some f))
+      (λ known. inl (all_there octets known.0, known.1))
+      (known_at (Failed f) failed octets read).1)
+  ends_at (Some f) (inr many) =
+      of_file f ((octets : List ℕ) → Told octets → EndsBy (flows_in w) octets r.records (Some f))
+      (λ octets read. inr (
+        many.1,
+        many.2,
+        subst (λ (x : Option Flows). AreFirst r.records (records_of_file x octets)) by
+            (known_at Reads many.0 octets read),
+      ))
+
+  has_records : (end : Option ReadingFault) (octets : List ℕ) → Told octets
+      → EndsBy (flows_in w) octets r.records end → HasRecords w octets r.records end
+  has_records end octets read ends =
+      let known = given octets read in
+      record {
+        front = subst (λ (t : List ℕ). HasFront octets t) (sym known.text) known.front;
+        by_flows = λ is. subst (λ (f : Option Flows). IsSome f) by (kind (sym known.kind ∙ is));
+        ends = ends;
+      }
+
+  file_noted : {A : Type 0} (text : List ℕ) (end : Option ReadingFault)
+      (before after : Option Target) (old new : Inspection A) → text ≡ r.text
+      → IsEnd r.standing (length r.records) end
+      → NotesRecords text r.records before after old new
+      → IfEnd end (NotesFile w Told end before after old new)
+  file_noted text end before after old new same is notes =
+      if_end end
+      ((octets : List ℕ) → Told octets → EndsBy (flows_in w) octets r.records end)
+      (NotesFile w Told end before after old new)
+      (λ ends. record {
+        records = r.records;
+        settles = λ octets read.
+            settles_file before after text octets ((given octets read).text ∙ sym same)
+            notes.settles;
+        noted = λ octets read.
+            (has_records end octets read (ends octets read), notes.noted);
+      })
+      (ends_at end is)
+
+-- so of a source that is as it was left
+pub file_noted_if : {S A E : Type 0} (gave : S → List ℕ) (ended : S → Type 0) (old now : S)
+    (r : FileReader S) (w : Way) (text : List ℕ) (before after : Option Target)
+    (i j : Inspection A) (result : Result (Option ReadingFault) E)
+    → r.before.gave ≡ gave old → now ≡ r.source → r.flows ≡ flows_in w → text ≡ r.text
+    → (r.is_recording ≡ true → IsSome r.flows) → HasGivenFile gave ended r
+    → IfOk result (IsEnd r.standing (length r.records))
+    → OnOk result (NotesRecords text r.records before after i j)
+    → IfOk result (λ end. IfEnd end (NotesFile w (IsRead (gave old) (gave now) (ended now)) end
+    before after i j))
+file_noted_if {S} gave ended old now r w text before after i j (Ok end) was is by same kind given
+    at notes =
+    subst (λ (s : S). IfEnd end (NotesFile w (IsRead (gave old) (gave s) (ended s)) end before
+    after i j)) (sym is)
+    (subst (λ (l : List ℕ). IfEnd end (NotesFile w (IsRead l (gave r.source) (ended r.source)) end
+    before after i j)) was
+    (file_noted gave ended r w by kind given text end before after i j same at notes))
+file_noted_if gave ended old now r w text before after i j (Err e) was is by same kind given at
+    notes = tt
+
+-- and of the refusal of its text
+pub file_refused : {S X V : Type 0} (window text : List ℕ) (w : Way) (begun : Option X)
+    (gave : S → List ℕ) (ended : S → Type 0) (old now : S) (r : FileReader S)
+    (result : Result V Fault) → r.before.gave ≡ gave old → now ≡ r.source → text ≡ r.text
+    → HasGivenFile gave ended r
+    → IfErr result (λ f. OfRefusal f (λ x. (begun ≡ None) × IsFrontRefusal window text x))
+    → IfErr result (λ f. OfRefusal f (IsTakeRefusal window w begun
+    (IsRead (gave old) (gave now) (ended now))))
+file_refused window text w begun gave ended old now r (Ok v) was is same given of = tt
+file_refused {S} window text w begun gave ended old now r (Err f) was is same given of =
+    subst (λ (s : S). OfRefusal f (IsTakeRefusal window w begun
+    (IsRead (gave old) (gave s) (ended s)))) (sym is)
+    (subst (λ (l : List ℕ). OfRefusal f (IsTakeRefusal window w begun
+    (IsRead l (gave r.source) (ended r.source)))) was
+    (text_refused window text w begun gave ended r f same given of))
