@@ -16,3 +16,6 @@ pub mod Coming
 pub mod Rescues
 pub mod TypedTexts
 pub mod Said
+pub mod Untaken
+pub mod Reads
+pub mod Ways

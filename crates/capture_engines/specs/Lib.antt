@@ -1,3 +1,5 @@
+pub mod Files
+pub mod Stopping
 pub mod Migrating
 pub mod MigrateRefused
 pub mod Tallied

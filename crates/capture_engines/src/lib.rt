@@ -15,6 +15,7 @@ mod sender;
 mod sending;
 mod tally;
 mod typed;
+mod way;
 
 pub use datagram_link::DatagramLink;
 pub use looping::{Looping, loop_back};
@@ -27,3 +28,4 @@ pub use sender::Sending;
 pub use sending::{check_pictures, send};
 pub use tally::{Tally, refusal_at};
 pub use typed::send_typed;
+pub use way::{Way, of_reading, unopened};
