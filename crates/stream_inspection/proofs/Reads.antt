@@ -1,18 +1,19 @@
 -- What was noted of a file that a reader read.
-use Rattle.std.proofs.Common.{◌≡◌, ◌∙◌, ℕ, ◌⊎◌, inl, inr, List, [], ◌∷◌, length, true, Option, None}
-use Rattle.std.proofs.Common.{Some, Result, Ok, Err, sym, subst}
+use Rattle.std.proofs.Common.{◌≡◌, ◌∙◌, ℕ, ◌⊎◌, inl, inr, List, [], ◌∷◌, ◌++◌, length, Bool, true}
+use Rattle.std.proofs.Common.{false, cond, Option, None, Some, Result, Ok, Err, refl, ap, sym, subst}
 use Rattle.std.specs.Prelude.{IfErr, IfOk, IsSome, OnOk}
-use Rattle.capture_engines.specs.Files.{flows_in}
+use Rattle.capture_engines.specs.Files.{HasFileText, flows_in}
 use Rattle.capture_engines.specs.Received.{IsFrontRefusal, IsTakeRefusal}
 use Rattle.capture_engines.specs.declared.way.Way.{Way}
 use Rattle.capture_engines.proofs.ReceivedRefusals.{text_refused}
 use Rattle.flow.specs.declared.flows.Flows.{Flows}
 use Rattle.media_file.specs.Faults.{file_fault_origin}
-use Rattle.media_file.specs.Records.{Entry}
+use Rattle.media_file.specs.Fronts.{front_at}
+use Rattle.media_file.specs.Records.{Entry, records_text}
 use Rattle.pcap_file.specs.Fields.{recording_fault_origin}
-use Rattle.recording_reader.specs.FileReader.{FileReader, HasGivenFile, IsKnownBy}
-use Rattle.recording_reader.specs.Files.{AreFirst, HasFront, HaveFileRecords, IfFile, IsFileFault}
-use Rattle.recording_reader.specs.Files.{records_of_file, text_of_file}
+use Rattle.recording_reader.specs.FileReader.{FileReader, HasGivenFile, HasGivenRecords, IsKnownBy}
+use Rattle.recording_reader.specs.Files.{AreFirst, HaveFileRecords, IfFile, IsFileFault}
+use Rattle.recording_reader.specs.Files.{records_of_file, text_before, text_of_file}
 use Rattle.recording_reader.specs.Kinds.{is_recording}
 use Rattle.recording_reader.specs.declared.fault.ReadingFault.{ReadingFault}
 use Rattle.recording_reader.specs.declared.fault.ReadingFault.TheVariants.{Capture, Recording}
@@ -24,8 +25,9 @@ use Rattle.st_format.specs.Given.{IfOfContent, OfContent, OfDevice, OfMemory, Or
 use Rattle.st_format.specs.History.{IsRead}
 use Rattle.st_format.proofs.Origins.{if_content, if_content_weaker}
 use Rattle.stream_inspection.specs.Aim.{Announces}
-use Rattle.stream_inspection.specs.Read.{EndsBy, HasRecords, IfEnd, IsEnd, NotesFile, NotesRecords}
-use Rattle.stream_inspection.specs.Read.{Settles, SettlesBy}
+use Rattle.stream_inspection.specs.Inspected.{IsInspected, Notes}
+use Rattle.stream_inspection.specs.Read.{EndsBy, HasRecords, IfEnd, IsEnd, MayBe, NotesFile}
+use Rattle.stream_inspection.specs.Read.{NotesRecords, Settles, SettlesBy}
 use Rattle.stream_inspection.specs.declared.inspection.Inspection.{Inspection}
 use Rattle.stream_inspection.specs.declared.target.Target.{Target}
 
@@ -57,7 +59,36 @@ each_file : (f : ReadingFault) (told P : List ℕ → Type 0)
 each_file (Capture f) told P h = each_content (file_fault_origin f) told P h
 each_file (Recording f) told P h = each_content (recording_fault_origin f) told P h
 
+-- of what went well
+pub if_ok : {V E : Type 0} {P Q : V → Type 0} (r : Result V E) → ((v : V) → P v → Q v)
+    → IfOk r P → IfOk r Q
+if_ok (Ok v) then is = then v is
+if_ok (Err e) then is = tt
+
 -- ---- what is looked for
+
+some_one : {X : Type 0} (x y : X) → Some x ≡ Some y → x ≡ y
+some_one x y e = cc
+
+none_some : {X : Type 0} (x : X) (o : Option X) → o ≡ None → o ≡ Some x → ⊥
+none_some x o none some = cc
+
+may_be : (after : Option Target) (t u : Target) → after ≡ Some t → MayBe after u → u ≡ t
+may_be None t u is may = absurd (none_some t None refl is)
+may_be (Some s) t u is may = may ∙ some_one s t is
+
+-- records were noted of what is looked for, which was settled by a text
+pub records_noted : {A : Type 0} (text : List ℕ) (records : List Entry)
+    (before after : Option Target) (t : Target) (old new : Inspection A) → after ≡ Some t
+    → SettlesBy before text after → Notes t records old new
+    → NotesRecords text records before after old new
+records_noted text records before after t old new is settles noted = record {
+  settles = settles;
+  noted = λ u may earlier i.
+      let same : u ≡ t = may_be after t u is may in
+      subst (λ (x : Target). IsInspected x new (earlier ++ records)) (sym same)
+      (noted.counted earlier (subst (λ (x : Target). IsInspected x old earlier) same i));
+}
 
 settles_file : (before after : Option Target) (text octets : List ℕ) → text_of_file octets ≡ text
     → SettlesBy before text after → Settles before (octets ∷ []) after
@@ -70,9 +101,16 @@ settles_file None after text octets is settles = (
 
 -- ---- a file that was read up to an end
 
+-- a recording has no text
+no_text : (octets text : List ℕ) → is_recording octets ≡ true → text_of_file octets ≡ text
+    → text ≡ []
+no_text octets text kind same =
+    sym same ∙ ap (λ (b : Bool). cond b [] (text_before (front_at octets))) kind
+
 module _ {S : Type 0} (gave : S → List ℕ) (ended : S → Type 0) (r : FileReader S) (w : Way)
-    (by : r.flows ≡ flows_in w) (kind : r.is_recording ≡ true → IsSome r.flows)
-    (given : HasGivenFile gave ended r) where
+    (by : r.flows ≡ flows_in w) (flows : r.is_recording ≡ true → IsSome r.flows)
+    (given : HasGivenFile gave ended r)
+    (parts : r.is_recording ≡ false → HasGivenRecords gave ended r) where
   abbrev Told : List ℕ → Type 0
   Told = IsRead r.before.gave (gave r.source) (ended r.source)
 
@@ -109,15 +147,23 @@ module _ {S : Type 0} (gave : S → List ℕ) (ended : S → Type 0) (r : FileRe
             (known_at Reads many.0 octets read),
       ))
 
-  has_records : (end : Option ReadingFault) (octets : List ℕ) → Told octets
-      → EndsBy (flows_in w) octets r.records end → HasRecords w octets r.records end
-  has_records end octets read ends =
-      let known = given octets read in
-      record {
-        front = subst (λ (t : List ℕ). HasFront octets t) (sym known.text) known.front;
-        by_flows = λ is. subst (λ (f : Option Flows). IsSome f) by (kind (sym known.kind ∙ is));
-        ends = ends;
-      }
+  text_there : (octets : List ℕ) → Told octets → (b : Bool) → r.is_recording ≡ b
+      → HasFileText w octets r.text
+  text_there octets read false kind =
+      inr (
+        (given octets read).kind ∙ kind,
+        (
+          records_text r.records ++ (parts kind octets read).behind,
+          (parts kind octets read).front,
+        ),
+      )
+  text_there octets read true kind =
+      let is : is_recording octets ≡ true = (given octets read).kind ∙ kind in
+      inl (
+        is,
+        subst (λ (f : Option Flows). IsSome f) by (flows kind),
+        no_text octets r.text is (given octets read).text,
+      )
 
   file_noted : {A : Type 0} (text : List ℕ) (end : Option ReadingFault)
       (before after : Option Target) (old new : Inspection A) → text ≡ r.text
@@ -134,7 +180,14 @@ module _ {S : Type 0} (gave : S → List ℕ) (ended : S → Type 0) (r : FileRe
             settles_file before after text octets ((given octets read).text ∙ sym same)
             notes.settles;
         noted = λ octets read.
-            (has_records end octets read (ends octets read), notes.noted);
+            (
+              record {
+                text = r.text;
+                has_text = text_there octets read r.is_recording refl;
+                ends = ends octets read;
+              },
+              notes.noted,
+            );
       })
       (ends_at end is)
 
@@ -144,32 +197,36 @@ pub file_noted_if : {S A E : Type 0} (gave : S → List ℕ) (ended : S → Type
     (i j : Inspection A) (result : Result (Option ReadingFault) E)
     → r.before.gave ≡ gave old → now ≡ r.source → r.flows ≡ flows_in w → text ≡ r.text
     → (r.is_recording ≡ true → IsSome r.flows) → HasGivenFile gave ended r
+    → (r.is_recording ≡ false → HasGivenRecords gave ended r)
     → IfOk result (IsEnd r.standing (length r.records))
     → OnOk result (NotesRecords text r.records before after i j)
     → IfOk result (λ end. IfEnd end (NotesFile w (IsRead (gave old) (gave now) (ended now)) end
     before after i j))
-file_noted_if {S} gave ended old now r w text before after i j (Ok end) was is by same kind given
-    at notes =
+file_noted_if {S} gave ended old now r w text before after i j (Ok end) was is by same flows
+    given parts at notes =
     subst (λ (s : S). IfEnd end (NotesFile w (IsRead (gave old) (gave s) (ended s)) end before
     after i j)) (sym is)
     (subst (λ (l : List ℕ). IfEnd end (NotesFile w (IsRead l (gave r.source) (ended r.source)) end
     before after i j)) was
-    (file_noted gave ended r w by kind given text end before after i j same at notes))
-file_noted_if gave ended old now r w text before after i j (Err e) was is by same kind given at
-    notes = tt
+    (file_noted gave ended r w by flows given parts text end before after i j same at notes))
+file_noted_if gave ended old now r w text before after i j (Err e) was is by same flows given
+    parts at notes = tt
 
 -- and of the refusal of its text
-pub file_refused : {S X V : Type 0} (window text : List ℕ) (w : Way) (begun : Option X)
+pub text_refuses : {S X V : Type 0} (window text : List ℕ) (w : Way) (begun : Option X)
     (gave : S → List ℕ) (ended : S → Type 0) (old now : S) (r : FileReader S)
-    (result : Result V Fault) → r.before.gave ≡ gave old → now ≡ r.source → text ≡ r.text
-    → HasGivenFile gave ended r
+    (result : Result V Fault) → r.before.gave ≡ gave old → now ≡ r.source → r.flows ≡ flows_in w
+    → text ≡ r.text → (r.is_recording ≡ true → IsSome r.flows) → HasGivenFile gave ended r
+    → (r.is_recording ≡ false → HasGivenRecords gave ended r)
     → IfErr result (λ f. OfRefusal f (λ x. (begun ≡ None) × IsFrontRefusal window text x))
     → IfErr result (λ f. OfRefusal f (IsTakeRefusal window w begun
     (IsRead (gave old) (gave now) (ended now))))
-file_refused window text w begun gave ended old now r (Ok v) was is same given of = tt
-file_refused {S} window text w begun gave ended old now r (Err f) was is same given of =
+text_refuses window text w begun gave ended old now r (Ok v) was is by same flows given parts of =
+    tt
+text_refuses {S} window text w begun gave ended old now r (Err f) was is by same flows given parts
+    of =
     subst (λ (s : S). OfRefusal f (IsTakeRefusal window w begun
     (IsRead (gave old) (gave s) (ended s)))) (sym is)
     (subst (λ (l : List ℕ). OfRefusal f (IsTakeRefusal window w begun
     (IsRead l (gave r.source) (ended r.source)))) was
-    (text_refused window text w begun gave ended r f same given of))
+    (text_refused window text w begun gave ended r f by flows same given parts of))

@@ -1,16 +1,15 @@
 -- What was read of files. What was read is told by a predicate: it holds of any octets that begin
 -- with it, and of no others where the source has ended (own).
-use Rattle.std.specs.Prelude.{◌≡◌, ℕ, ◌-◌, ◌^◌, ◌⊎◌, ⊤, List, [], ◌∷◌, ◌++◌, length, take, true}
-use Rattle.std.specs.Prelude.{Option, None, Some, IsSome, Result, Ok, Err}
+use Rattle.std.specs.Prelude.{◌≡◌, ℕ, ◌-◌, ◌^◌, ◌⊎◌, ⊤, List, [], ◌∷◌, ◌++◌, length, take}
+use Rattle.std.specs.Prelude.{Option, None, Some, Result, Ok, Err}
 use Rattle.std.specs.List.{AllZip}
-use Rattle.capture_engines.specs.Files.{fault_by, first_way, flows_in, other_ways}
+use Rattle.capture_engines.specs.Files.{HasFileText, fault_by, first_way, flows_in, other_ways}
 use Rattle.capture_engines.specs.declared.way.Way.{Way}
 use Rattle.flow.specs.declared.flows.Flows.{Flows}
 use Rattle.media_file.specs.Records.{Entry}
 use Rattle.media_file.specs.declared.fault.FileFault.TheVariants.{TooManyRecords}
-use Rattle.recording_reader.specs.Files.{AreFirst, CountsReadingFault, HasFront, IfFile}
-use Rattle.recording_reader.specs.Files.{IsFileFault, IsWholeFile, records_of_file, text_of_file}
-use Rattle.recording_reader.specs.Kinds.{is_recording}
+use Rattle.recording_reader.specs.Files.{AreFirst, CountsReadingFault, IfFile, IsFileFault}
+use Rattle.recording_reader.specs.Files.{IsWholeFile, records_of_file, text_of_file}
 use Rattle.recording_reader.specs.declared.fault.ReadingFault.{ReadingFault}
 use Rattle.recording_reader.specs.declared.fault.ReadingFault.TheVariants.{Capture}
 use Rattle.recording_reader.specs.declared.way.Standing.{Standing}
@@ -63,12 +62,11 @@ EndsBy flows octets records (Some f) =
     ⊎ ((f ≡ Capture TooManyRecords) × (length records ≡ most_counted)
     × AreFirst records (records_of_file flows octets))
 
--- The octets of a file that is taken so have these records up to this end. A capture's front is
--- whole, and a recording is taken by flows.
+-- A file that is taken so has these records behind its text, up to this end.
 pub record HasRecords (w : Way) (octets : List ℕ) (records : List Entry)
     (end : Option ReadingFault) : Type 0 where
-  pub front : HasFront octets (text_of_file octets)
-  pub by_flows : is_recording octets ≡ true → IsSome (flows_in w)
+  pub text : List ℕ
+  pub has_text : HasFileText w octets text
   pub ends : EndsBy (flows_in w) octets records end
 
 -- Files, each taken so, have these records, one file's behind the other's: each all that it has, and

@@ -2,11 +2,12 @@ use Rattle.std.proofs.Common.{[], ◌∷◌}
 use Rattle.run_outcome.specs.Moments.{WasRead}
 use Rattle.run_outcome.proofs.Refusals.{if_err_map, of_refusal_map}
 use Rattle.run_outcome.proofs.SetSums.{set_counted}
+use Rattle.capture_engines.specs.Files.{way_at}
 use Rattle.capture_engines.specs.Received.{IsTakeRefusal}
 use Rattle.capture_engines.proofs.OneOf.{first_at}
 use Rattle.stream_inspection.specs.Read.{NotesFile, ended_by}
-use Rattle.stream_inspection.proofs.Files.{if_end, if_ok}
-use Rattle.stream_inspection.proofs.captures.note_at.Goals as goal
+use Rattle.stream_inspection.proofs.Reads.{if_end, if_ok}
+use Rattle.stream_inspection.proofs.files.note_at.Goals as goal
 
 pub returns-clause-noted : goal.returns-clause-noted
 returns-clause-noted g c =
@@ -14,11 +15,11 @@ returns-clause-noted g c =
     if_ok c.note_one.result
     (λ end. if_end end _ _
     (λ found. first_at
-    (λ s. NotesFile (told s) end c.args.begun.now c.note_one.new.begun c.args.inspection.now
-    c.note_one.new.inspection)
-    c.args.captures.now c.args.place c.index-captures-place.result c.note_one.new.capture
+    (λ s. NotesFile (way_at c.args.ways.now c.args.place) (told s) end c.args.begun.now
+    c.note_one.new.begun c.args.inspection.now c.note_one.new.inspection)
+    c.args.files.now c.args.place c.index-files-place.result c.note_one.new.file
     c.requires.place found))
-    c.note_one.ensures.noted
+    (rw c.at-way.ensures at c.note_one.ensures.noted)
 
 pub returns-clause-refusal : goal.returns-clause-refusal
 returns-clause-refusal g c =
@@ -26,13 +27,13 @@ returns-clause-refusal g c =
     if_err_map c.note_one.result
     (λ f. of_refusal_map f
     (λ r is. first_at
-    (λ s. IsTakeRefusal (0 ∷ []) c.args.begun.now (told s) r)
-    c.args.captures.now c.args.place c.index-captures-place.result c.note_one.new.capture
+    (λ s. IsTakeRefusal (0 ∷ []) (way_at c.args.ways.now c.args.place) c.args.begun.now (told s) r)
+    c.args.files.now c.args.place c.index-files-place.result c.note_one.new.file
     c.requires.place is))
-    c.note_one.ensures.refusal
+    (rw c.at-way.ensures at c.note_one.ensures.refusal)
 
 pub returns-clause-failures : goal.returns-clause-failures
 returns-clause-failures g c =
-    set_counted g.S.ByteSource.failures c.args.captures.now c.args.place
-    c.index-captures-place.result c.note_one.new.capture (ended_by c.note_one.result)
+    set_counted g.S.ByteSource.failures c.args.files.now c.args.place
+    c.index-files-place.result c.note_one.new.file (ended_by c.note_one.result)
     c.requires.place c.note_one.ensures.failures
