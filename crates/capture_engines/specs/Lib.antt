@@ -1,4 +1,5 @@
 pub mod Files
+pub mod Seen
 pub mod Stopping
 pub mod Migrating
 pub mod MigrateRefused

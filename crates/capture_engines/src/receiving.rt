@@ -31,6 +31,7 @@ ghost use Rattle.st_format.specs.History.{GrewFrom, IsRead};
 
 use crate::intake::Intake;
 use crate::rescuing::receive_files;
+use crate::seen::{Seen, note_seen};
 use crate::way::{Way, unopened};
 use flow::Flows;
 use recording_reader::DatagramReader;
@@ -130,6 +131,7 @@ where
         octets_of(&said),
         captures,
         &[],
+        &mut [],
         state,
         output,
         &mut reception,
@@ -239,13 +241,15 @@ fn open_by<A: Allocator + Copy>(
     Intake::open(alloc, said, opening.ssrc, &opening.window)
 }
 
-/// Takes all files, each as `ways` say. `said` is room for a text.
+/// Takes all files, each as `ways` say, and notes in `seen` what was seen of them. `said` is room
+/// for a text.
 pub(crate) fn take_all<A: Allocator + Copy, S: ByteSource>(
     alloc: A,
     opening: &Asked<A>,
     begun: &mut Option<Intake<A>>,
     files: &mut [S],
     ways: &[Result<Flows, Refusal>],
+    seen: &mut [Seen],
     said: &mut [u8],
 ) -> Result<(), Fault>
     requires text { 65535 ≤ length said.old }
@@ -262,7 +266,7 @@ pub(crate) fn take_all<A: Allocator + Copy, S: ByteSource>(
         (sum_by S.failures files.new) ∷ []) }
 {
     for place in 0..files.len() {
-        take_at(alloc, opening, begun, files, ways, place, said)?;
+        take_at(alloc, opening, begun, files, ways, seen, place, said)?;
     }
     Ok(())
 }
@@ -274,6 +278,7 @@ fn take_at<A: Allocator + Copy, S: ByteSource>(
     begun: &mut Option<Intake<A>>,
     files: &mut [S],
     ways: &[Result<Flows, Refusal>],
+    seen: &mut [Seen],
     place: usize,
     said: &mut [u8],
 ) -> Result<(), Fault>
@@ -298,16 +303,19 @@ fn take_at<A: Allocator + Copy, S: ByteSource>(
         (sum_by S.failures files.new) ∷ []) }
 {
     let way = Way::at(ways, place);
-    take_one(alloc, opening, begun, &mut files[place], way, said)
+    let file = &mut files[place];
+    take_one(alloc, opening, begun, file, way, seen, place, said)
 }
 
-/// Takes a file. Where no receiver is open yet, its text opens one.
+/// Takes the file of a place. Where no receiver is open yet, its text opens one.
 fn take_one<A: Allocator + Copy, S: ByteSource>(
     alloc: A,
     opening: &Asked<A>,
     begun: &mut Option<Intake<A>>,
     file: &mut S,
     way: Way,
+    seen: &mut [Seen],
+    place: usize,
     said: &mut [u8],
 ) -> Result<(), Fault>
     requires text { 65535 ≤ length said.old }
@@ -328,6 +336,7 @@ fn take_one<A: Allocator + Copy, S: ByteSource>(
     };
     let text = &said[..reader.text_len()];
     let taken = take_opened(alloc, opening, begun, &mut reader, text);
+    note_seen(seen, place, &reader);
     reader.history();
     let _ = reader.into_inner();
     taken

@@ -21,6 +21,7 @@ use crate::intake::Intake;
 use crate::printing::print_tally;
 use crate::receiving::{Asked, Wanted, begin, read_opening, take_all};
 use crate::reception::Reception;
+use crate::seen::Seen;
 use crate::tally::Tally;
 use flow::Flows;
 use path_merge::Receiver;
@@ -44,6 +45,7 @@ pub(crate) enum Rescue<A: Allocator> {
 /// `is_sound`, what came before a file's fault is printed and saved too, and no file behind that one
 /// is read.
 ///
+/// What was seen of each file that was opened is noted at its place in `seen`, where there is one.
 /// What a receiver was given is answered by `reception` once the receiver is written: where the run
 /// ends well, or where `is_sound` and a file's fault alone ends it.
 ///
@@ -58,6 +60,7 @@ pub fn receive_files<A, S, K, O>(
     sdp: Option<&[u8]>,
     files: &mut [S],
     ways: &[Result<Flows, Refusal>],
+    seen: &mut [Seen],
     state: &mut K,
     output: &mut O,
     reception: &mut Option<Reception>,
@@ -97,7 +100,7 @@ where
     let opening = read_opening(alloc, wanted)?;
     let begun = begin(alloc, &opening, sdp)?;
     let tells = wanted.tells_refusals;
-    match rescue_files(alloc, &opening, begun, files, ways)? {
+    match rescue_files(alloc, &opening, begun, files, ways, seen)? {
         Rescue::Whole(intake) => put_out(intake, tells, state, output, reception),
         Rescue::Part(intake, fault) if is_sound => {
             put_part(intake, fault, tells, state, output, reception)
@@ -186,6 +189,7 @@ fn rescue_files<A: Allocator + Copy, S: ByteSource>(
     mut begun: Option<Intake<A>>,
     files: &mut [S],
     ways: &[Result<Flows, Refusal>],
+    seen: &mut [Seen],
 ) -> Result<Rescue<A>, Fault>
     ensures len { length files.new ≡ length files.old }
     ensures taken { IfOk result (IsRescue opening.now ways.now S.gave S.ended
@@ -199,7 +203,7 @@ fn rescue_files<A: Allocator + Copy, S: ByteSource>(
         ∷ [])) }
 {
     let mut said = room(alloc)?;
-    match take_all(alloc, opening, &mut begun, files, ways, &mut said) {
+    match take_all(alloc, opening, &mut begun, files, ways, seen, &mut said) {
         Ok(()) => match begun {
             Some(intake) => Ok(Rescue::Whole(intake)),
             None => Err(Fault::Refused(Refusal::ReceiveNoSdp)),

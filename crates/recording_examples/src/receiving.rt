@@ -74,6 +74,7 @@ fn run(
         sdp,
         sources.as_mut_slice(),
         ways,
+        &mut [],
         &mut state,
         &mut printed,
         &mut reception,

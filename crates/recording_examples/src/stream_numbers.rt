@@ -79,6 +79,7 @@ fn is_told(global: Global, capture: &MemorySink, told: &[u8]) -> Result<bool, Fa
         None,
         &mut captures,
         &[],
+        &mut [],
         &mut printed,
     );
     Ok(ended.is_ok() && printed.held() == told)

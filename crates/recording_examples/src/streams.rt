@@ -153,6 +153,7 @@ fn streams_of_a_capture(rt: HostRuntime) -> Result<(), Fail> {
             None,
             &mut captures,
             &[],
+            &mut [],
             &mut printed,
         );
         met(&rt, ended.is_ok() && printed.held() == text);
@@ -209,6 +210,7 @@ fn paths_after_each_other(rt: HostRuntime) -> Result<(), Fail> {
         Some(SDP),
         &mut captures,
         &[],
+        &mut [],
         &mut printed,
     );
     let is_cut = matches!(
@@ -231,6 +233,7 @@ fn no_text(rt: HostRuntime) -> Result<(), Fail> {
         None,
         &mut captures,
         &[],
+        &mut [],
         &mut printed,
     );
     let is_refused = matches!(ended, Err(Fault::Refused(Refusal::ReceiveNoSdp)));
@@ -264,6 +267,7 @@ fn run(
         Some(SDP),
         sources.as_mut_slice(),
         ways,
+        &mut [],
         &mut printed,
     );
     Ok((outcome, printed.held() == told))
@@ -307,6 +311,7 @@ pub fn are_told<A: Allocator + Copy>(global: Global, alloc: A) -> Result<Option<
         None,
         &mut captures,
         &[],
+        &mut [],
         &mut printed,
     );
     let run = Run {

@@ -17,7 +17,7 @@ ghost use Rattle.stream_inspection.specs.Read.{ended_by};
 use crate::inspection::Inspection;
 use crate::records::note_records;
 use crate::target::{Target, settle};
-use capture_engines::{Way, unopened};
+use capture_engines::{Seen, Way, note_seen, unopened};
 use flow::Flows;
 use recording_reader::{DatagramReader, ReadingFault};
 use run_outcome::{Fault, Refusal};
@@ -26,7 +26,8 @@ use std::alloc::Allocator;
 
 /// Notes files, each taken as `ways` say, one after the other, up to the end of the last or the first
 /// fault behind a file's front, which is answered; no file behind it is read. Where no target was
-/// begun with, the text of the first file says it. `said` is room for a text.
+/// begun with, the text of the first file says it. What was seen of them is noted in `seen`. `said`
+/// is room for a text.
 ///
 /// # Errors
 ///
@@ -38,6 +39,7 @@ pub(crate) fn note_files<A: Allocator + Copy, S: ByteSource>(
     inspection: &mut Inspection<A>,
     files: &mut [S],
     ways: &[Result<Flows, Refusal>],
+    seen: &mut [Seen],
     said: &mut [u8],
 ) -> Result<Option<ReadingFault>, Fault>
     requires { 65535 ≤ length said.old }
@@ -51,7 +53,7 @@ pub(crate) fn note_files<A: Allocator + Copy, S: ByteSource>(
         (sum_by S.failures files.new) ∷ []) }
 {
     for place in 0..files.len() {
-        let end = note_at(alloc, begun, inspection, files, ways, place, said)?;
+        let end = note_at(alloc, begun, inspection, files, ways, seen, place, said)?;
         if let Some(fault) = end {
             return Ok(Some(fault));
         }
@@ -66,6 +68,7 @@ fn note_at<A: Allocator + Copy, S: ByteSource>(
     inspection: &mut Inspection<A>,
     files: &mut [S],
     ways: &[Result<Flows, Refusal>],
+    seen: &mut [Seen],
     place: usize,
     said: &mut [u8],
 ) -> Result<Option<ReadingFault>, Fault>
@@ -86,16 +89,19 @@ fn note_at<A: Allocator + Copy, S: ByteSource>(
         (sum_by S.failures files.new) ∷ []) }
 {
     let way = Way::at(ways, place);
-    note_one(alloc, begun, inspection, &mut files[place], way, said)
+    let file = &mut files[place];
+    note_one(alloc, begun, inspection, file, way, seen, place, said)
 }
 
-/// Notes a file. Where no target was begun with, its text says it.
+/// Notes the file of a place. Where no target was begun with, its text says it.
 fn note_one<A: Allocator + Copy, S: ByteSource>(
     alloc: A,
     begun: &mut Option<Target>,
     inspection: &mut Inspection<A>,
     file: &mut S,
     way: Way,
+    seen: &mut [Seen],
+    place: usize,
     said: &mut [u8],
 ) -> Result<Option<ReadingFault>, Fault>
     requires { 65535 ≤ length said.old }
@@ -115,6 +121,7 @@ fn note_one<A: Allocator + Copy, S: ByteSource>(
     };
     let text = &said[..reader.text_len()];
     let noted = note_opened(alloc, begun, inspection, &mut reader, text);
+    note_seen(seen, place, &reader);
     reader.history();
     let _ = reader.into_inner();
     noted

@@ -13,7 +13,7 @@ use crate::inspection::Inspection;
 use crate::target::{Target, Wanted, begin};
 use crate::telling::text_of;
 use crate::text::Form;
-use capture_engines::of_reading;
+use capture_engines::{Seen, of_reading};
 use flow::Flows;
 use recording_reader::ReadingFault;
 use run_outcome::{Fault, Refusal, room};
@@ -33,7 +33,8 @@ use std::alloc::Allocator;
 /// `sdp` is an SDP text, where one is given; it is read only where it says what is wanted. A file
 /// that begins as a recording of another tool is taken by the flows of its place in `ways`, or
 /// refused so; a file of which they say nothing is a capture. Each file is read once, one after the
-/// other, up to the first fault behind a file's front.
+/// other, up to the first fault behind a file's front. What was seen of each file that was opened is
+/// noted at its place in `seen`, where there is one.
 ///
 /// # Errors
 ///
@@ -47,6 +48,7 @@ pub fn inspect_streams<A, S, O>(
     sdp: Option<&[u8]>,
     files: &mut [S],
     ways: &[Result<Flows, Refusal>],
+    seen: &mut [Seen],
     output: &mut O,
 ) -> Result<(), Fault>
 where
@@ -67,7 +69,15 @@ where
     let mut begun = begin(alloc, wanted, sdp)?;
     let mut said = room(alloc)?;
     let mut inspection = Inspection::new(alloc);
-    let end = note_files(alloc, &mut begun, &mut inspection, files, ways, &mut said)?;
+    let end = note_files(
+        alloc,
+        &mut begun,
+        &mut inspection,
+        files,
+        ways,
+        seen,
+        &mut said,
+    )?;
     let Some(target) = begun else {
         return Err(Fault::Refused(Refusal::ReceiveNoSdp));
     };
