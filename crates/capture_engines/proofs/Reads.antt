@@ -6,7 +6,7 @@ use Rattle.std.specs.Prelude.{IfErr, OnOk}
 use Rattle.std.proofs.lemmas.List.{map-append}
 use Rattle.flow.specs.declared.flows.Flows.{Flows}
 use Rattle.media_file.specs.Records.{Entry}
-use Rattle.recording_reader.specs.FileReader.{FileReader, HasGivenFile, IsKnownBy}
+use Rattle.recording_reader.specs.FileReader.{FileReader, HasGivenFile, IsKnownBy, IsSameFile}
 use Rattle.recording_reader.specs.Files.{AreFirst, HaveFileRecords, IfFile, IsFileFault}
 use Rattle.recording_reader.specs.Files.{records_of_file, text_of_file}
 use Rattle.recording_reader.specs.declared.way.Standing.{Standing}
@@ -28,6 +28,16 @@ use Rattle.capture_engines.specs.Files.{fault_by, file_datagrams, flows_in, octe
 use Rattle.capture_engines.specs.Taking.{FileGoes, Holding, RecordsGo, Stands, TakesRecords}
 use Rattle.capture_engines.specs.Taking.{said_behind, said_by}
 use Rattle.capture_engines.specs.declared.way.Way.{Way}
+
+-- a file stays the same over two calls
+pub same_twice : {S : Type 0} (a b c : FileReader S) → IsSameFile a b → IsSameFile b c
+    → IsSameFile a c
+same_twice a b c first more = record {
+  before = more.before ∙ first.before;
+  flows = more.flows ∙ first.flows;
+  kind = more.kind ∙ first.kind;
+  text = more.text ∙ first.text;
+}
 
 pub said_same : (said : Option (List ℕ)) (text octets : List ℕ) → text_of_file octets ≡ text
     → said_by said text ≡ said_behind said (octets ∷ [])

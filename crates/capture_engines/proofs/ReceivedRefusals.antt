@@ -159,8 +159,8 @@ module _ {S : Type 0} (gave : S → List ℕ) (ended : S → Type 0) (r : FileRe
       by_kind : (b : Bool) → r.is_recording ≡ b → HasFileText w octets r.text
       by_kind false kind =
           inr (
-            (given octets read).kind ∙ kind,
             records_text r.records ++ (parts kind octets read).behind,
+            (given octets read).kind ∙ kind,
             (parts kind octets read).front,
           )
       by_kind true kind =

@@ -98,7 +98,7 @@ capture_stops : (told : List ℕ → Type 0) (r : Refusal) → StopsFile way.Cap
 capture_stops told r (inl capture) = capture
 capture_stops told (why.Recording f) (inr (inl is)) = absurd (no_flows is.0)
 capture_stops told r (inr (inl is)) = absurd is
-capture_stops told r (inr (inr (inl is))) = absurd (no_flows is.1.0)
+capture_stops told r (inr (inr (inl is))) = absurd (no_flows is.1)
 capture_stops told r (inr (inr (inr is))) = absurd is
 
 captures_stop : {S : Type 0} (told : S → List ℕ → Type 0) (captures : List S) (r : Refusal)
@@ -113,18 +113,19 @@ none_of [] is = is
 none_of (s ∷ ss) (inl is) = is
 none_of (s ∷ ss) (inr is) = none_of ss is
 
+-- the text of a file that is taken as a capture is that of its front
+capture_front : (window : List ℕ) (r : Refusal) (octets text : List ℕ)
+    → HasFileText way.Capture octets text → IsFrontRefusal window text r
+    → (x : List ℕ × List ℕ) × (front_at octets ≡ Ok x) × IsFrontRefusal window x.0 r
+capture_front window r octets text (inl recording) no = absurd (no_flows recording.1)
+capture_front window r octets text (inr (rest, kind, is)) no = ((text, rest), is, no)
+
 -- a capture by whose text none is opened
 capture_text : (window : List ℕ) (told : List ℕ → Type 0) (r : Refusal)
     → IsFileOpenedRefusal window way.Capture told r → IsOpenedRefusal window told r
 capture_text window told (why.Capture f) is = absurd is
 capture_text window told r is = λ octets known.
-    let opened = is octets known in front octets opened.0 opened.1.0 opened.1.1
-  where
-    front : (octets text : List ℕ) → HasFileText way.Capture octets text
-        → IsFrontRefusal window text r
-        → (x : List ℕ × List ℕ) × (front_at octets ≡ Ok x) × IsFrontRefusal window x.0 r
-    front octets text (inl recording) no = absurd (no_flows recording.1.0)
-    front octets text (inr capture) no = ((text, capture.1.0), capture.1.1, no)
+    capture_front window r octets (is octets known).0 (is octets known).1 (is octets known).2
 
 first_refused : {S : Type 0} (window : List ℕ) (told : S → List ℕ → Type 0) (captures : List S)
     (r : Refusal) → FirstFileRefuses window [] told captures r

@@ -57,8 +57,7 @@ fault_by (Recording f) = of_recording f
 abbrev pub HasFileText : Way → List ℕ → List ℕ → Type 0
 HasFileText w octets text =
     ((is_recording octets ≡ true) × IsSome (flows_in w) × (text ≡ []))
-    ⊎ ((is_recording octets ≡ false)
-    × ((rest : List ℕ) × (front_at octets ≡ Ok (text, rest))))
+    ⊎ ((rest : List ℕ) × (is_recording octets ≡ false) × (front_at octets ≡ Ok (text, rest)))
 
 -- ---- its datagrams
 

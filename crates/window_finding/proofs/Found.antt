@@ -1,23 +1,29 @@
 -- What was found of one file.
 use Rattle.std.proofs.Common.{◌≡◌, ℕ, ◌≤◌, ◌⊎◌, List, [], ◌∷◌, ◌++◌, length, Option, None, Some}
 use Rattle.std.proofs.Common.{Result, Ok, Err, inl, inr, refl, sym, ap, subst, ◌∙◌, append_assoc}
-use Rattle.std.proofs.Common.{map, take, zero, suc}
+use Rattle.std.proofs.Common.{append-nil, map, take, zero, suc}
 use Rattle.std.proofs.lemmas.List.{map-append}
-use Rattle.std.specs.Prelude.{IfOk, MatchOption, OnOk}
+use Rattle.std.specs.Prelude.{IfOk, MatchOption, OnOk, ⊤}
 use Rattle.flow.specs.declared.flows.Flows.{Flows}
 use Rattle.media_file.specs.Records.{Entry}
-use Rattle.recording_reader.specs.FileReader.{FileReader, HasGivenFile, IsKnownBy}
+use Rattle.recording_reader.specs.FileReader.{FileReader, FindsOne, HasGivenFile, IsKnownBy}
+use Rattle.recording_reader.specs.FileReader.{octets_at_hand}
 use Rattle.recording_reader.specs.Files.{AreFirst, records_of_file}
 use Rattle.recording_reader.specs.declared.way.Standing.{Standing}
 use Rattle.recording_reader.specs.declared.way.Standing.TheVariants.{Reads}
+use Rattle.run_outcome.specs.Refusing.{OfRefusal}
+use Rattle.run_outcome.specs.declared.fault.Fault.{Fault}
+use Rattle.run_outcome.specs.declared.fault.Fault.TheVariants.{Memory}
+use Rattle.run_outcome.specs.declared.refusal.Refusal.{Refusal}
 use Rattle.st_format.specs.History.{IsRead}
 use Rattle.capture_engines.specs.Files.{file_datagrams, flows_in, octets_of}
+use Rattle.capture_engines.specs.Stopping.{IsReadingStop}
 use Rattle.capture_engines.specs.Taking.{FileGoes, RecordsGo, said_behind, said_by}
 use Rattle.capture_engines.specs.declared.way.Way.{Way}
 use Rattle.capture_engines.proofs.Reads.{ended_has, file_goes, said_same}
 use Rattle.window_finding.specs.Finding.{AnnouncesType, FindsBy, FindsFile, FindsRecords, Stands}
 use Rattle.window_finding.specs.First.{first_timestamps}
-use Rattle.window_finding.specs.Turns.{IsDone}
+use Rattle.window_finding.specs.Turns.{IsDone, IsStop}
 use Rattle.window_finding.specs.declared.finder.Finder.{Finder}
 use Rattle.window_finding.specs.declared.finder.Sought.{Sought}
 use Rattle.window_finding.proofs.Noted.{first_full}
@@ -42,6 +48,25 @@ turn_found p q s t w w' ds came came' d sought type more noted is =
     ∙ ap (λ (n : ℕ). first_by p n (all ++ d ∷ [])) type
     ∙ ap (λ (l : List (List ℕ)). first_by p s l)
     (append_assoc ds came (d ∷ []) ∙ ap (λ (l : List (List ℕ)). ds ++ l) (sym more))
+
+-- where no record was read
+pub none_came : {A : Type 0} (b : Finder A) (ds : List (List ℕ)) (records : List Entry)
+    → records ≡ [] → b.window.items ≡ first_by b.sought b.payload_type ds
+    → b.window.items ≡ first_by b.sought b.payload_type (ds ++ octets_of records)
+none_came b ds records none is =
+    is
+    ∙ ap (first_by b.sought b.payload_type)
+    (sym (ap (λ (es : List Entry). ds ++ octets_of es) none ∙ append-nil ds))
+
+-- the datagrams of one record more
+pub record_came : {S : Type 0} (old new : FileReader S) (octets : List ℕ) → FindsOne old new
+    → octets ≡ octets_at_hand new.at_hand
+    → octets_of new.records ≡ octets_of old.records ++ octets ∷ []
+record_came old new octets found is =
+    let one : octets ≡ found.entry.octets = is ∙ ap octets_at_hand found.at_hand in
+    ap octets_of found.records
+    ∙ map-append (λ (e : Entry). e.octets) old.records (found.entry ∷ [])
+    ∙ ap (λ (l : List ℕ). octets_of old.records ++ l ∷ []) (sym one)
 
 -- by what a finder sought, a list of timestamps is the first of these datagrams
 abbrev pub IsFirst : {A : Type 0} → Finder A → List ℕ → List (List ℕ) → Type 0
@@ -184,6 +209,15 @@ file_found_if {S} o gave ended old new r w text b a (Ok v) before now by same do
     (subst (λ (l : List ℕ). FindsFile o w (IsRead l (gave r.source) (ended r.source)) b a) before
     (file_found o gave ended r w text b a by same done given found))
 file_found_if o gave ended old new r w text b a (Err e) before now by same done given found = tt
+
+-- what ended it, as `receive` tells that; where memory was wanted it is no refusal
+pub stop_told : (standing : Standing) (count : ℕ) (P : Refusal → Type 0) (f : Fault)
+    → IsStop standing count f ⊎ OfRefusal f P
+    → (⊤ × IsReadingStop standing count f) ⊎ (⊤ × OfRefusal f P)
+stop_told standing count P f (inl (inl stop)) = inl (tt, stop)
+stop_told standing count P f (inl (inr wanted)) =
+    inr (tt, subst (λ (x : Fault). OfRefusal x P) (sym wanted.1) tt)
+stop_told standing count P f (inr refused) = inr (tt, refused)
 
 -- ---- the beginning
 

@@ -1,4 +1,6 @@
-use Rattle.std.proofs.Common.{ap, arith, length, length-append, refl, ◌∙◌}
+use Rattle.std.proofs.Common.{◌∷◌, [], ap, arith, inl, inr, length, length-append, refl, ◌∙◌}
+use Rattle.recording_reader.specs.declared.way.Standing.TheVariants.{Reads}
+use Rattle.capture_engines.proofs.Reads.{same_twice}
 use Rattle.capture_engines.proofs.Taken.{takes_found, takes_no_records, takes_same}
 use Rattle.capture_engines.proofs.intake.Intake.take_records.Goals as goal
 
@@ -11,3 +13,36 @@ loop-init g c = record {
   count = ap length c.requires.none;
   taken = takes_no_records c.args.self.now c.args.reader.now.records c.requires.none;
 }
+
+pub loop-preserved-in-Ok-true : goal.loop-preserved-in-Ok-true
+loop-preserved-in-Ok-true g c =
+    let w = c.in-Ok-true in
+    let before = c.loop.invariant in
+    let old = c.loop.reader in
+    let found = rw w.field-0-is at w.ensures.found in
+    record {
+      reads = found.reads;
+      same = same_twice c.args.reader.now old c.advance.new.self before.same w.ensures.same;
+      names = w.ensures.names ∙ before.names;
+      failures = w.ensures.device before.reads ∙ before.failures;
+      count = omega (
+        arith,
+        before.count,
+        ap length found.records,
+        length-append old.records (found.entry ∷ []),
+      );
+      taken = takes_found old c.advance.new.self c.args.self.now c.loop.self
+          c.take_at_hand.new.self found before.taken c.take_at_hand.ensures;
+    }
+
+pub returns-in-Ok-false-clause-taken : goal.returns-in-Ok-false-clause-taken
+returns-in-Ok-false-clause-taken g c =
+    let w = c.in-Ok-false in
+    let found = rw w.field-0-is at w.ensures.found in
+    takes_same c.args.self.now c.loop.self c.loop.reader.records c.advance.new.self.records
+    found.records c.loop.invariant.taken
+
+pub returns-in-Err-clause-taken : goal.returns-in-Err-clause-taken
+returns-in-Err-clause-taken g c =
+    takes_same c.args.self.now c.loop.self c.loop.reader.records c.advance.new.self.records
+    c.in-Err.ensures.fault.records c.loop.invariant.taken
