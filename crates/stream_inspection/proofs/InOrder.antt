@@ -15,7 +15,7 @@ use Rattle.stream_inspection.specs.Read.{HasRecords, HaveRecords, IfEnd, MayBe, 
 use Rattle.stream_inspection.specs.Read.{NotesFiles, NotesUpTo, Settles}
 use Rattle.stream_inspection.specs.declared.inspection.Inspection.{Inspection}
 use Rattle.stream_inspection.specs.declared.target.Target.{Target}
-use Rattle.stream_inspection.proofs.Reads.{if_end}
+use Rattle.stream_inspection.proofs.Readings.{if_end}
 
 abbrev Ways : Type 0
 Ways = List (Result Flows Refusal)

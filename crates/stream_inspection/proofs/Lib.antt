@@ -1,7 +1,7 @@
 mod Answering
 mod NumberLaws
 mod Noting
-mod Reads
+mod Readings
 mod InOrder
 mod Told
 mod Moments

@@ -6,7 +6,7 @@ use Rattle.capture_engines.specs.Files.{way_at}
 use Rattle.capture_engines.specs.Received.{IsTakeRefusal}
 use Rattle.capture_engines.proofs.OneOf.{first_at}
 use Rattle.stream_inspection.specs.Read.{NotesFile, ended_by}
-use Rattle.stream_inspection.proofs.Reads.{if_end, if_ok}
+use Rattle.stream_inspection.proofs.Readings.{if_end, if_ok}
 use Rattle.stream_inspection.proofs.files.note_at.Goals as goal
 
 pub returns-clause-noted : goal.returns-clause-noted

@@ -2,7 +2,7 @@ use Rattle.std.proofs.Common.{[], ◌∷◌, inl, rules}
 use Rattle.run_outcome.proofs.Refusals.{of_refusal_map}
 use Rattle.run_outcome.proofs.SetSums.{counted_by}
 use Rattle.stream_inspection.specs.Read.{ended_by}
-use Rattle.stream_inspection.proofs.Reads.{file_noted_if, text_refuses}
+use Rattle.stream_inspection.proofs.Readings.{file_noted_if, text_refuses}
 use Rattle.stream_inspection.proofs.files.note_one.Goals as goal
 
 pub returns-in-Err-clause-refusal : goal.returns-in-Err-clause-refusal

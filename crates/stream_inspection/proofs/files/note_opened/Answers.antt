@@ -1,4 +1,4 @@
-use Rattle.stream_inspection.proofs.Reads.{records_noted}
+use Rattle.stream_inspection.proofs.Readings.{records_noted}
 use Rattle.stream_inspection.proofs.files.note_opened.Goals as goal
 
 pub returns-clause-noted : goal.returns-clause-noted

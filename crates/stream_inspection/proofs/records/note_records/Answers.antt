@@ -1,4 +1,5 @@
-use Rattle.std.proofs.Common.{◌∙◌, ap, arith, length, length-append, refl}
+use Rattle.std.proofs.Common.{◌∷◌, [], ap, arith, inl, inr, length, length-append, refl, ◌∙◌}
+use Rattle.capture_engines.proofs.Reads.{same_twice}
 use Rattle.stream_inspection.proofs.Noting.{notes_found, notes_no_records, notes_same}
 use Rattle.stream_inspection.proofs.records.note_records.Goals as goal
 
@@ -12,3 +13,37 @@ loop-init g c = record {
   noted = notes_no_records c.args.target.now c.args.inspection.now c.args.reader.now.records
       c.requires.none;
 }
+
+pub loop-preserved-in-Ok-true : goal.loop-preserved-in-Ok-true
+loop-preserved-in-Ok-true g c =
+    let w = c.in-Ok-true in
+    let before = c.loop.invariant in
+    let old = c.loop.reader in
+    let found = rw w.field-0-is at w.ensures.found in
+    record {
+      reads = found.reads;
+      same = same_twice c.args.reader.now old c.advance.new.self before.same w.ensures.same;
+      names = w.ensures.names ∙ before.names;
+      failures = w.ensures.device before.reads ∙ before.failures;
+      count = omega (
+        arith,
+        before.count,
+        ap length found.records,
+        length-append old.records (found.entry ∷ []),
+      );
+      noted = notes_found c.args.target.now old c.advance.new.self c.args.inspection.now
+          c.loop.inspection c.note_at_hand.new.self found before.noted
+          c.in_ok-note_at_hand-in-Ok-true.ensures;
+    }
+
+pub returns-in-Ok-false-clause-noted : goal.returns-in-Ok-false-clause-noted
+returns-in-Ok-false-clause-noted g c =
+    let w = c.in-Ok-false in
+    let found = rw w.field-0-is at w.ensures.found in
+    notes_same c.args.target.now c.args.inspection.now c.loop.inspection c.loop.reader.records
+    c.advance.new.self.records found.records c.loop.invariant.noted
+
+pub returns-in-Err-clause-noted : goal.returns-in-Err-clause-noted
+returns-in-Err-clause-noted g c =
+    notes_same c.args.target.now c.args.inspection.now c.loop.inspection c.loop.reader.records
+    c.advance.new.self.records c.in-Err.ensures.fault.records c.loop.invariant.noted
