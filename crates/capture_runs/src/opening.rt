@@ -200,8 +200,14 @@ impl<'a> Files<'a> {
             self.new.ways.items self.new.looked.items)) }
     {
         let mut looked = files_of(rt, asked.recordings, true)?;
-        let (said, ways) = (text_of(&self.said), self.ways.as_slice());
-        match find_in(rt, asked.wanted, sought, said, &mut looked, ways) {
+        match find_in(
+            rt,
+            asked.wanted,
+            sought,
+            text_of(&self.said),
+            &mut looked,
+            self.ways.as_slice(),
+        ) {
             Ok(found) => {
                 self.recordings = fresh_files(rt, looked)?;
                 self.found = Some(found);
