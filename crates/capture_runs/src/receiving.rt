@@ -1,6 +1,6 @@
 //! `receive` over the devices of this machine.
 ghost use Rattle.std.specs.Prelude.{◌≡◌, ◌⊎◌, ◌∷◌, [], ⊤, Err, IfErr, IsErr, IsFalse, IsSome};
-ghost use Rattle.std.specs.Prelude.{IsTrue, MatchOption, None, OnOk, length, sum_by};
+ghost use Rattle.std.specs.Prelude.{IsTrue, MatchOption, None, OnErr, OnOk, length, sum_by};
 ghost use Rattle.std.specs.List.{zip};
 ghost use Rattle.std.specs.Option.{option_copied};
 ghost use Rattle.capture_engines.specs.Counted.{CountsReceived};
@@ -124,12 +124,17 @@ fn take(
         (CountsReceived (window_text files.old.found wanted.entry.window.now)
         wanted.entry.ssrc.now (said_text files.old.said) files.old.ways.items ReplayedRead
         (zip files.old.recordings.items files.new.recordings.items))) }
-    ensures rescued { IfErr result (λ f. MatchOption reception.new ⊤ (λ r. IsTrue is_sound
+    // Where what came before a fault was saved: a fault that speaks of the devices as they are.
+    ensures left { OnErr result (MatchOption reception.new ⊤ (λ r. IsTrue is_sound
+        × ((f : Cause) × Blames (counts (sum_by replayed_failures files.old.recordings.items)
+        (sum_by replayed_failures files.new.recordings.items)
+        ∷ counts (sink_failures state.old) (sink_failures state.new)
+        ∷ counts (output_failures output.old) (output_failures output.new) ∷ []) f
         × Rescues (window_text files.old.found wanted.entry.window.now)
         wanted.entry.ssrc.now (said_text files.old.said) files.old.ways.items replayed_gave
         replayed_ended f (zip files.old.recordings.items files.new.recordings.items)
         wanted.entry.tells_refusals (output_took output.old) (output_took output.new)
-        (sink_took state.old) (sink_took state.new) r)) }
+        (sink_took state.old) (sink_took state.new) r))) }
     ensures refusal { IfErr result (λ f. OfRefusal f
         (IsReceivingRefusal (window_text files.old.found wanted.entry.window.now)
         wanted.entry.ssrc.now (said_text files.old.said) files.old.ways.items ReplayedRead

@@ -1,4 +1,5 @@
 use Rattle.std.proofs.Common.{◌∙◌, ap, length, sym}
+use Rattle.capture_runs.proofs.Told.{left_by}
 use Rattle.command_end.proofs.Outcomes.{vec_back}
 use Rattle.capture_runs.proofs.receiving.take.Goals as goal
 
@@ -20,14 +21,16 @@ returns-clause-counted c =
     (rw (c.as_mut_slice.ensures.value, c.window_of.ensures, c.text_of.ensures,
     c.as_slice.ensures.value) at c.receive_files.ensures.counted)
 
-pub returns-clause-rescued : goal.returns-clause-rescued
-returns-clause-rescued c =
+pub returns-clause-left : goal.returns-clause-left
+returns-clause-left c =
     let same = ap length c.as_mut_slice.ensures.value in
     rw (vec_back c.args.files.now.recordings.len c.args.files.now.recordings.items
     c.receive_files.new.files (sym c.as_mut_slice.ensures.len ∙ same)
     (c.receive_files.ensures.len ∙ same))
+    (left_by c.receive_files.result c.receive_files.new.reception _ _ _
+    (rw c.as_mut_slice.ensures.value at c.receive_files.ensures.failures)
     (rw (c.as_mut_slice.ensures.value, c.window_of.ensures, c.text_of.ensures,
-    c.as_slice.ensures.value) at c.receive_files.ensures.rescued)
+    c.as_slice.ensures.value) at c.receive_files.ensures.rescued))
 
 pub returns-clause-refusal : goal.returns-clause-refusal
 returns-clause-refusal c =
