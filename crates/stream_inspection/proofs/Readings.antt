@@ -1,10 +1,11 @@
 -- What was noted of a file that a reader read.
 use Rattle.std.proofs.Common.{◌≡◌, ◌∙◌, ℕ, ◌⊎◌, inl, inr, List, [], ◌∷◌, ◌++◌, length, Bool, true}
 use Rattle.std.proofs.Common.{false, cond, Option, None, Some, Result, Ok, Err, refl, ap, sym, subst}
-use Rattle.std.specs.Prelude.{IfErr, IfOk, IsSome, OnOk}
+use Rattle.std.specs.Prelude.{IfErr, IfOk, IsSome, MatchOption, OnOk}
 use Rattle.capture_engines.specs.Files.{HasFileText, flows_in}
 use Rattle.capture_engines.specs.Received.{IsFrontRefusal, IsTakeRefusal}
 use Rattle.capture_engines.specs.declared.way.Way.{Way}
+use Rattle.capture_engines.proofs.Blaming.{reading_blames}
 use Rattle.capture_engines.proofs.ReceivedRefusals.{text_refused}
 use Rattle.flow.specs.declared.flows.Flows.{Flows}
 use Rattle.media_file.specs.Faults.{file_fault_origin}
@@ -19,6 +20,7 @@ use Rattle.recording_reader.specs.declared.fault.ReadingFault.{ReadingFault}
 use Rattle.recording_reader.specs.declared.fault.ReadingFault.TheVariants.{Capture, Recording}
 use Rattle.recording_reader.specs.declared.way.Standing.{Standing}
 use Rattle.recording_reader.specs.declared.way.Standing.TheVariants.{Ended, Failed, Reads}
+use Rattle.run_outcome.specs.Fault.{Accounts, counts}
 use Rattle.run_outcome.specs.Refusing.{OfRefusal}
 use Rattle.run_outcome.specs.declared.fault.Fault.{Fault}
 use Rattle.st_format.specs.Given.{IfOfContent, OfContent, OfDevice, OfMemory, Origin}
@@ -27,7 +29,7 @@ use Rattle.st_format.proofs.Origins.{if_content, if_content_weaker}
 use Rattle.stream_inspection.specs.Aim.{Announces}
 use Rattle.stream_inspection.specs.Inspected.{IsInspected, Notes}
 use Rattle.stream_inspection.specs.Read.{EndsBy, HasRecords, IfEnd, IsEnd, MayBe, NotesFile}
-use Rattle.stream_inspection.specs.Read.{NotesRecords, Settles, SettlesBy}
+use Rattle.stream_inspection.specs.Read.{NotesRecords, Settles, SettlesBy, counts_end, ended_by}
 use Rattle.stream_inspection.specs.declared.inspection.Inspection.{Inspection}
 use Rattle.stream_inspection.specs.declared.target.Target.{Target}
 
@@ -44,6 +46,12 @@ file_weaker (Recording f) P Q then is = if_content_weaker recording_fault_origin
 pub if_end : (end : Option ReadingFault) (P Q : Type 0) → (P → Q) → IfEnd end P → IfEnd end Q
 if_end None P Q then is = then is
 if_end (Some f) P Q then is = file_weaker f P Q then is
+
+-- what an end says of the source
+pub end_counted : (end : Option ReadingFault) (old new : ℕ) → counts_end end old new
+    → Accounts (ended_by (Ok end)) (counts old new ∷ [])
+end_counted None old new is = is
+end_counted (Some f) old new is = reading_blames f old new is
 
 -- what holds at each of some octets, where the fault is the content's
 each_content : (o : Origin) (told P : List ℕ → Type 0)
@@ -77,13 +85,25 @@ may_be : (after : Option Target) (t u : Target) → after ≡ Some t → MayBe a
 may_be None t u is may = absurd (none_some t None refl is)
 may_be (Some s) t u is may = may ∙ some_one s t is
 
+settles_by : (before after : Option Target) (t : Target) (text : List ℕ) → after ≡ Some t
+    → ((s : Target) → before ≡ Some s → t ≡ s) → (before ≡ None → Announces text t)
+    → SettlesBy before text after
+settles_by (Some s) after t text is kept says = is ∙ ap (λ (u : Target). Some u) (kept s refl)
+settles_by None after t text is kept says = (t, is, says refl)
+
+-- where nothing was begun with, the text refuses
+pub none_begun : (begun : Option Target) (Refuses : Type 0) → MatchOption begun Refuses (λ _. ⊥)
+    → (begun ≡ None) × Refuses
+none_begun None Refuses is = (refl, is)
+none_begun (Some t) Refuses is = absurd is
+
 -- records were noted of what is looked for, which was settled by a text
 pub records_noted : {A : Type 0} (text : List ℕ) (records : List Entry)
     (before after : Option Target) (t : Target) (old new : Inspection A) → after ≡ Some t
-    → SettlesBy before text after → Notes t records old new
-    → NotesRecords text records before after old new
-records_noted text records before after t old new is settles noted = record {
-  settles = settles;
+    → ((s : Target) → before ≡ Some s → t ≡ s) → (before ≡ None → Announces text t)
+    → Notes t records old new → NotesRecords text records before after old new
+records_noted text records before after t old new is kept says noted = record {
+  settles = settles_by before after t text is kept says;
   noted = λ u may earlier i.
       let same : u ≡ t = may_be after t u is may in
       subst (λ (x : Target). IsInspected x new (earlier ++ records)) (sym same)

@@ -69,6 +69,12 @@ begun_none (Given u) sdp begun is none = absurd (none_some u begun none is)
 begun_none Said None begun is none = refl
 begun_none Said (Some text) begun is none = absurd (none_some is.0 begun none is.1)
 
+-- begun with by an SDP text
+pub said_begun : (sdp : Option (List ℕ)) (text : List ℕ) (t : Target) → sdp ≡ Some text
+    → Announces text t → IsBegun Said sdp (Some t)
+said_begun sdp text t is says =
+    subst (λ (o : Option (List ℕ)). IsBegun Said o (Some t)) (sym is) (t, refl, says)
+
 -- a text speaks of no allocator
 each_line : (A : Type 0) (form : Form) (ps : List Packet) (ks : List StreamKey)
     → flat_map (stream_lines {A = A} form)

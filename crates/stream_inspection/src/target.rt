@@ -1,11 +1,11 @@
 //! What the datagrams of a stream are to be.
-ghost use Rattle.std.specs.Prelude.{◌≡◌, ◌∷◌, [], IfErr, IfOk, None, Some};
+ghost use Rattle.std.specs.Prelude.{◌≡◌, ◌∷◌, [], IfErr, IfOk, MatchOption, None, Some};
 ghost use Rattle.std.specs.Option.{option_copied};
 ghost use Rattle.capture_engines.specs.Received.{IsFrontRefusal, IsOpeningRefusal};
 ghost use Rattle.run_outcome.specs.Fault.{Accounts};
 ghost use Rattle.run_outcome.specs.Refusing.{OfRefusal};
 ghost use Rattle.stream_inspection.specs.Aim.{Announces, IsBegun, IsBeginRefusal};
-ghost use Rattle.stream_inspection.specs.Read.{SettlesBy};
+ghost use Rattle.stream_inspection.specs.declared.target.Target.{Target as TargetValue};
 
 use run_outcome::{Fault, Refusal};
 use sdp_format::read_located;
@@ -82,9 +82,10 @@ pub(crate) fn settle<A: Allocator + Copy>(
     text: &[u8],
 ) -> Result<Target, Fault>
     ensures settled { IfOk result (λ t. begun.new ≡ Some t) }
-    ensures by { OnOk result (SettlesBy begun.old text.now begun.new) }
-    ensures refusal { IfErr result (λ f. OfRefusal f (λ r. (begun.old ≡ None)
-        × IsFrontRefusal (0 ∷ []) text.now r)) }
+    ensures kept { IfOk result (λ t. (s : TargetValue) → begun.old ≡ Some s → t ≡ s) }
+    ensures announced { IfOk result (λ t. begun.old ≡ None → Announces text.now t) }
+    ensures refusal { IfErr result (λ f. OfRefusal f (λ r. MatchOption begun.old
+        (IsFrontRefusal (0 ∷ []) text.now r) (λ _. ⊥))) }
     ensures failures { Accounts result [] }
 {
     if let Some(target) = begun {
