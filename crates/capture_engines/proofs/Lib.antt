@@ -17,5 +17,6 @@ pub mod Rescues
 pub mod TypedTexts
 pub mod Said
 pub mod Untaken
-pub mod Reads
+pub mod Readings
 pub mod Ways
+pub mod Blaming

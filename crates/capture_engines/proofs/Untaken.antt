@@ -17,6 +17,17 @@ use Rattle.media_file.specs.declared.front.Version.{Version}
 use Rattle.media_file.proofs.KindFaults.{kind_cut, name_tells}
 use Rattle.recording_reader.specs.Files.{capture_records, records_behind, records_of_file}
 use Rattle.recording_reader.specs.Kinds.{is_magic, is_recording}
+use Rattle.recording_reader.specs.Files.{IfFile, IsFrontFault}
+use Rattle.recording_reader.specs.Opening.{IsByFlows}
+use Rattle.recording_reader.specs.declared.fault.FileOpeningFault.TheVariants.{Reading}
+use Rattle.recording_reader.specs.declared.fault.ReadingFault.{ReadingFault}
+use Rattle.recording_reader.specs.declared.fault.ReadingFault.TheVariants.{Capture, Recording}
+use Rattle.media_file.specs.declared.fault.FileFault.TheVariants as file
+use Rattle.pcap_file.specs.declared.fault.RecordingFault.TheVariants as recording
+use Rattle.run_outcome.specs.Refusing.{OfRefusal}
+use Rattle.capture_engines.specs.Files.{fault_by, flows_in}
+use Rattle.capture_engines.specs.Received.{StopsFile}
+use Rattle.capture_engines.specs.declared.way.Way.{Way}
 use Rattle.st_format.specs.Reading.{◌>>=◌}
 
 -- its first octet is no capture's
@@ -147,3 +158,15 @@ short_refused before old new more ended g grown short over octets q =
       ap length (q.all over),
       short,
     ))
+
+-- ---- what stops a file before its records
+
+pub front_stops : (w : Way) (told : List ℕ → Type 0) (g : ReadingFault)
+    → ((octets : List ℕ) → told octets → IfFile g (IsFrontFault g octets))
+    → IsByFlows (flows_in w) (Reading g) → OfRefusal (fault_by g) (StopsFile w told)
+front_stops w told (Capture file.NoMemory) known by = tt
+front_stops w told (Capture file.Device) known by = tt
+front_stops w told (Capture f) known by = inl (λ octets read. inl (known octets read).1)
+front_stops w told (Recording recording.Device) known by = tt
+front_stops w told (Recording f) known by =
+    inr (inl (by, λ octets read. ((known octets read).0, (known octets read).2)))

@@ -20,7 +20,7 @@ use Rattle.capture_engines.specs.Files.{file_datagrams, flows_in, octets_of}
 use Rattle.capture_engines.specs.Stopping.{IsReadingStop}
 use Rattle.capture_engines.specs.Taking.{FileGoes, RecordsGo, said_behind, said_by}
 use Rattle.capture_engines.specs.declared.way.Way.{Way}
-use Rattle.capture_engines.proofs.Reads.{ended_has, file_goes, said_same}
+use Rattle.capture_engines.proofs.Readings.{ended_has, file_goes, said_same}
 use Rattle.window_finding.specs.Finding.{AnnouncesType, FindsBy, FindsFile, FindsRecords, Stands}
 use Rattle.window_finding.specs.First.{first_timestamps}
 use Rattle.window_finding.specs.Turns.{IsDone, IsStop}

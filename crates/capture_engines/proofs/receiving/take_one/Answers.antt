@@ -3,7 +3,7 @@ use Rattle.run_outcome.proofs.Refusals.{of_refusal_map}
 use Rattle.run_outcome.proofs.SetSums.{counted_by}
 use Rattle.recording_reader.proofs.Standings.{exact_between}
 use Rattle.capture_engines.specs.Taking.{Stands}
-use Rattle.capture_engines.proofs.Reads.{ended_goes, part_taken}
+use Rattle.capture_engines.proofs.Readings.{ended_goes, part_taken}
 use Rattle.capture_engines.proofs.ReceivedRefusals.{file_refused}
 use Rattle.capture_engines.proofs.receiving.take_one.Goals as goal
 

@@ -1,6 +1,7 @@
 use Rattle.std.proofs.Common.{◌∷◌, [], ap, arith, inl, inr, length, length-append, refl, ◌∙◌}
 use Rattle.recording_reader.specs.declared.way.Standing.TheVariants.{Reads}
-use Rattle.capture_engines.proofs.Reads.{same_twice}
+use Rattle.capture_engines.proofs.Blaming.{reading_blamed}
+use Rattle.capture_engines.proofs.Readings.{same_twice}
 use Rattle.capture_engines.proofs.Taken.{takes_found, takes_no_records, takes_same}
 use Rattle.capture_engines.proofs.intake.Intake.take_records.Goals as goal
 
@@ -46,3 +47,11 @@ pub returns-in-Err-clause-taken : goal.returns-in-Err-clause-taken
 returns-in-Err-clause-taken g c =
     takes_same c.args.self.now c.loop.self c.loop.reader.records c.advance.new.self.records
     c.in-Err.ensures.fault.records c.loop.invariant.taken
+
+pub returns-in-Err-clause-failures : goal.returns-in-Err-clause-failures
+returns-in-Err-clause-failures g c =
+    let w = c.in-Err in
+    let told = g.S.ByteSource in
+    reading_blamed w.fault c.of_reading.result (told.failures c.args.reader.now.source)
+    (told.failures c.loop.reader.source) (told.failures c.advance.new.self.source)
+    c.loop.invariant.failures (w.ensures.device c.loop.invariant.reads) c.of_reading.ensures

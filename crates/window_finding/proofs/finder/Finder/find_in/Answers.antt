@@ -1,6 +1,7 @@
 use Rattle.std.proofs.Common.{◌++◌, ◌∷◌, [], ap, append-nil, arith, length, length-append, refl, sym, ◌∙◌}
 use Rattle.capture_engines.specs.Files.{octets_of}
-use Rattle.capture_engines.proofs.Reads.{same_twice}
+use Rattle.capture_engines.proofs.Blaming.{reading_blamed}
+use Rattle.capture_engines.proofs.Readings.{same_twice}
 use Rattle.window_finding.specs.First.{first_timestamps}
 use Rattle.window_finding.proofs.Found.{none_came, record_came, turn_found}
 use Rattle.window_finding.proofs.finder.Finder.find_in.Goals as goal
@@ -46,3 +47,11 @@ loop-preserved-in-Ok-true g c =
           (octets_of now.records) _ before.sought before.payload_type
           (record_came old now _ found c.octets.ensures) noted.noted (before.found datagrams is);
     }
+
+pub returns-in-Err-clause-failures : goal.returns-in-Err-clause-failures
+returns-in-Err-clause-failures g c =
+    let w = c.in-Err in
+    let told = g.S.ByteSource in
+    reading_blamed w.fault c.of_reading.result (told.failures c.args.reader.now.source)
+    (told.failures c.loop.reader.source) (told.failures c.advance.new.self.source)
+    c.loop.invariant.failures (w.ensures.device c.loop.invariant.reads) c.of_reading.ensures
