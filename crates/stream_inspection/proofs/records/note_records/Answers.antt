@@ -1,5 +1,5 @@
 use Rattle.std.proofs.Common.{◌∷◌, [], ap, arith, inl, inr, length, length-append, refl, ◌∙◌}
-use Rattle.capture_engines.proofs.Reads.{same_twice}
+use Rattle.capture_engines.proofs.Readings.{same_twice}
 use Rattle.stream_inspection.proofs.Noting.{notes_found, notes_no_records, notes_same}
 use Rattle.stream_inspection.proofs.records.note_records.Goals as goal
 
