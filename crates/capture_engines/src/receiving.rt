@@ -303,7 +303,16 @@ fn take_at<A: Allocator + Copy, S: ByteSource>(
         (sum_by S.failures files.new) ∷ []) }
 {
     let way = Way::at(ways, place);
-    take_one(alloc, opening, begun, &mut files[place], way, seen, place, said)
+    take_one(
+        alloc,
+        opening,
+        begun,
+        &mut files[place],
+        way,
+        seen,
+        place,
+        said,
+    )
 }
 
 /// Takes the file of a place. Where no receiver is open yet, its text opens one.

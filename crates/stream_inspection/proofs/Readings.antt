@@ -199,15 +199,14 @@ module _ {S : Type 0} (gave : S → List ℕ) (ended : S → Type 0) (r : FileRe
         settles = λ octets read.
             settles_file before after text octets ((given octets read).text ∙ sym same)
             notes.settles;
-        noted = λ octets read.
-            (
-              record {
-                text = r.text;
-                has_text = text_there octets read r.is_recording refl;
-                ends = ends octets read;
-              },
-              notes.noted,
-            );
+        noted = λ octets read. (
+          record {
+            text = r.text;
+            has_text = text_there octets read r.is_recording refl;
+            ends = ends octets read;
+          },
+          notes.noted,
+        );
       })
       (ends_at end is)
 

@@ -89,7 +89,16 @@ fn note_at<A: Allocator + Copy, S: ByteSource>(
         (sum_by S.failures files.new) ∷ []) }
 {
     let way = Way::at(ways, place);
-    note_one(alloc, begun, inspection, &mut files[place], way, seen, place, said)
+    note_one(
+        alloc,
+        begun,
+        inspection,
+        &mut files[place],
+        way,
+        seen,
+        place,
+        said,
+    )
 }
 
 /// Notes the file of a place. Where no target was begun with, its text says it.

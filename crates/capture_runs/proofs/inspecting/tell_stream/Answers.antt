@@ -8,8 +8,12 @@ returns-clause-told c =
     rw (vec_back c.args.files.now.recordings.len c.args.files.now.recordings.items
     c.inspect_streams.new.files (sym c.as_mut_slice.ensures.len ∙ same)
     (c.inspect_streams.ensures.len ∙ same))
-    (rw (c.as_mut_slice.ensures.value, c.form_of_streams-form.ensures, c.text_of.ensures,
-    c.as_slice.ensures.value) at c.inspect_streams.ensures.told)
+    (rw (
+      c.as_mut_slice.ensures.value,
+      c.form_of_streams-form.ensures,
+      c.text_of.ensures,
+      c.as_slice.ensures.value,
+    ) at c.inspect_streams.ensures.told)
 
 pub returns-clause-refusal : goal.returns-clause-refusal
 returns-clause-refusal c =
@@ -17,5 +21,9 @@ returns-clause-refusal c =
     rw (vec_back c.args.files.now.recordings.len c.args.files.now.recordings.items
     c.inspect_streams.new.files (sym c.as_mut_slice.ensures.len ∙ same)
     (c.inspect_streams.ensures.len ∙ same))
-    (rw (c.as_mut_slice.ensures.value, c.form_of_streams-form.ensures, c.text_of.ensures,
-    c.as_slice.ensures.value) at c.inspect_streams.ensures.refusal)
+    (rw (
+      c.as_mut_slice.ensures.value,
+      c.form_of_streams-form.ensures,
+      c.text_of.ensures,
+      c.as_slice.ensures.value,
+    ) at c.inspect_streams.ensures.refusal)

@@ -9,8 +9,12 @@ returns-clause-taken c =
     rw (vec_back c.args.files.now.recordings.len c.args.files.now.recordings.items
     c.receive_files.new.files (sym c.as_mut_slice.ensures.len ∙ same)
     (c.receive_files.ensures.len ∙ same))
-    (rw (c.as_mut_slice.ensures.value, c.window_of.ensures, c.text_of.ensures,
-    c.as_slice.ensures.value) at c.receive_files.ensures.taken)
+    (rw (
+      c.as_mut_slice.ensures.value,
+      c.window_of.ensures,
+      c.text_of.ensures,
+      c.as_slice.ensures.value,
+    ) at c.receive_files.ensures.taken)
 
 pub returns-clause-counted : goal.returns-clause-counted
 returns-clause-counted c =
@@ -18,8 +22,12 @@ returns-clause-counted c =
     rw (vec_back c.args.files.now.recordings.len c.args.files.now.recordings.items
     c.receive_files.new.files (sym c.as_mut_slice.ensures.len ∙ same)
     (c.receive_files.ensures.len ∙ same))
-    (rw (c.as_mut_slice.ensures.value, c.window_of.ensures, c.text_of.ensures,
-    c.as_slice.ensures.value) at c.receive_files.ensures.counted)
+    (rw (
+      c.as_mut_slice.ensures.value,
+      c.window_of.ensures,
+      c.text_of.ensures,
+      c.as_slice.ensures.value,
+    ) at c.receive_files.ensures.counted)
 
 pub returns-clause-left : goal.returns-clause-left
 returns-clause-left c =
@@ -29,8 +37,12 @@ returns-clause-left c =
     (c.receive_files.ensures.len ∙ same))
     (left_by c.receive_files.result c.receive_files.new.reception _ _ _
     (rw c.as_mut_slice.ensures.value at c.receive_files.ensures.failures)
-    (rw (c.as_mut_slice.ensures.value, c.window_of.ensures, c.text_of.ensures,
-    c.as_slice.ensures.value) at c.receive_files.ensures.rescued))
+    (rw (
+      c.as_mut_slice.ensures.value,
+      c.window_of.ensures,
+      c.text_of.ensures,
+      c.as_slice.ensures.value,
+    ) at c.receive_files.ensures.rescued))
 
 pub returns-clause-refusal : goal.returns-clause-refusal
 returns-clause-refusal c =
@@ -38,5 +50,9 @@ returns-clause-refusal c =
     rw (vec_back c.args.files.now.recordings.len c.args.files.now.recordings.items
     c.receive_files.new.files (sym c.as_mut_slice.ensures.len ∙ same)
     (c.receive_files.ensures.len ∙ same))
-    (rw (c.as_mut_slice.ensures.value, c.window_of.ensures, c.text_of.ensures,
-    c.as_slice.ensures.value) at c.receive_files.ensures.refusal)
+    (rw (
+      c.as_mut_slice.ensures.value,
+      c.window_of.ensures,
+      c.text_of.ensures,
+      c.as_slice.ensures.value,
+    ) at c.receive_files.ensures.refusal)
