@@ -1,4 +1,4 @@
-use Rattle.std.proofs.Common.{[], ◌∷◌, inl, rules}
+use Rattle.std.proofs.Common.{[], ◌∷◌, MutBor, inl, rules}
 use Rattle.run_outcome.proofs.Refusals.{of_refusal_map}
 use Rattle.run_outcome.proofs.SetSums.{counted_by}
 use Rattle.stream_inspection.specs.Read.{ended_by}
@@ -19,7 +19,8 @@ returns-clause-failures g c =
 pub returns-clause-noted : goal.returns-clause-noted
 returns-clause-noted g c =
     let told = g.S.ByteSource in
-    file_noted_if told.gave told.ended c.args.file.now _ c.note_opened-noted.new.reader
+    file_noted_if told.gave told.ended (λ (b : MutBor g.row.S.Denot). b.now) c.args.file.now _
+    c.note_opened-noted.new.reader
     c.args.way _ c.args.begun.now c.note_opened-noted.new.begun c.args.inspection.now
     c.note_opened-noted.new.inspection c.note_opened-noted.result (search rules) (search rules)
     (search rules) (search rules) c.history.ensures.by_flows c.history.ensures.known
@@ -28,7 +29,8 @@ returns-clause-noted g c =
 pub returns-clause-refusal : goal.returns-clause-refusal
 returns-clause-refusal g c =
     let told = g.S.ByteSource in
-    text_refuses (0 ∷ []) _ c.args.way c.args.begun.now told.gave told.ended c.args.file.now _
+    text_refuses (0 ∷ []) _ c.args.way c.args.begun.now told.gave told.ended
+    (λ (b : MutBor g.row.S.Denot). b.now) c.args.file.now _
     c.note_opened-noted.new.reader c.note_opened-noted.result (search rules) (search rules)
     (search rules) (search rules) c.history.ensures.by_flows c.history.ensures.known
     c.history.ensures.parts c.note_opened-noted.ensures.refusal

@@ -14,12 +14,12 @@ loop-init g c = record {
       c.requires.none;
 }
 
-pub loop-preserved-in-Ok-true : goal.loop-preserved-in-Ok-true
-loop-preserved-in-Ok-true g c =
+pub loop-preserved : goal.loop-preserved
+loop-preserved g c =
     let w = c.in-Ok-true in
     let before = c.loop.invariant in
     let old = c.loop.reader in
-    let found = rw w.field-0-is at w.ensures.found in
+    let found = rw w.field-0-test at w.ensures.found in
     record {
       reads = found.reads;
       same = same_twice c.args.reader.now old c.advance.new.self before.same w.ensures.same;
@@ -33,13 +33,13 @@ loop-preserved-in-Ok-true g c =
       );
       noted = notes_found c.args.target.now old c.advance.new.self c.args.inspection.now
           c.loop.inspection c.note_at_hand.new.self found before.noted
-          c.in_ok-note_at_hand-in-Ok-true.ensures;
+          c.in_ok-note_at_hand.ensures;
     }
 
 pub returns-in-Ok-false-clause-noted : goal.returns-in-Ok-false-clause-noted
 returns-in-Ok-false-clause-noted g c =
     let w = c.in-Ok-false in
-    let found = rw w.field-0-is at w.ensures.found in
+    let found = rw w.field-0-test at w.ensures.found in
     notes_same c.args.target.now c.args.inspection.now c.loop.inspection c.loop.reader.records
     c.advance.new.self.records found.records c.loop.invariant.noted
 
