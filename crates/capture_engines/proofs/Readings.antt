@@ -119,7 +119,7 @@ known_here flows (Recording f) octets records left known = known.0.records_are
 -- what was taken of a file up to what ended its reading
 module _ {S : Type 0} (gave : S → List ℕ) (ended : S → Type 0) (r : FileReader S) (w : Way)
     (by : r.flows ≡ flows_in w) (given : HasGivenFile gave ended r) where
-  here : List ℕ
+  abbrev here : List ℕ
   here = since r.before.gave (gave r.source)
 
   read_here : IsRead r.before.gave (gave r.source) (ended r.source) here

@@ -125,7 +125,7 @@ module _ {S : Type 0} (gave : S → List ℕ) (ended : S → Type 0) (r : FileRe
     (by : r.flows ≡ flows_in w) (flows : r.is_recording ≡ true → IsSome r.flows)
     (given : HasGivenFile gave ended r)
     (parts : r.is_recording ≡ false → HasGivenRecords gave ended r) where
-  told : List ℕ → Type 0
+  abbrev told : List ℕ → Type 0
   told = IsRead r.before.gave (gave r.source) (ended r.source)
 
   -- as many records as are taken stop it
