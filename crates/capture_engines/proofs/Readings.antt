@@ -9,6 +9,7 @@ use Rattle.media_file.specs.Records.{Entry}
 use Rattle.recording_reader.specs.FileReader.{FileReader, HasGivenFile, IsKnownBy, IsSameFile}
 use Rattle.recording_reader.specs.Files.{AreFirst, HaveFileRecords, IfFile, IsFileFault}
 use Rattle.recording_reader.specs.Files.{records_of_file, text_of_file}
+use Rattle.recording_reader.specs.Kinds.{is_recording}
 use Rattle.recording_reader.specs.declared.way.Standing.{Standing}
 use Rattle.recording_reader.specs.declared.way.Standing.TheVariants.{Ended, Failed, Reads}
 use Rattle.recording_reader.specs.declared.fault.ReadingFault.{ReadingFault}
@@ -75,19 +76,22 @@ ended_has gave ended r w text by same over given octets read =
       known.text ∙ sym same,
     )
 
--- of a source that is as it was left
-pub ended_goes : {S V E : Type 0} (gave : S → List ℕ) (ended : S → Type 0) (old new : S)
-    (r : FileReader S) (w : Way) (text : List ℕ) (B A : Holding) (result : Result V E)
-    → r.before.gave ≡ gave old → new ≡ r.source → r.flows ≡ flows_in w → text ≡ r.text
-    → OnOk result (r.standing ≡ Ended) → HasGivenFile gave ended r
+-- of a source that is lent to the reader, and is as it was left
+pub ended_goes : {S T V E : Type 0} (r : FileReader S) (at : S → T) (gave : T → List ℕ)
+    (ended : T → Type 0) (old new : T) (w : Way) (text : List ℕ) (B A : Holding)
+    (result : Result V E) → r.before.gave ≡ gave old → new ≡ at r.source → r.flows ≡ flows_in w
+    → text ≡ r.text → OnOk result (r.standing ≡ Ended)
+    → HasGivenFile (λ (s : S). gave (at s)) (λ (s : S). ended (at s)) r
     → OnOk result (RecordsGo text (octets_of r.records) B A)
     → OnOk result (FileGoes w (IsRead (gave old) (gave new) (ended new)) B A)
-ended_goes {S} gave ended old new r w text B A (Ok v) before now by same over given taken =
-    subst (λ (s : S). FileGoes w (IsRead (gave old) (gave s) (ended s)) B A) (sym now)
-    (subst (λ (l : List ℕ). FileGoes w (IsRead l (gave r.source) (ended r.source)) B A) before
-    (file_goes w (IsRead r.before.gave (gave r.source) (ended r.source)) text r.records B A
-    (ended_has gave ended r w text by same over given) taken))
-ended_goes gave ended old new r w text B A (Err e) before now by same over given taken = tt
+ended_goes {S} {T} r at gave ended old new w text B A (Ok v) before now by same over given taken =
+    let left : T = at r.source in
+    subst (λ (t : T). FileGoes w (IsRead (gave old) (gave t) (ended t)) B A) (sym now)
+    (subst (λ (l : List ℕ). FileGoes w (IsRead l (gave left) (ended left)) B A) before
+    (file_goes w (IsRead r.before.gave (gave left) (ended left)) text r.records B A
+    (ended_has (λ (s : S). gave (at s)) (λ (s : S). ended (at s)) r w text by same over given)
+    taken))
+ended_goes r at gave ended old new w text B A (Err e) before now by same over given taken = tt
 
 -- ---- at a fault
 
@@ -119,7 +123,7 @@ known_here flows (Recording f) octets records left known = known.0.records_are
 -- what was taken of a file up to what ended its reading
 module _ {S : Type 0} (gave : S → List ℕ) (ended : S → Type 0) (r : FileReader S) (w : Way)
     (by : r.flows ≡ flows_in w) (given : HasGivenFile gave ended r) where
-  here : List ℕ
+  abbrev here : List ℕ
   here = since r.before.gave (gave r.source)
 
   read_here : IsRead r.before.gave (gave r.source) (ended r.source) here
@@ -137,50 +141,73 @@ module _ {S : Type 0} (gave : S → List ℕ) (ended : S → Type 0) (r : FileRe
       subst (λ (x : Fault). OfRefusal x (λ y. records_of_file r.flows here ≡ r.records)) (sym is)
       (between reads).records_are
 
-  front_here : (f : Fault) (text : List ℕ) → text ≡ r.text
-      → IsReadingStop r.standing (length r.records) f
-      → (r.standing ≡ Reads → HaveFileRecords r.flows here r.records r.left_out)
-      → (r.is_recording ≡ false → HaveFileRecords r.flows here r.records r.left_out)
-      → (old new : S) → r.before.gave ≡ gave old → new ≡ r.source
-      → IsFrontOf w gave ended f (old, new)
-      (record { text = text; datagrams = octets_of r.records })
-  front_here f text same stop between capture old new before now =
-      let datagrams_here : records_of_file r.flows here ≡ r.records
-      → file_datagrams w here ≡ octets_of r.records =
-      λ is. ap octets_of (ap (λ (x : Option Flows). records_of_file x here) (sym by) ∙ is) in
-      rw (now, sym before) (record {
-        text = λ octets read. (given octets read).text ∙ sym same;
-        first = λ octets read.
-            firsts w octets r.records
-            (subst (λ (x : Option Flows). AreFirst r.records (records_of_file x octets)) by
-            (front_first r.flows r.standing octets r.records r.left_out
-            (given octets read).known));
-        given = λ kind.
-            datagrams_here
-            (capture (sym (given here read_here).kind ∙ kind)).records_are;
-        refused = of_refusal_map f (λ x is. datagrams_here is) (refused_here f stop between);
-      })
+-- so of a source that was lent to the reader, and is as it was left
+front_of : {S T : Type 0} (r : FileReader S) (at : S → T) (gave : T → List ℕ)
+    (ended : T → Type 0) (w : Way) (f : Fault) (text : List ℕ) (old new : T)
+    → r.before.gave ≡ gave old → new ≡ at r.source → r.flows ≡ flows_in w → text ≡ r.text
+    → HasGivenFile (λ (s : S). gave (at s)) (λ (s : S). ended (at s)) r
+    → (r.standing ≡ Reads → HaveFileRecords r.flows (since r.before.gave (gave (at r.source)))
+    r.records r.left_out)
+    → (r.is_recording ≡ false
+    → HaveFileRecords r.flows (since r.before.gave (gave (at r.source))) r.records r.left_out)
+    → IsReadingStop r.standing (length r.records) f
+    → IsFrontOf w gave ended f (old, new)
+    (record { text = text; datagrams = octets_of r.records })
+front_of {S} {T} r at gave ended w f text old new before now by same given between capture stop =
+    let left : T = at r.source in
+    let gave_by : S → List ℕ = λ (s : S). gave (at s) in
+    let ended_by : S → Type 0 = λ (s : S). ended (at s) in
+    let all : List ℕ = since r.before.gave (gave left) in
+    let back : (octets : List ℕ) → IsRead (gave old) (gave left) (ended left) octets
+    → IsRead r.before.gave (gave left) (ended left) octets =
+    λ octets read.
+    subst (λ (l : List ℕ). IsRead l (gave left) (ended left) octets) (sym before) read in
+    let datagrams : records_of_file r.flows all ≡ r.records
+    → file_datagrams w all ≡ octets_of r.records =
+    λ is. ap octets_of (ap (λ (x : Option Flows). records_of_file x all) (sym by) ∙ is) in
+    let itself : IsRead r.before.gave (gave left) (ended left) all =
+    read_here gave_by ended_by r w by given in
+    subst (λ (t : T). IsFrontOf w gave ended f (old, t)
+    (record { text = text; datagrams = octets_of r.records })) (sym now)
+    (record {
+      text = λ octets read. (given octets (back octets read)).text ∙ sym same;
+      first = λ octets read.
+          firsts w octets r.records
+          (subst (λ (x : Option Flows). AreFirst r.records (records_of_file x octets)) by
+          (front_first r.flows r.standing octets r.records r.left_out
+          (given octets (back octets read)).known));
+      given =
+          subst (λ (l : List ℕ). is_recording (since l (gave left)) ≡ false
+          → file_datagrams w (since l (gave left)) ≡ octets_of r.records) before
+          (λ kind. datagrams (capture (sym (given all itself).kind ∙ kind)).records_are);
+      refused =
+          subst (λ (l : List ℕ). OfRefusal f
+          (λ _. file_datagrams w (since l (gave left)) ≡ octets_of r.records)) before
+          (of_refusal_map f (λ x is. datagrams is)
+          (refused_here gave_by ended_by r w by given f stop between));
+    })
 
 -- so a file's part was taken
-pub part_taken : {S A V : Type 0} (o : Asked A) (gave : S → List ℕ) (ended : S → Type 0)
-    (old new : S) (r : FileReader S) (w : Way) (text : List ℕ) (b a : Option (Intake A))
-    (Opening : Fault → Type 0) (result : Result V Fault) → r.before.gave ≡ gave old
-    → new ≡ r.source → r.flows ≡ flows_in w → text ≡ r.text → HasGivenFile gave ended r
-    → (r.standing ≡ Reads → HaveFileRecords r.flows (since r.before.gave (gave r.source))
+pub part_taken : {S T A V : Type 0} (o : Asked A) (r : FileReader S) (at : S → T)
+    (gave : T → List ℕ) (ended : T → Type 0) (old new : T) (w : Way) (text : List ℕ)
+    (b a : Option (Intake A)) (Opening : Fault → Type 0) (result : Result V Fault)
+    → r.before.gave ≡ gave old → new ≡ at r.source → r.flows ≡ flows_in w → text ≡ r.text
+    → HasGivenFile (λ (s : S). gave (at s)) (λ (s : S). ended (at s)) r
+    → (r.standing ≡ Reads → HaveFileRecords r.flows (since r.before.gave (gave (at r.source)))
     r.records r.left_out)
-    → (r.is_recording ≡ false → HaveFileRecords r.flows (since r.before.gave (gave r.source))
-    r.records r.left_out)
+    → (r.is_recording ≡ false
+    → HaveFileRecords r.flows (since r.before.gave (gave (at r.source))) r.records r.left_out)
     → IfErr result (λ f. (TakesRecords o text (octets_of r.records) b a
     × IsReadingStop r.standing (length r.records) f) ⊎ ((a ≡ b) × Opening f))
     → IfErr result (λ f. TakesPart o w gave ended f b a (old, new))
-part_taken o gave ended old new r w text b a Opening (Ok v) before now by same given between
+part_taken o r at gave ended old new w text b a Opening (Ok v) before now by same given between
     capture stop = tt
-part_taken o gave ended old new r w text b a Opening (Err f) before now by same given between
+part_taken o r at gave ended old new w text b a Opening (Err f) before now by same given between
     capture (inl (taken, stop)) =
     inl (
       record { text = text; datagrams = octets_of r.records },
-      front_here gave ended r w by given f text same stop between capture old new before now,
+      front_of r at gave ended w f text old new before now by same given between capture stop,
       taken,
     )
-part_taken o gave ended old new r w text b a Opening (Err f) before now by same given between
+part_taken o r at gave ended old new w text b a Opening (Err f) before now by same given between
     capture (inr none) = inr none.0

@@ -125,7 +125,7 @@ module _ {S : Type 0} (gave : S → List ℕ) (ended : S → Type 0) (r : FileRe
     (by : r.flows ≡ flows_in w) (flows : r.is_recording ≡ true → IsSome r.flows)
     (given : HasGivenFile gave ended r)
     (parts : r.is_recording ≡ false → HasGivenRecords gave ended r) where
-  told : List ℕ → Type 0
+  abbrev told : List ℕ → Type 0
   told = IsRead r.before.gave (gave r.source) (ended r.source)
 
   -- as many records as are taken stop it
@@ -215,32 +215,47 @@ text_refused window text w begun gave ended r f by kind same given parts of =
     ))
     of
 
--- so of a source that is as it was left
-pub file_refused : {S X V : Type 0} (window text : List ℕ) (w : Way) (begun : Option X)
-    (gave : S → List ℕ) (ended : S → Type 0) (old new : S) (r : FileReader S)
-    (Taken Same : Type 0) (result : Result V Fault) → r.before.gave ≡ gave old → new ≡ r.source
-    → r.flows ≡ flows_in w → (r.is_recording ≡ true → IsSome r.flows) → text ≡ r.text
-    → HasGivenFile gave ended r → (r.is_recording ≡ false → HasGivenRecords gave ended r)
+-- so of a source that is lent to the reader, and is as it was left
+pub file_refused : {S T X V : Type 0} (window text : List ℕ) (w : Way) (begun : Option X)
+    (r : FileReader S) (at : S → T) (gave : T → List ℕ) (ended : T → Type 0) (old new : T)
+    (Taken Same : Type 0) (result : Result V Fault) → r.before.gave ≡ gave old
+    → new ≡ at r.source → r.flows ≡ flows_in w → (r.is_recording ≡ true → IsSome r.flows)
+    → text ≡ r.text → HasGivenFile (λ (s : S). gave (at s)) (λ (s : S). ended (at s)) r
+    → (r.is_recording ≡ false
+    → HasGivenRecords (λ (s : S). gave (at s)) (λ (s : S). ended (at s)) r)
     → IfErr result (λ f. (Taken × IsReadingStop r.standing (length r.records) f)
     ⊎ (Same × OfRefusal f (λ x. (begun ≡ None) × IsFrontRefusal window text x)))
     → IfErr result (λ f. OfRefusal f (IsTakeRefusal window w begun
     (IsRead (gave old) (gave new) (ended new))))
-file_refused window text w begun gave ended old new r Taken Same (Ok v) before now by kind same
+file_refused window text w begun r at gave ended old new Taken Same (Ok v) before now by kind same
     given parts stop = tt
-file_refused {S} window text w begun gave ended old new r Taken Same (Err f) before now by kind
-    same given parts (inl stop) =
-    subst (λ (s : S). OfRefusal f (IsTakeRefusal window w begun
-    (IsRead (gave old) (gave s) (ended s)))) (sym now)
+file_refused {S} {T} window text w begun r at gave ended old new Taken Same (Err f) before now by
+    kind same given parts stop =
+    subst (λ (t : T). OfRefusal f (IsTakeRefusal window w begun
+    (IsRead (gave old) (gave t) (ended t)))) (sym now)
     (subst (λ (l : List ℕ). OfRefusal f (IsTakeRefusal window w begun
-    (IsRead l (gave r.source) (ended r.source)))) before
-    (stop_refused window w begun gave ended r f by kind given parts stop.1))
-file_refused {S} window text w begun gave ended old new r Taken Same (Err f) before now by kind
-    same given parts (inr of) =
-    subst (λ (s : S). OfRefusal f (IsTakeRefusal window w begun
-    (IsRead (gave old) (gave s) (ended s)))) (sym now)
-    (subst (λ (l : List ℕ). OfRefusal f (IsTakeRefusal window w begun
-    (IsRead l (gave r.source) (ended r.source)))) before
-    (text_refused window text w begun gave ended r f by kind same given parts of.1))
+    (IsRead l (gave (at r.source)) (ended (at r.source))))) before (refused stop))
+  where
+    refused : (Taken × IsReadingStop r.standing (length r.records) f)
+        ⊎ (Same × OfRefusal f (λ x. (begun ≡ None) × IsFrontRefusal window text x))
+        → OfRefusal f (IsTakeRefusal window w begun
+        (IsRead r.before.gave (gave (at r.source)) (ended (at r.source))))
+    refused (inl stop) =
+        stop_refused window w begun (λ (s : S). gave (at s)) (λ (s : S). ended (at s)) r f by kind
+        given parts stop.1
+    refused (inr of) =
+        text_refused window text w begun (λ (s : S). gave (at s)) (λ (s : S). ended (at s)) r f by
+        kind same given parts of.1
+
+-- what stopped a file before its records refuses it
+pub unopened_refused : {T X : Type 0} (window : List ℕ) (w : Way) (begun : Option X)
+    (gave : T → List ℕ) (ended : T → Type 0) (old new now : T) (f : Fault) → new ≡ now
+    → OfRefusal f (StopsFile w (IsRead (gave old) (gave now) (ended now)))
+    → OfRefusal f (IsTakeRefusal window w begun (IsRead (gave old) (gave new) (ended new)))
+unopened_refused {T} window w begun gave ended old new now f same stops =
+    subst (λ (t : T). OfRefusal f (IsTakeRefusal window w begun
+    (IsRead (gave old) (gave t) (ended t)))) (sym same)
+    (of_refusal_map f (λ x is. inl is) stops)
 
 -- ---- files, one after the other
 

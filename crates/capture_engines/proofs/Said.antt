@@ -117,8 +117,8 @@ none_of (s ∷ ss) (inr is) = none_of ss is
 capture_front : (window : List ℕ) (r : Refusal) (octets text : List ℕ)
     → HasFileText way.Capture octets text → IsFrontRefusal window text r
     → (x : List ℕ × List ℕ) × (front_at octets ≡ Ok x) × IsFrontRefusal window x.0 r
-capture_front window r octets text (inl recording) no = absurd (no_flows recording.1)
-capture_front window r octets text (inr (rest, kind, is)) no = ((text, rest), is, no)
+capture_front window r octets text (inl recording) refused = absurd (no_flows recording.1)
+capture_front window r octets text (inr (rest, kind, is)) refused = ((text, rest), is, refused)
 
 -- a capture by whose text none is opened
 capture_text : (window : List ℕ) (told : List ℕ → Type 0) (r : Refusal)

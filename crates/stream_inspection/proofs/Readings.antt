@@ -211,45 +211,45 @@ module _ {S : Type 0} (gave : S → List ℕ) (ended : S → Type 0) (r : FileRe
       (ends_at end is)
 
 -- so of a source that was lent, and is as it was left
-pub file_noted_if : {S T A E : Type 0} (gave : S → List ℕ) (ended : S → Type 0) (lent : T → S)
-    (old now : S) (r : FileReader T) (w : Way) (text : List ℕ) (before after : Option Target)
+pub file_noted_if : {S T A E : Type 0} (r : FileReader T) (lent : T → S) (gave : S → List ℕ)
+    (ended : S → Type 0) (old now : S) (w : Way) (text : List ℕ) (before after : Option Target)
     (i j : Inspection A) (result : Result (Option ReadingFault) E)
     → r.before.gave ≡ gave old → now ≡ lent r.source → r.flows ≡ flows_in w → text ≡ r.text
     → (r.is_recording ≡ true → IsSome r.flows)
-    → HasGivenFile (λ x. gave (lent x)) (λ x. ended (lent x)) r
-    → (r.is_recording ≡ false → HasGivenRecords (λ x. gave (lent x)) (λ x. ended (lent x)) r)
+    → HasGivenFile (λ (x : T). gave (lent x)) (λ (x : T). ended (lent x)) r
+    → (r.is_recording ≡ false → HasGivenRecords (λ (x : T). gave (lent x)) (λ (x : T). ended (lent x)) r)
     → IfOk result (IsEnd r.standing (length r.records))
     → OnOk result (NotesRecords text r.records before after i j)
     → IfOk result (λ end. IfEnd end (NotesFile w (IsRead (gave old) (gave now) (ended now)) end
     before after i j))
-file_noted_if {S} gave ended lent old now r w text before after i j (Ok end) was is by same flows
+file_noted_if {S} {T} r lent gave ended old now w text before after i j (Ok end) was is by same flows
     given parts at notes =
     subst (λ (s : S). IfEnd end (NotesFile w (IsRead (gave old) (gave s) (ended s)) end before
     after i j)) (sym is)
     (subst (λ (l : List ℕ). IfEnd end (NotesFile w
     (IsRead l (gave (lent r.source)) (ended (lent r.source))) end before after i j)) was
-    (file_noted (λ x. gave (lent x)) (λ x. ended (lent x)) r w by flows given parts text end
+    (file_noted (λ (x : T). gave (lent x)) (λ (x : T). ended (lent x)) r w by flows given parts text end
     before after i j same at notes))
-file_noted_if gave ended lent old now r w text before after i j (Err e) was is by same flows given
+file_noted_if r lent gave ended old now w text before after i j (Err e) was is by same flows given
     parts at notes = tt
 
 -- and of the refusal of its text
 pub text_refuses : {S T X V : Type 0} (window text : List ℕ) (w : Way) (begun : Option X)
-    (gave : S → List ℕ) (ended : S → Type 0) (lent : T → S) (old now : S) (r : FileReader T)
+    (r : FileReader T) (lent : T → S) (gave : S → List ℕ) (ended : S → Type 0) (old now : S)
     (result : Result V Fault) → r.before.gave ≡ gave old → now ≡ lent r.source
     → r.flows ≡ flows_in w → text ≡ r.text → (r.is_recording ≡ true → IsSome r.flows)
-    → HasGivenFile (λ x. gave (lent x)) (λ x. ended (lent x)) r
-    → (r.is_recording ≡ false → HasGivenRecords (λ x. gave (lent x)) (λ x. ended (lent x)) r)
+    → HasGivenFile (λ (x : T). gave (lent x)) (λ (x : T). ended (lent x)) r
+    → (r.is_recording ≡ false → HasGivenRecords (λ (x : T). gave (lent x)) (λ (x : T). ended (lent x)) r)
     → IfErr result (λ f. OfRefusal f (λ x. (begun ≡ None) × IsFrontRefusal window text x))
     → IfErr result (λ f. OfRefusal f (IsTakeRefusal window w begun
     (IsRead (gave old) (gave now) (ended now))))
-text_refuses window text w begun gave ended lent old now r (Ok v) was is by same flows given parts
+text_refuses window text w begun r lent gave ended old now (Ok v) was is by same flows given parts
     of = tt
-text_refuses {S} window text w begun gave ended lent old now r (Err f) was is by same flows given
+text_refuses {S} {T} window text w begun r lent gave ended old now (Err f) was is by same flows given
     parts of =
     subst (λ (s : S). OfRefusal f (IsTakeRefusal window w begun
     (IsRead (gave old) (gave s) (ended s)))) (sym is)
     (subst (λ (l : List ℕ). OfRefusal f (IsTakeRefusal window w begun
     (IsRead l (gave (lent r.source)) (ended (lent r.source))))) was
-    (text_refused window text w begun (λ x. gave (lent x)) (λ x. ended (lent x)) r f by flows same
+    (text_refused window text w begun (λ (x : T). gave (lent x)) (λ (x : T). ended (lent x)) r f by flows same
     given parts of))

@@ -197,18 +197,24 @@ file_found o gave ended r w text b a by same (inl over) given found =
 file_found o gave ended r w text b a by same (inr full) given found =
     full_goes o gave ended r w text b a by same full.0 full.1 given found
 
--- of a source that is as it was left
-pub file_found_if : {S A V E : Type 0} (o : Sought) (gave : S → List ℕ) (ended : S → Type 0)
-    (old new : S) (r : FileReader S) (w : Way) (text : List ℕ) (b a : Option (Finder A))
-    (result : Result V E) → r.before.gave ≡ gave old → new ≡ r.source → r.flows ≡ flows_in w
-    → text ≡ r.text → OnOk result (IsDone r.standing (IsFull a)) → HasGivenFile gave ended r
+-- of a source that is lent to the reader, and is as it was left
+pub file_found_if : {S T A V E : Type 0} (o : Sought) (r : FileReader S) (at : S → T)
+    (gave : T → List ℕ) (ended : T → Type 0) (old new : T) (w : Way) (text : List ℕ)
+    (b a : Option (Finder A)) (result : Result V E) → r.before.gave ≡ gave old
+    → new ≡ at r.source → r.flows ≡ flows_in w → text ≡ r.text
+    → OnOk result (IsDone r.standing (IsFull a))
+    → HasGivenFile (λ (s : S). gave (at s)) (λ (s : S). ended (at s)) r
     → OnOk result (FindsRecords o text (octets_of r.records) b a)
     → OnOk result (FindsFile o w (IsRead (gave old) (gave new) (ended new)) b a)
-file_found_if {S} o gave ended old new r w text b a (Ok v) before now by same done given found =
-    subst (λ (s : S). FindsFile o w (IsRead (gave old) (gave s) (ended s)) b a) (sym now)
-    (subst (λ (l : List ℕ). FindsFile o w (IsRead l (gave r.source) (ended r.source)) b a) before
-    (file_found o gave ended r w text b a by same done given found))
-file_found_if o gave ended old new r w text b a (Err e) before now by same done given found = tt
+file_found_if {S} {T} o r at gave ended old new w text b a (Ok v) before now by same done given
+    found =
+    subst (λ (t : T). FindsFile o w (IsRead (gave old) (gave t) (ended t)) b a) (sym now)
+    (subst (λ (l : List ℕ). FindsFile o w (IsRead l (gave (at r.source)) (ended (at r.source))) b
+    a) before
+    (file_found o (λ (s : S). gave (at s)) (λ (s : S). ended (at s)) r w text b a by same done
+    given found))
+file_found_if o r at gave ended old new w text b a (Err e) before now by same done given found =
+    tt
 
 -- what ended it, as `receive` tells that; where memory was wanted it is no refusal
 pub stop_told : (standing : Standing) (count : ℕ) (P : Refusal → Type 0) (f : Fault)

@@ -1,10 +1,9 @@
-use Rattle.std.proofs.Common.{rules, inl}
-use Rattle.run_outcome.proofs.Refusals.{of_refusal_map}
+use Rattle.std.proofs.Common.{rules}
 use Rattle.run_outcome.proofs.SetSums.{counted_by}
 use Rattle.recording_reader.proofs.Standings.{exact_between}
 use Rattle.capture_engines.specs.Taking.{Stands}
 use Rattle.capture_engines.proofs.Readings.{ended_goes, part_taken}
-use Rattle.capture_engines.proofs.ReceivedRefusals.{file_refused}
+use Rattle.capture_engines.proofs.ReceivedRefusals.{file_refused, unopened_refused}
 use Rattle.capture_engines.proofs.receiving.take_one.Goals as goal
 
 pub returns-clause-failures : goal.returns-clause-failures
@@ -15,8 +14,8 @@ returns-clause-failures g c =
 pub returns-clause-taken : goal.returns-clause-taken
 returns-clause-taken g c =
     let told = g.S.ByteSource in
-    ended_goes told.gave told.ended c.args.file.now _ c.take_opened-taken.new.reader c.args.way _
-    (Stands c.args.opening.now c.args.begun.now)
+    ended_goes c.take_opened-taken.new.reader (λ s. s.now) told.gave told.ended c.args.file.now _
+    c.args.way _ (Stands c.args.opening.now c.args.begun.now)
     (Stands c.args.opening.now c.take_opened-taken.new.begun) c.take_opened-taken.result
     (search rules) (search rules) (search rules) (search rules) c.take_opened-taken.ensures.ended
     c.history.ensures.known c.take_opened-taken.ensures.taken
@@ -24,8 +23,8 @@ returns-clause-taken g c =
 pub returns-clause-sound : goal.returns-clause-sound
 returns-clause-sound g c =
     let told = g.S.ByteSource in
-    part_taken c.args.opening.now told.gave told.ended c.args.file.now _
-    c.take_opened-taken.new.reader c.args.way _ c.args.begun.now c.take_opened-taken.new.begun _
+    part_taken c.args.opening.now c.take_opened-taken.new.reader (λ s. s.now) told.gave told.ended
+    c.args.file.now _ c.args.way _ c.args.begun.now c.take_opened-taken.new.begun _
     c.take_opened-taken.result (search rules) (search rules) (search rules) (search rules)
     c.history.ensures.known
     (λ reads. c.history.ensures.given
@@ -35,13 +34,15 @@ returns-clause-sound g c =
 pub returns-clause-refusal : goal.returns-clause-refusal
 returns-clause-refusal g c =
     let told = g.S.ByteSource in
-    file_refused c.args.opening.now.window.items _ c.args.way c.args.begun.now told.gave
-    told.ended c.args.file.now _ c.take_opened-taken.new.reader _ _ c.take_opened-taken.result
-    (search rules) (search rules) (search rules) c.history.ensures.by_flows (search rules)
-    c.history.ensures.known c.history.ensures.parts c.take_opened-taken.ensures.stop
+    file_refused c.args.opening.now.window.items _ c.args.way c.args.begun.now
+    c.take_opened-taken.new.reader (λ s. s.now) told.gave told.ended c.args.file.now _ _ _
+    c.take_opened-taken.result (search rules) (search rules) (search rules)
+    c.history.ensures.by_flows (search rules) c.history.ensures.known c.history.ensures.parts
+    c.take_opened-taken.ensures.stop
 
 pub returns-in-Err-clause-refusal : goal.returns-in-Err-clause-refusal
 returns-in-Err-clause-refusal g c =
     let told = g.S.ByteSource in
-    of_refusal_map c.unopened.result (λ r is. inl is)
+    unopened_refused c.args.opening.now.window.items c.args.way c.args.begun.now told.gave
+    told.ended c.args.file.now _ c.unopened.new.source c.unopened.result (search rules)
     (c.unopened.ensures.refusal (told.gave c.args.file.now) (search rules) (search rules))

@@ -1,4 +1,5 @@
-use Rattle.std.proofs.Common.{◌∷◌, [], ap, arith, inl, inr, length, length-append, refl, ◌∙◌}
+use Rattle.std.proofs.Common.{◌≡◌, ◌∷◌, [], ap, arith, false, length, length-append, refl, rules}
+use Rattle.std.proofs.Common.{true, ◌∙◌}
 use Rattle.capture_engines.proofs.Readings.{same_twice}
 use Rattle.stream_inspection.proofs.Noting.{notes_found, notes_no_records, notes_same}
 use Rattle.stream_inspection.proofs.records.note_records.Goals as goal
@@ -19,7 +20,8 @@ loop-preserved g c =
     let w = c.in-Ok-true in
     let before = c.loop.invariant in
     let old = c.loop.reader in
-    let found = rw w.field-0-test at w.ensures.found in
+    let one : w.field-0 ≡ true = search rules in
+    let found = rw one at w.ensures.found in
     record {
       reads = found.reads;
       same = same_twice c.args.reader.now old c.advance.new.self before.same w.ensures.same;
@@ -39,7 +41,8 @@ loop-preserved g c =
 pub returns-in-Ok-false-clause-noted : goal.returns-in-Ok-false-clause-noted
 returns-in-Ok-false-clause-noted g c =
     let w = c.in-Ok-false in
-    let found = rw w.field-0-test at w.ensures.found in
+    let none : w.field-0 ≡ false = search rules in
+    let found = rw none at w.ensures.found in
     notes_same c.args.target.now c.args.inspection.now c.loop.inspection c.loop.reader.records
     c.advance.new.self.records found.records c.loop.invariant.noted
 

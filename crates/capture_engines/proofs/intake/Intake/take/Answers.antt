@@ -12,5 +12,5 @@ returns g c =
       tallied = counts_one was.receiver.opening took.new.self.opening was.tally c.note.new.self
           c.args.octets.now took.result took.ensures.answer took.ensures.opening
           c.note.ensures.counted;
-      delivered = λ count is. omega (arith, is, c.saturating_add.ensures);
+      delivered = λ count is. omega (arith, is, c.saturating_add-self.ensures);
     }

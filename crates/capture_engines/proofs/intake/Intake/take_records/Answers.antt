@@ -1,5 +1,5 @@
-use Rattle.std.proofs.Common.{◌∷◌, [], ap, arith, inl, inr, length, length-append, refl, ◌∙◌}
-use Rattle.recording_reader.specs.declared.way.Standing.TheVariants.{Reads}
+use Rattle.std.proofs.Common.{◌≡◌, ◌∷◌, [], ap, arith, false, length, length-append, refl, rules}
+use Rattle.std.proofs.Common.{true, ◌∙◌}
 use Rattle.capture_engines.proofs.Blaming.{reading_blamed}
 use Rattle.capture_engines.proofs.Readings.{same_twice}
 use Rattle.capture_engines.proofs.Taken.{takes_found, takes_no_records, takes_same}
@@ -15,12 +15,13 @@ loop-init g c = record {
   taken = takes_no_records c.args.self.now c.args.reader.now.records c.requires.none;
 }
 
-pub loop-preserved-in-Ok-true : goal.loop-preserved-in-Ok-true
-loop-preserved-in-Ok-true g c =
+pub loop-preserved : goal.loop-preserved
+loop-preserved g c =
     let w = c.in-Ok-true in
     let before = c.loop.invariant in
     let old = c.loop.reader in
-    let found = rw w.field-0-is at w.ensures.found in
+    let one : w.field-0 ≡ true = search rules in
+    let found = rw one at w.ensures.found in
     record {
       reads = found.reads;
       same = same_twice c.args.reader.now old c.advance.new.self before.same w.ensures.same;
@@ -39,7 +40,8 @@ loop-preserved-in-Ok-true g c =
 pub returns-in-Ok-false-clause-taken : goal.returns-in-Ok-false-clause-taken
 returns-in-Ok-false-clause-taken g c =
     let w = c.in-Ok-false in
-    let found = rw w.field-0-is at w.ensures.found in
+    let none : w.field-0 ≡ false = search rules in
+    let found = rw none at w.ensures.found in
     takes_same c.args.self.now c.loop.self c.loop.reader.records c.advance.new.self.records
     found.records c.loop.invariant.taken
 

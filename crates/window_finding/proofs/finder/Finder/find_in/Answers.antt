@@ -1,8 +1,8 @@
-use Rattle.std.proofs.Common.{◌++◌, ◌∷◌, [], ap, append-nil, arith, length, length-append, refl, sym, ◌∙◌}
+use Rattle.std.proofs.Common.{◌≡◌, ◌∷◌, [], ap, arith, length, length-append, refl, rules, true}
+use Rattle.std.proofs.Common.{◌∙◌}
 use Rattle.capture_engines.specs.Files.{octets_of}
 use Rattle.capture_engines.proofs.Blaming.{reading_blamed}
 use Rattle.capture_engines.proofs.Readings.{same_twice}
-use Rattle.window_finding.specs.First.{first_timestamps}
 use Rattle.window_finding.proofs.Found.{none_came, record_came, turn_found}
 use Rattle.window_finding.proofs.finder.Finder.find_in.Goals as goal
 
@@ -19,15 +19,16 @@ loop-init g c = record {
       c.requires.none is;
 }
 
-pub loop-preserved-in-Ok-true : goal.loop-preserved-in-Ok-true
-loop-preserved-in-Ok-true g c =
+pub loop-preserved : goal.loop-preserved
+loop-preserved g c =
     let w = c.in-Ok-true in
     let before = c.loop.invariant in
     let was = c.args.self.now in
     let old = c.loop.reader in
     let now = c.advance.new.self in
     let noted = c.in_ok-note-in-Ok-true.ensures in
-    let found = rw w.field-0-is at w.ensures.found in
+    let one : w.field-0 ≡ true = search rules in
+    let found = rw one at w.ensures.found in
     record {
       sought = noted.sought ∙ before.sought;
       payload_type = noted.payload_type ∙ before.payload_type;
