@@ -1,6 +1,6 @@
 -- What was seen of a file beside its datagrams (own).
 use Rattle.std.specs.Prelude.{Bool, true, false, ◌||◌, List, [], Option, None, Some}
-use Rattle.flow.specs.declared.flow.Flow.{Flow}
+use Rattle.flow.specs.declared.Flow.{Flow}
 use Rattle.flow.specs.declared.flows.Flows.{Flows}
 use Rattle.media_file.specs.Records.{Entry}
 use Rattle.recording_counts.specs.LeftOut.{left_out_of}
