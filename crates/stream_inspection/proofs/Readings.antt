@@ -2,10 +2,10 @@
 use Rattle.std.proofs.Common.{◌≡◌, ◌∙◌, ℕ, ◌⊎◌, inl, inr, List, [], ◌∷◌, ◌++◌, length, Bool, true}
 use Rattle.std.proofs.Common.{false, cond, Option, None, Some, Result, Ok, Err, refl, ap, sym, subst}
 use Rattle.std.specs.Prelude.{IfErr, IfOk, IsSome, MatchOption, OnOk}
-use Rattle.capture_engines.specs.Files.{HasFileText, flows_in}
+use Rattle.capture_engines.specs.Files.{HasFileText, fault_by, flows_in}
 use Rattle.capture_engines.specs.Received.{IsFrontRefusal, IsTakeRefusal}
 use Rattle.capture_engines.specs.declared.way.Way.{Way}
-use Rattle.capture_engines.proofs.Blaming.{reading_blames}
+use Rattle.capture_engines.proofs.Blaming.{reading_blamed}
 use Rattle.capture_engines.proofs.ReceivedRefusals.{text_refused}
 use Rattle.flow.specs.declared.flows.Flows.{Flows}
 use Rattle.media_file.specs.Faults.{file_fault_origin}
@@ -51,7 +51,7 @@ if_end (Some f) P Q then is = file_weaker f P Q then is
 pub end_counted : (end : Option ReadingFault) (old new : ℕ) → counts_end end old new
     → Accounts (ended_by (Ok end)) (counts old new ∷ [])
 end_counted None old new is = is
-end_counted (Some f) old new is = reading_blames f old new is
+end_counted (Some f) old new is = reading_blamed f (fault_by f) old old new refl is refl
 
 -- what holds at each of some octets, where the fault is the content's
 each_content : (o : Origin) (told P : List ℕ → Type 0)
@@ -171,11 +171,9 @@ module _ {S : Type 0} (gave : S → List ℕ) (ended : S → Type 0) (r : FileRe
       → HasFileText w octets r.text
   text_there octets read false kind =
       inr (
+        records_text r.records ++ (parts kind octets read).behind,
         (given octets read).kind ∙ kind,
-        (
-          records_text r.records ++ (parts kind octets read).behind,
-          (parts kind octets read).front,
-        ),
+        (parts kind octets read).front,
       )
   text_there octets read true kind =
       let is : is_recording octets ≡ true = (given octets read).kind ∙ kind in

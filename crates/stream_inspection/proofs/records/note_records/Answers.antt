@@ -35,7 +35,7 @@ loop-preserved g c =
       );
       noted = notes_found c.args.target.now old c.advance.new.self c.args.inspection.now
           c.loop.inspection c.note_at_hand.new.self found before.noted
-          c.in_ok-note_at_hand.ensures;
+          c.in_ok-note_at_hand-in-Ok-true.ensures;
     }
 
 pub returns-in-Ok-false-clause-noted : goal.returns-in-Ok-false-clause-noted

@@ -12,7 +12,7 @@ returns-in-Some g c =
     noted)
     c.note.ensures
 
-pub returns : goal.returns
-returns g c =
+pub returns-in-None : goal.returns-in-None
+returns-in-None g c =
     notes_no_hand c.args.target.now c.args.reader.now.at_hand c.args.self.now
     (ap record_seen (sym c.in-None.is) ∙ c.record.ensures.seen)
