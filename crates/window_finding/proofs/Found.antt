@@ -1,7 +1,7 @@
 -- What was found of one file.
 use Rattle.std.proofs.Common.{◌≡◌, ℕ, ◌≤◌, ◌⊎◌, List, [], ◌∷◌, ◌++◌, length, Option, None, Some}
 use Rattle.std.proofs.Common.{Result, Ok, Err, inl, inr, refl, sym, ap, subst, ◌∙◌, append_assoc}
-use Rattle.std.proofs.Common.{append-nil, map, take, zero, suc}
+use Rattle.std.proofs.Common.{append-nil, take, zero, suc}
 use Rattle.std.proofs.lemmas.List.{map-append}
 use Rattle.std.specs.Prelude.{IfOk, MatchOption, OnOk, ⊤}
 use Rattle.flow.specs.declared.flows.Flows.{Flows}
@@ -13,12 +13,11 @@ use Rattle.recording_reader.specs.declared.way.Standing.{Standing}
 use Rattle.recording_reader.specs.declared.way.Standing.TheVariants.{Reads}
 use Rattle.run_outcome.specs.Refusing.{OfRefusal}
 use Rattle.run_outcome.specs.declared.fault.Fault.{Fault}
-use Rattle.run_outcome.specs.declared.fault.Fault.TheVariants.{Memory}
 use Rattle.run_outcome.specs.declared.refusal.Refusal.{Refusal}
 use Rattle.st_format.specs.History.{IsRead}
 use Rattle.capture_engines.specs.Files.{file_datagrams, flows_in, octets_of}
 use Rattle.capture_engines.specs.Stopping.{IsReadingStop}
-use Rattle.capture_engines.specs.Taking.{FileGoes, RecordsGo, said_behind, said_by}
+use Rattle.capture_engines.specs.Taking.{said_behind, said_by}
 use Rattle.capture_engines.specs.declared.way.Way.{Way}
 use Rattle.capture_engines.proofs.Readings.{ended_has, file_goes, said_same}
 use Rattle.window_finding.specs.Finding.{AnnouncesType, FindsBy, FindsFile, FindsRecords, Stands}

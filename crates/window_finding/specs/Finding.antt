@@ -1,6 +1,6 @@
 -- What the timestamps are found in, and by what (own). What was read is told by a predicate: it
 -- holds of any octets that begin with it, and of no others where the source has ended.
-use Rattle.std.specs.Prelude.{◌≡◌, ℕ, ◌⊎◌, List, [], ◌∷◌, ◌++◌, MatchOption, Option, None, Some, Result}
+use Rattle.std.specs.Prelude.{◌≡◌, ℕ, ◌⊎◌, List, [], ◌∷◌, MatchOption, Option, None, Some, Result}
 use Rattle.sdp_format.specs.Bytes.{lines}
 use Rattle.sdp_format.specs.Grammar.{IsDescribed}
 use Rattle.sdp_format.specs.Sections.{Description, video_sections}

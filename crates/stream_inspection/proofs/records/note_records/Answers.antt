@@ -1,5 +1,6 @@
 use Rattle.std.proofs.Common.{◌≡◌, ◌∷◌, [], ap, arith, false, length, length-append, refl, rules}
-use Rattle.std.proofs.Common.{true, ◌∙◌}
+use Rattle.std.proofs.Common.{subst, true, ℕ, ◌∙◌}
+use Rattle.recording_reader.specs.Files.{CountsReadingFault}
 use Rattle.capture_engines.proofs.Readings.{same_twice}
 use Rattle.stream_inspection.proofs.Noting.{notes_found, notes_no_records, notes_same}
 use Rattle.stream_inspection.proofs.records.note_records.Goals as goal
@@ -50,3 +51,10 @@ pub returns-in-Err-clause-noted : goal.returns-in-Err-clause-noted
 returns-in-Err-clause-noted g c =
     notes_same c.args.target.now c.args.inspection.now c.loop.inspection c.loop.reader.records
     c.advance.new.self.records c.in-Err.ensures.fault.records c.loop.invariant.noted
+
+pub returns-in-Err-clause-failures : goal.returns-in-Err-clause-failures
+returns-in-Err-clause-failures g c =
+    let told = g.S.ByteSource in
+    subst
+    (λ (n : ℕ). CountsReadingFault c.in-Err.fault n (told.failures c.advance.new.self.source))
+    c.loop.invariant.failures (c.in-Err.ensures.device c.loop.invariant.reads)
