@@ -1,9 +1,7 @@
-# docs/FAULTS.md: each fault of the sources stands there once, by its number and name, and no other does. It has a
-# section for each type of faults, whose first quoted word is the type.
+# docs/FAULTS.md: each fault of the sources stands there once, by its number and name, and no other does. It has one
+# table, each row of which begins with the type of the fault, or the command whose own it is, its number and its name.
 awk '
-    /^## / { split($0, part, "`"); kind = part[2] }
-    /^[|] [0-9]+ [A-Z][A-Za-z0-9]* [|]/ { print kind, $2, $3 }
-    /^[|] `[a-z]+ [0-9]+ [A-Z][A-Za-z0-9]*` [|]/ { gsub("`", ""); print $2, $3, $4 }
+    /^[|] [A-Za-z]+ [0-9]+ [A-Z][A-Za-z0-9]* [|]/ { print $2, $3, $4 }
 ' "$root/docs/FAULTS.md" | sort >written.faults
 
 # In the sources a type has numbers from its first `= N` on, or in the arms of its `number`; those of commands stand in

@@ -3,11 +3,13 @@ use Rattle.std.specs.Prelude.{ℕ, List, codes}
 use Rattle.bt709_fixed.specs.declared.faults.ColourFault.{ColourFault}
 use Rattle.bt709_fixed.specs.declared.faults.ColourFault.TheVariants.{NoMemory, NotRgb, NotYcc444}
 
+-- of pictures of other components
 abbrev pub colour_fault_number : ColourFault → ℕ
 colour_fault_number NoMemory = 1
 colour_fault_number NotRgb = 2
 colour_fault_number NotYcc444 = 3
 
+-- of pictures of other components
 abbrev pub colour_fault_name : ColourFault → List ℕ
 colour_fault_name NoMemory = codes "NoMemory"
 colour_fault_name NotRgb = codes "NotRgb"

@@ -62,6 +62,7 @@ abbrev pub kept_value : ℕ → Bool → ℕ
 kept_value n true = centre n
 kept_value n false = 16 * scale n
 
+-- the distance to the value that is kept, g / 4096 times, brought to video data
 abbrev pub gained_sample : ℕ → ℕ → Bool → ℕ → ℕ
 gained_sample g n colour v = video_data n (gain (kept_value n colour) g v)
 
@@ -102,21 +103,25 @@ component_at v at component =
 
 -- ---- the four operations: the value at each position
 
+-- brought to a range
 abbrev pub limit_value : RangeKind → Values → Position → ℕ
 limit_value range v at =
     limited_sample range (bits_of v.format.depth) (is_colour v.format.sampling at.component)
     (value_at v at)
 
+-- brought g / 4096 as far from what it keeps, and to video data
 abbrev pub gain_value : ℕ → Values → Position → ℕ
 gain_value g v at =
     gained_sample g (bits_of v.format.depth) (is_colour v.format.sampling at.component)
     (value_at v at)
 
+-- either of the two
 abbrev pub changed_value : Change → Values → Position → ℕ
 changed_value change v at =
     changed_by change (bits_of v.format.depth) (is_colour v.format.sampling at.component)
     (value_at v at)
 
+-- Y, Cb or Cr of the R, G and B at one row and column
 abbrev pub ycc444_value : Values → Position → ℕ
 ycc444_value v at =
     matrix_component (bits_of v.format.depth) at.component (component_at v at 0)

@@ -29,7 +29,7 @@ ghost use Rattle.bt709_fixed.specs.Operations.{
 use st_format::{Depth, Picture, Sampling};
 use std::alloc::{AllocError, Allocator};
 
-/// A range of values.
+/// A range of values, in scales: a scale is 2^(bits - 8), so that of 8 bits is 1.
 #[derive(Clone, Copy, Debug, PartialEq, Eq)]
 pub enum RangeKind {
     /// Luma, R, G and B from 16 to 235 scales, Cb and Cr from 16 to 240.
@@ -38,7 +38,7 @@ pub enum RangeKind {
     VideoData,
 }
 
-/// The scale of a depth against 8 bits.
+/// 2^(bits - 8): how many values of a depth lie in one step of 8 bits.
 pub fn scale_of(depth: Depth) -> u16
     ensures value { result ≡ scale (bits_of depth) }
     ensures least { 1 ≤ result }
@@ -52,7 +52,7 @@ pub fn scale_of(depth: Depth) -> u16
     }
 }
 
-/// Brings each value to the range named.
+/// Brings each value to the nearest one of the range named.
 pub fn limit<A: Allocator>(picture: Picture<A>, range: RangeKind) -> Picture<A>
     ensures value { IsOf picture.format (limit_value range picture) result }
     ensures whole { IsPicture result }
@@ -100,13 +100,13 @@ pub fn gained_copy<A: Allocator, B: Allocator>(
 /// What is made of each value of a picture, from it and its component alone.
 #[derive(Clone, Copy)]
 enum Change {
-    /// It is brought to the range.
+    /// It becomes the nearest one of the range.
     Limit(RangeKind),
     /// It is brought so many 4096ths as far from what it keeps, and to video data.
     Gain(u32),
 }
 
-/// Changes each value of a picture, in place.
+/// Changes each value of a picture, in place: no memory is taken.
 fn changed<A: Allocator>(picture: Picture<A>, change: Change) -> Picture<A>
     requires { IsBounded change }
     ensures value { IsOf picture.format (changed_value change picture) result }
@@ -123,7 +123,7 @@ fn changed<A: Allocator>(picture: Picture<A>, change: Change) -> Picture<A>
     Picture::from_samples(format, samples)
 }
 
-/// A copy of a picture with each value changed.
+/// A copy of a picture with each value changed. An `Err` where the memory was refused.
 fn changed_copy<A: Allocator, B: Allocator>(
     alloc: B,
     picture: &Picture<A>,
@@ -166,7 +166,7 @@ fn changed_samples<B: Allocator>(
     Ok(copy)
 }
 
-/// Changes each sample, in place.
+/// Changes each sample, in place: the first of them is a row's or a raster's first.
 fn change_samples(sampling: Sampling, depth: Depth, change: Change, samples: &mut [u16])
     requires { IsBounded change }
     ensures long { length samples.new ≡ length samples.old }

@@ -8,7 +8,7 @@ use thiserror::Error;
 /// Why there is no picture of other components.
 #[derive(Clone, Copy, Debug, PartialEq, Eq, Error)]
 pub enum ColourFault {
-    /// The memory was refused.
+    /// The allocator refused the memory for the picture.
     #[error("the memory was refused")]
     NoMemory = 1,
     /// The picture isn't of R, G and B.
@@ -22,7 +22,7 @@ pub enum ColourFault {
 impl ColourFault {
     ghost use Rattle.bt709_fixed.specs.Faults.{colour_fault_name, colour_fault_number};
 
-    /// Its number: 1 to 3.
+    /// Its number: 1 to 3. `NoMemory` is tested last.
     pub fn number(self) -> u8
         ensures { result ≡ colour_fault_number self }
     {

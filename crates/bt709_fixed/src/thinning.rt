@@ -57,7 +57,7 @@ pub fn to_ycc422<A: Allocator, B: Allocator>(
     Ok(Picture::from_samples(as_ycc422(format), samples))
 }
 
-/// The samples of pairs of pixels that 4:2:2 keeps of 4:4:4.
+/// The samples of pairs of pixels that 4:2:2 keeps of 4:4:4: four of six, block after block.
 fn thinned_samples<B: Allocator>(alloc: B, full: &[u16]) -> Result<Vec<u16, B>, AllocError>
     ensures long { IfOk result (λ v. length v.items ≡ 4 * (length full.now / 6)) }
     ensures each { IfOk result (λ v. EachIndex v.items (λ k.

@@ -20,3 +20,4 @@ pub mod Untaken
 pub mod Readings
 pub mod Ways
 pub mod Blaming
+pub mod Quiet

@@ -84,6 +84,8 @@ where
         (O.took output.old) (O.took output.new)) }
     ensures refusal { IfErr result (λ f. OfRefusal f (IsLoopRefusal wanted.max_octets
         (IsRead (S.gave source.old) (S.gave source.new) (S.ended source.new)))) }
+    // A refusal comes before anything is printed.
+    ensures quiet { IfErr result (λ f. IfRefused f (output.new ≡ output.old)) }
     ensures failures { Accounts result (counts (S.failures source.old) (S.failures source.new)
         ∷ counts (L.DatagramSink.failures link.old) (L.DatagramSink.failures link.new)
         ∷ counts (O.failures output.old) (O.failures output.new) ∷ []) }

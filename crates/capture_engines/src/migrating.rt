@@ -1,6 +1,6 @@
 //! The engine of `migrate`.
-ghost use Rattle.std.specs.Prelude.{◌≤◌, ◌∷◌, [], IfErr, IfOk, OnOk, length};
-ghost use Rattle.run_outcome.specs.Fault.{Accounts, counts};
+ghost use Rattle.std.specs.Prelude.{◌≡◌, ◌≤◌, ◌∷◌, [], IfErr, IfOk, OnOk, length};
+ghost use Rattle.run_outcome.specs.Fault.{Accounts, IfRefused, counts};
 ghost use Rattle.capture_engines.specs.Migrating.{LeavesBy, MovesBy, PrintsMigrated, passed};
 ghost use Rattle.capture_engines.specs.MigrateRefused.{IsCaptureRefusal, IsMigrateRefusal};
 ghost use Rattle.run_outcome.specs.Refusing.{OfRefusal};
@@ -22,7 +22,8 @@ const RECORDS: u64 = 16_777_216;
 /// # Errors
 ///
 /// A refusal where the SDP is longer than 65,535 octets or refused, or the capture is, which has at
-/// most 16,777,216 records; and else that a device failed or memory was wanted.
+/// most 16,777,216 records; and else that a device failed or memory was wanted. Where it is refused
+/// nothing is printed.
 pub fn migrate<A, D, S, K, O>(
     alloc: A,
     sdp: &mut D,
@@ -51,6 +52,8 @@ where
         (K.took sink.old) (K.failures sink.old))
         (passed (S.gave source.new) (S.failures source.new)
         (K.took sink.new) (K.failures sink.new))) }
+    // A refusal comes before anything is printed.
+    ensures quiet { IfErr result (λ f. IfRefused f (output.new ≡ output.old)) }
     ensures failures { Accounts result (counts (D.failures sdp.old) (D.failures sdp.new)
         ∷ counts (S.failures source.old) (S.failures source.new)
         ∷ counts (K.failures sink.old) (K.failures sink.new)

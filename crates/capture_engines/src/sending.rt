@@ -4,7 +4,7 @@ ghost use Rattle.std.specs.Prelude.{length, sum_by, take, vec_len};
 ghost use Rattle.std.specs.Io.KnownBytes.{IsAtEnd};
 ghost use Rattle.std.specs.List.{zip};
 ghost use Rattle.run_outcome.specs.Moments.{WasRead};
-ghost use Rattle.run_outcome.specs.Fault.{Accounts, counts, failures_in};
+ghost use Rattle.run_outcome.specs.Fault.{Accounts, IfRefused, counts, failures_in};
 ghost use Rattle.run_outcome.specs.Refusing.{OfRefusal};
 ghost use Rattle.run_outcome.specs.declared.refusal.Refusal.TheVariants.{SendPictures};
 ghost use Rattle.capture_engines.specs.Sent.{FirstIs, FirstSays, IsSaidRefusal, IsPicturesRefusal};
@@ -37,7 +37,7 @@ const PICTURES: usize = 10_000;
 /// A refusal where there are more than 10,000 pictures (before anything is read), the SDP is longer
 /// than 65,535 octets or refused, there is no such plan, or a picture is refused or is of another
 /// format than the first; and else that a device failed or memory was wanted. What was sent before
-/// stands in the capture.
+/// stands in the capture. Where it is refused nothing is printed.
 pub fn send<A, S, K, O>(
     alloc: A,
     wanted: Sending,
@@ -59,6 +59,8 @@ where
     ensures sent { OnOk result (SendsAll S.gave S.ended wanted sdp.old sdp.new
         pictures.old pictures.new (K.took sink.old) (K.took sink.new)
         (O.took output.old) (O.took output.new)) }
+    // A refusal comes before anything is printed.
+    ensures quiet { IfErr result (λ f. IfRefused f (output.new ≡ output.old)) }
     ensures failures { Accounts result (counts (failures_in S.failures sdp.old)
         (failures_in S.failures sdp.new) ∷ counts (sum_by S.failures pictures.old)
         (sum_by S.failures pictures.new) ∷ counts (K.failures sink.old) (K.failures sink.new)

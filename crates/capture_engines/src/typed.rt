@@ -42,6 +42,8 @@ where
     ensures sent { OnOk result (SendsTyped S.gave S.ended wanted sdp.old sdp.new
         pictures.old pictures.new (K.took sink.old) (K.took sink.new)
         (O.took output.old) (O.took output.new)) }
+    // A refusal comes before anything is printed.
+    ensures quiet { IfErr result (λ f. IfRefused f (output.new ≡ output.old)) }
     ensures failures { Accounts result (counts (failures_in S.failures sdp.old)
         (failures_in S.failures sdp.new) ∷ counts (sum_by S.failures pictures.old)
         (sum_by S.failures pictures.new) ∷ counts (K.failures sink.old) (K.failures sink.new)

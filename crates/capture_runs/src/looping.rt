@@ -78,8 +78,10 @@ impl<'a> Command for LoopCommand<'a> {
         (record { took = link_took l.1; came = link_came l.1; delivered = link_delivered l.1 })
         (output_took old.output) (output_took new.output)) };
 
-    ghost is_refused = { λ old new.
-        IsLoopRefusal old.wanted.max_octets (FileRead old.picture new.picture) };
+    // Then nothing is printed.
+    ghost is_refused = { λ old new r.
+        IsLoopRefusal old.wanted.max_octets (FileRead old.picture new.picture) r
+        × (output_took new.output ≡ output_took old.output) };
 
     // Where the sockets could not be bound, that is a device's fault.
     ghost owes = { λ old new outcome. (IsNone old.link × (outcome ≡ Err Device))

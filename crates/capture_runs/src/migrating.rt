@@ -1,11 +1,11 @@
 //! `migrate` over the devices of this machine.
 ghost use Rattle.std.specs.Prelude.{◌≡◌, ◌∷◌, ◌⊎◌, [], IfErr, IsFalse, IsTrue, OnOk};
 ghost use Rattle.capture_engines.specs.MigrateRefused.{IsMigrateRefusal};
-ghost use Rattle.capture_engines.specs.Migrating.{PrintsMigrated};
+ghost use Rattle.capture_engines.specs.Migrating.{LeavesAt, PrintsMigrated, passed};
 ghost use Rattle.devices.specs.Passed.{FileRead, file_ended, file_failures, file_gave, file_took};
 ghost use Rattle.devices.specs.Passed.{IsInPlace, IsUnplaced, output_failures, output_took};
 ghost use Rattle.devices.specs.Passed.{writing_failures};
-ghost use Rattle.run_outcome.specs.Fault.{Accounts, counts};
+ghost use Rattle.run_outcome.specs.Fault.{Accounts, IfRefused, counts};
 ghost use Rattle.run_outcome.specs.Refusing.{OfRefusal};
 ghost use Rattle.run_outcome.specs.Text.{GivesText};
 ghost use Rattle.run_outcome.specs.declared.refusal.Refusal.TheVariants.{OutputIsInput};
@@ -74,6 +74,16 @@ fn migrate<'a>(
     ensures refusal { IfErr result (λ f. OfRefusal f (λ r.
         IsMigrateRefusal (FileRead sdp.old sdp.new) (FileRead capture.old capture.new) r
         ⊎ (r ≡ OutputIsInput Migrate) × IsTrue is_input)) }
+    // Then nothing is printed, and what is written is what such a refusal leaves.
+    ensures left { IfErr result (λ f. OfRefusal f (λ r. LeavesAt r
+        (GivesText 65535 (file_gave sdp.old) (file_gave sdp.new) (file_ended sdp.new))
+        (file_ended capture.new)
+        (passed (file_gave capture.old) (file_failures capture.old)
+        (file_took out.old) (writing_failures out.old))
+        (passed (file_gave capture.new) (file_failures capture.new)
+        (file_took out.new) (writing_failures out.new)))) }
+    ensures quiet { IfErr result (λ f. IfRefused f
+        (output_took output.new ≡ output_took output.old)) }
     ensures owed { Accounts result (counts (file_failures sdp.old) (file_failures sdp.new)
         ∷ counts (file_failures capture.old) (file_failures capture.new)
         ∷ counts (writing_failures out.old) (writing_failures out.new)
@@ -95,9 +105,18 @@ impl<'a> Command for MigrateCommand<'a> {
         (file_took old.out) (file_took new.out) (output_took old.output)
         (output_took new.output) };
 
+    // Then nothing is printed; and nothing is written but, of a capture that is cut short or at
+    // fault, the records before that.
     ghost is_refused = { λ old new r.
-        IsMigrateRefusal (FileRead old.sdp new.sdp) (FileRead old.capture new.capture) r
-        ⊎ (r ≡ OutputIsInput Migrate) × IsTrue old.is_input };
+        (IsMigrateRefusal (FileRead old.sdp new.sdp) (FileRead old.capture new.capture) r
+        ⊎ (r ≡ OutputIsInput Migrate) × IsTrue old.is_input)
+        × LeavesAt r (GivesText 65535 (file_gave old.sdp) (file_gave new.sdp)
+        (file_ended new.sdp)) (file_ended new.capture)
+        (passed (file_gave old.capture) (file_failures old.capture)
+        (file_took old.out) (writing_failures old.out))
+        (passed (file_gave new.capture) (file_failures new.capture)
+        (file_took new.out) (writing_failures new.out))
+        × (output_took new.output ≡ output_took old.output) };
 
     ghost is_placed = { λ c. IsInPlace c.out × IsFalse c.is_input };
 

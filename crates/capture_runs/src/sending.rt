@@ -7,7 +7,7 @@ ghost use Rattle.capture_engines.specs.Sent.{IsSendRefusal};
 ghost use Rattle.devices.specs.Passed.{file_ended, file_failures, file_gave, file_took};
 ghost use Rattle.devices.specs.Passed.{IsInPlace, IsUnplaced, output_failures, output_took};
 ghost use Rattle.devices.specs.Passed.{writing_failures};
-ghost use Rattle.run_outcome.specs.Fault.{Accounts, counts, failures_in};
+ghost use Rattle.run_outcome.specs.Fault.{Accounts, IfRefused, counts, failures_in};
 ghost use Rattle.run_outcome.specs.Moments.{WasRead};
 ghost use Rattle.run_outcome.specs.Refusing.{OfRefusal};
 ghost use Rattle.run_outcome.specs.declared.refusal.Refusal.TheVariants.{OutputIsInput};
@@ -125,6 +125,8 @@ fn send<'a>(
     ensures refusal { IfErr result (λ f. OfRefusal f (λ r. IsSendRefusal wanted.max_octets
         (length pictures.old) sdp.old sdp.new (WasRead file_gave file_ended)
         (zip pictures.old pictures.new) r ⊎ (r ≡ OutputIsInput Send) × IsTrue is_input)) }
+    ensures quiet { IfErr result (λ f. IfRefused f
+        (output_took output.new ≡ output_took output.old)) }
     ensures owed { Accounts result
         (counts (failures_in file_failures sdp.old) (failures_in file_failures sdp.new)
         ∷ counts (sum_by file_failures pictures.old) (sum_by file_failures pictures.new)
@@ -152,10 +154,12 @@ impl<'a> Command for SendCommand<'a> {
         (file_took old.out) (file_took new.out) (output_took old.output)
         (output_took new.output) };
 
-    ghost is_refused = { λ old new r. IsSendRefusal old.wanted.max_octets
+    // Then nothing is printed.
+    ghost is_refused = { λ old new r. (IsSendRefusal old.wanted.max_octets
         (length old.pictures.items) old.sdp new.sdp (WasRead file_gave file_ended)
         (zip old.pictures.items new.pictures.items) r
-        ⊎ (r ≡ OutputIsInput Send) × IsTrue old.is_input };
+        ⊎ (r ≡ OutputIsInput Send) × IsTrue old.is_input)
+        × (output_took new.output ≡ output_took old.output) };
 
     ghost is_placed = { λ c. IsInPlace c.out × IsFalse c.is_input };
 

@@ -22,7 +22,8 @@ pub struct Ran {
     pub is_whole: bool,
 }
 
-/// A command over its devices.
+/// A command over its devices, as `main` runs it: of a fault a `run_` call of `st2110_tool` leaves
+/// a status and a line, and `--verbose` explains the fault itself, by the devices.
 pub trait Command {
     /// Nothing was read and nothing written yet, and no device has failed.
     ghost is_new: { Self → Type 0 };
@@ -39,7 +40,8 @@ pub trait Command {
     /// The file that it writes has its name, all of it.
     ghost is_placed: { Self → Type 0 } = { λ _. ⊤ };
 
-    /// What stood under that name stands there, or what the command leaves where it ends by a fault.
+    /// What stood under that name stands there, or what the command leaves where it ends by a
+    /// fault.
     ghost is_unplaced: { Self → Type 0 } = { λ _. ⊤ };
 
     /// What a run that ends by a fault has written for good: the command before it, and after.
@@ -61,10 +63,10 @@ pub trait Command {
     fn devices(&self) -> Devices<'_>;
 }
 
-/// A command that ended.
+/// A command that was run and ended, and what it came to.
 #[derive(Drop)]
 pub struct Ended<C> {
-    /// The exit status.
+    /// The exit status, as `run_command` says it: 0, 1, 3 or 4.
     pub status: u8,
     /// Whether all that it wrote is written out.
     pub is_whole: bool,
@@ -77,10 +79,11 @@ pub struct Ended<C> {
 /// Runs a command, and ends it.
 ///
 /// The status is 0 where all was done, and what was written has the name that it is to have; else
-/// what stood there stands there still. It is 1 where the words or what was read are refused; 3 where a
-/// device failed, also standard error, or what was written could not be written out; and 4 where
-/// memory was wanted, also for a file's buffer. Of 1, 3 and 4 standard error is told by a line, and
-/// where that is asked for by one more, which says where the fault is and what was wanted there.
+/// what stood there stands there still. It is 1 where the words or what was read are refused; 3
+/// where a device failed, also standard error, or what was written could not be written out; and 4
+/// where memory was wanted, also for a file's buffer. Of 1, 3 and 4 standard error is told by a
+/// line, and where that is asked for by one more, which says where the fault is and what was wanted
+/// there.
 pub fn run_command<C: Command + Drop>(rt: &HostRuntime, is_verbose: bool, command: C) -> Ended<C>
     requires { C.is_new command }
     ensures ends { EndsBy C.is_new C.does C.is_refused C.owes C.leaves result.status

@@ -23,7 +23,7 @@ pub(crate) struct Missing<'a> {
 }
 
 impl<'a> Missing<'a> {
-    /// Those of this line, if it lacks one.
+    /// Those of this line; none where it has all, and so something else is at fault.
     pub(crate) fn of(line: &'a [u8]) -> Option<Missing<'a>> {
         let count = REQUIRED
             .iter()
@@ -92,7 +92,7 @@ fn video_type(line: &[u8]) -> Option<u32> {
     read_number(trimmed(payload_type))
 }
 
-/// Whether a line is the fmtp line of a payload type.
+/// Whether a line begins `a=fmtp:`, and its number is this payload type.
 fn is_fmtp_of(line: &[u8], payload_type: Option<u32>) -> bool {
     let Some(behind) = line.strip_prefix(b"a=fmtp:".as_slice()) else {
         return false;
@@ -134,7 +134,6 @@ fn trimmed(text: &[u8]) -> &[u8] {
         .unwrap_or(text)
 }
 
-/// Whether an octet is a space or a tab.
 fn is_space(octet: u8) -> bool {
     octet == b' ' || octet == b'\t'
 }

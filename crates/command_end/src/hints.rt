@@ -19,9 +19,9 @@ pub struct Hints {
 /// A receiver's frames, as it asks memory for them.
 #[derive(Clone, Copy)]
 pub struct Room {
-    /// How many frames.
+    /// How many frames: one for each timestamp of the window.
     pub frames: usize,
-    /// How many octets each takes.
+    /// How many octets each takes, for its samples and its mark words.
     pub octets: u64,
 }
 
@@ -33,7 +33,7 @@ impl Room {
 }
 
 impl Hints {
-    /// Where nothing is known.
+    /// No hints: for a command that has no more to tell.
     pub fn none() -> Hints {
         Hints {
             takes_recordings: false,
@@ -43,8 +43,8 @@ impl Hints {
         }
     }
 
-    /// What was wanted where a file isn't of a kind that the command takes: all kinds that it takes.
-    /// A file of which nothing was read, at octet 0, is of none.
+    /// What was wanted where a file isn't of a kind that the command takes: all kinds that it
+    /// takes. A file of which nothing was read, at octet 0, is of none.
     pub(crate) fn kinds(&self, refusal: Refusal, octet: u64) -> Option<&'static str> {
         let is_empty = octet == 0;
         match refusal {
@@ -71,7 +71,7 @@ impl Hints {
         }
     }
 
-    /// What a command takes that takes captures.
+    /// What a command takes where it takes captures: these alone, or recordings of other tools too.
     fn captures(&self) -> &'static str {
         if self.takes_recordings {
             "a capture, which begins S20CAP, or a recording, which begins as pcap or pcapng"

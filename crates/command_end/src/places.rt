@@ -15,9 +15,9 @@ pub struct Devices<'a> {
     pub sdp: Option<Reading<'a>>,
     /// Of the other files that are read, the last one that was begun, or standard input.
     pub read: Option<Reading<'a>>,
-    /// The file that is written, where there is one.
+    /// The file that is written, where the command writes one.
     pub written: Option<Writing<'a>>,
-    /// Standard output.
+    /// Standard output, or standard error where the file that is written is that.
     pub output: Writing<'a>,
     /// The script or the SDP that was read from standard input, where it was kept.
     pub kept: Option<&'a [u8]>,
@@ -46,12 +46,12 @@ fn wants_memory(fault: &Option<io::Error>) -> bool {
     }
 }
 
-/// What was wanted in a line.
+/// What was wanted in a line, as it is shown.
 #[derive(Clone, Copy)]
 enum Wanted<'a> {
     /// What these words say.
     Words(&'static str),
-    /// The names that are missing.
+    /// The names that a line lacks, as many as they are.
     Names(Missing<'a>),
 }
 
@@ -67,7 +67,7 @@ impl fmt::Display for Wanted<'_> {
 /// Where a fault is, and what was wanted there.
 #[derive(Clone, Copy)]
 enum Said<'a> {
-    /// At something with a name.
+    /// At a word of the command, by its name.
     Name(&'a str, &'static str),
     /// Where the reading of a file stands.
     Octet(Reading<'a>, &'static str),
@@ -79,9 +79,9 @@ enum Said<'a> {
     Text(&'a str, usize, &'a [u8], Wanted<'a>),
     /// In a line of a text that isn't shown, or of one that is in a file.
     Line(&'a str, usize, &'static str, &'static str),
-    /// Where a reading failed.
+    /// At a file or standard input, where a reading failed, and why.
     Unread(Reading<'a>, io::Error),
-    /// Where a writing failed.
+    /// At a file or standard output, where a writing failed.
     Unwritten(Writing<'a>),
 }
 
@@ -179,7 +179,7 @@ fn of_memory<'a>(devices: &Devices<'a>) -> Said<'a> {
     }
 }
 
-/// What a refusal is of.
+/// Where to look for what a refusal is of.
 #[derive(Clone, Copy)]
 enum Blamed {
     /// The word of this name.
@@ -195,7 +195,7 @@ enum Blamed {
     Described(Located),
 }
 
-/// What a refusal is of.
+/// What a refusal is of: the word that has a value, or the file that has the octets.
 fn blamed_by(refusal: Refusal) -> Blamed {
     match refusal {
         Refusal::Script(_, LineFault::Form(Form::TextEnd)) => Blamed::Sdp,
@@ -229,8 +229,8 @@ fn blamed_by(refusal: Refusal) -> Blamed {
     }
 }
 
-/// Says where the fault of a run is, what was wanted there, and what stays of what was written. That
-/// standard error may fail too changes nothing: the status is the fault's.
+/// Says where the fault of a run is, what was wanted there, and what stays of what was written.
+/// That standard error may fail too changes nothing: the status is the fault's.
 pub(crate) fn explain(rt: &HostRuntime, fault: Fault, devices: &Devices<'_>) {
     let told = Told {
         said: match fault {
@@ -246,7 +246,7 @@ pub(crate) fn explain(rt: &HostRuntime, fault: Fault, devices: &Devices<'_>) {
     }
 }
 
-/// What is told of a fault.
+/// What the second line tells of a fault.
 #[derive(Clone, Copy)]
 struct Told<'a> {
     /// Where it is, and what was wanted there.
@@ -258,7 +258,7 @@ struct Told<'a> {
 }
 
 impl Told<'_> {
-    /// Whether anything is told.
+    /// Whether anything is told; else there is no line more.
     fn is_some(&self) -> bool {
         self.said.is_some() || self.left.is_some() || self.sound.is_some()
     }
@@ -376,7 +376,7 @@ fn wanted_in<'a>(text: &'a [u8], fault: SdpFault, wanted: &'static str) -> Wante
     Wanted::Words(wanted)
 }
 
-/// A part of a text, where that is kept.
+/// A part of a text that was kept; none where it was not, as of a file.
 fn part_of(text: Option<&[u8]>, start: usize, end: usize) -> Option<&[u8]> {
     text?.get(start..end)
 }

@@ -28,7 +28,8 @@ pub trait DatagramLink: DatagramSink + DatagramSource {
             ≡ Self.DatagramSource.delivered self.old }
         ensures came { Self.DatagramSource.came self.new ≡ Self.DatagramSource.came self.old };
 
-    /// Takes one turn of the link, as [`DatagramSource::next`] does. That puts none.
+    /// Takes one turn of the link, as [`DatagramSource::next`] does. That puts none, which `next`
+    /// can't say: a source needs no sink.
     fn turn(&mut self, buf: &mut [u8]) -> Result<Turn, SourceFault>
         requires { 65535 ≤ length buf.old }
         ensures room { length buf.new ≡ length buf.old }
@@ -56,7 +57,8 @@ pub trait DatagramLink: DatagramSink + DatagramSource {
         ensures taken { Self.DatagramSink.taken self.new ≡ Self.DatagramSink.taken self.old }
         ensures took { Self.DatagramSink.took self.new ≡ Self.DatagramSink.took self.old };
 
-    /// It counts each failure once, as a sink and as a source.
+    /// It counts each failure once, as a sink and as a source: so a run blames a link just where it
+    /// failed.
     ghost one_count: { (link : Self)
         → Self.DatagramSink.failures link ≡ Self.DatagramSource.failures link };
 }

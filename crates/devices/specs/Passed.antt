@@ -16,13 +16,15 @@ use Rattle.devices.specs.declared.output.OutputSink.{OutputSink}
 abbrev pub file_path : FileSource → List ℕ
 file_path f = f.path.now
 
--- a file that is read: what it gave, whether it told its end
+-- a file that is read: what it gave
 abbrev pub file_gave : FileSource → List ℕ
 file_gave f = f.gave.octets
 
+-- it told its end
 abbrev pub file_ended : FileSource → Type 0
 file_ended f = f.progress ≡ Past
 
+-- how often it failed
 abbrev pub file_failures : FileSource → ℕ
 file_failures f = f.failures
 
@@ -34,6 +36,7 @@ FileRead old new octets = IsRead (file_gave old) (file_gave new) (file_ended new
 abbrev pub sink_took : FileSink → List ℕ
 sink_took s = taken_by s.progress
 
+-- how often that failed
 abbrev pub sink_failures : FileSink → ℕ
 sink_failures s = s.failures
 
@@ -45,6 +48,7 @@ written_name f = f.sink.name.now
 abbrev pub file_took : FileOutput → List ℕ
 file_took f = took_in f.placed f.sink.progress
 
+-- how often a write to it failed
 abbrev pub writing_failures : FileOutput → ℕ
 writing_failures f = f.sink.failures
 
@@ -64,13 +68,15 @@ LeavesNoPart f = f.rest ≡ Goes
 abbrev pub HasNoPart : FileOutput → Type 0
 HasNoPart f = IsWithout f.sink.progress
 
--- standard input: what it gave, whether it told its end
+-- standard input: what it gave
 abbrev pub input_gave : {R : Type 0} → InputSource R → List ℕ
 input_gave s = s.gave.octets
 
+-- it told its end
 abbrev pub input_ended : {R : Type 0} → InputSource R → Type 0
 input_ended s = s.is_ended ≡ true
 
+-- how often it failed
 abbrev pub input_failures : {R : Type 0} → InputSource R → ℕ
 input_failures s = s.failures
 
@@ -78,18 +84,22 @@ input_failures s = s.failures
 abbrev pub output_took : {W : Type 0} → OutputSink W → List ℕ
 output_took s = s.took.octets
 
+-- how often one failed
 abbrev pub output_failures : {W : Type 0} → OutputSink W → ℕ
 output_failures s = s.failures
 
--- two sockets: the datagrams that they took, those that came, how many they count
+-- two sockets: the datagrams that they took
 abbrev pub link_took : UdpLink → List (List ℕ)
 link_took l = l.took.datagrams
 
+-- the datagrams that came, each with its path
 abbrev pub link_came : UdpLink → List (Path × List ℕ)
 link_came l = l.came.came
 
+-- how many datagrams they count as come
 abbrev pub link_delivered : UdpLink → ℕ
 link_delivered l = l.delivered
 
+-- how often they failed
 abbrev pub link_failures : UdpLink → ℕ
 link_failures l = l.failures

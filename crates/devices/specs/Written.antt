@@ -16,6 +16,7 @@ stream_took w = (writer_inner w).wrote.octets ++ writer_buffer w
 abbrev pub draft_took : {R F D A : Type 0} → Draft R F D A → List ℕ
 draft_took d = stream_took d.writer
 
+-- what was written so far, wherever it stands
 abbrev pub taken_by : Progress → List ℕ
 taken_by Front = []
 taken_by (Direct w) = stream_took w

@@ -12,7 +12,7 @@ pub struct Discard {
 }
 
 impl Discard {
-    /// A sink that took nothing yet.
+    /// A sink that took nothing yet, for what is counted or timed and not kept.
     pub fn new() -> Self
         ensures octets { ⟦<Discard as ByteSink>⟧.took result ≡ [] }
         ensures datagrams { ⟦<Discard as DatagramSink>⟧.took result ≡ [] }

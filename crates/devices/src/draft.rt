@@ -15,7 +15,7 @@ use std::os::unix;
 use std::os::unix::fs::MetadataExt;
 use std::path::{Path, PathBuf};
 
-/// How many names are tried for a draft.
+/// How many names are tried for a draft: as many drafts of one file may be left over.
 const TRIES: u32 = 1000;
 
 /// How many octets of a file's name stand in that of its draft: with what comes behind them they
@@ -30,7 +30,7 @@ pub(crate) struct Draft<'a, R: Files + Alloc> {
     name: PathBuf<R::A>,
     /// The name that it is to take.
     target: PathBuf<R::A>,
-    /// What stands there.
+    /// What stands there, whose permissions the draft takes, and its owner where that may be.
     replaced: Option<Metadata>,
     writer: BufWriter<Noted<R::File>, R::A>,
 }
@@ -89,8 +89,9 @@ impl<'a, R: Files + Alloc> Draft<'a, R> {
         }
     }
 
-    /// Writes out what is buffered, and has the device say that it has all. What was replaced gives
-    /// its permissions, and its owner where that may be.
+    /// Writes out what is buffered, and has the device say that it has all: else a loss of power
+    /// may leave an empty file under the name, and a full disk of another machine isn't told. What
+    /// was replaced gives its permissions, and its owner where that may be.
     fn make_ready(&mut self) -> io::Result<()>
         ensures written { OnOk result (writer_buffer self.new.writer ≡ []) }
         ensures kept { draft_took self.new ≡ draft_took self.old }
@@ -127,12 +128,12 @@ impl<'a, R: Files + Alloc> Draft<'a, R> {
         let _ = self.writer.flush();
     }
 
-    /// Removes it.
+    /// Removes it, as far as that goes.
     pub(crate) fn remove(&self) {
         let _ = fs::remove_file(self.files, &self.name);
     }
 
-    /// The name that it has.
+    /// The name that it has until it takes the other.
     pub(crate) fn name(&self) -> &str {
         self.name.as_str()
     }
@@ -171,7 +172,8 @@ fn beside<R: Alloc>(rt: &R, target: Path<'_>, turn: u32) -> io::Result<PathBuf<R
     Ok(target.with_file_name(rt.alloc(), name.as_str())?)
 }
 
-/// Tells whether a file can be made beside this one, by making one and removing it.
+/// Tells whether a file can be made beside this one, by making one and removing it: rights alone
+/// don't tell (a full table of inodes, a file system that may only be read).
 pub(crate) fn try_beside<R: Files + Alloc>(files: &R, target: Path<'_>) -> io::Result<()> {
     let (name, _file) = make_beside(files, target)?;
     fs::remove_file(files, &name)

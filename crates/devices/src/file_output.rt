@@ -1,7 +1,7 @@
 //! A file that a command writes.
 //!
-//! What was written takes the name only once all is, by one renaming; so what stood there is lost by
-//! no run that fails, and nobody finds a part of a file under the name.
+//! What was written takes the name only once all is, by one renaming; so what stood there is lost
+//! by no run that fails, and nobody finds a part of a file under the name.
 ghost use Rattle.std.specs.Prelude.{◌≡◌, ◌<◌, ◌↔◌, ◌⊎◌, [], None, IsFalse, IsNone, IsSome, IsTrue};
 ghost use Rattle.std.specs.Prelude.{OnErr, OnOk};
 ghost use Rattle.devices.specs.Passed.{HasNoPart, IsInPlace, IsUnplaced, LeavesNoPart, file_took};
@@ -28,7 +28,7 @@ use std::mem;
 pub enum Rest {
     /// It stays beside the name, since what it has is sound.
     Stays,
-    /// It is removed.
+    /// It is removed, since a part of it is of no use.
     Goes,
 }
 
@@ -37,7 +37,7 @@ pub enum Rest {
 pub struct FileOutput<'a> {
     rt: &'a HostRuntime,
     rest: Rest,
-    /// What its octets go to.
+    /// What its octets go to: a draft beside the name, or a device or a pipe.
     pub sink: FileSink<'a>,
     /// What took the name, if something did.
     placed: Option<History>,
@@ -84,8 +84,8 @@ impl<'a> FileOutput<'a> {
         }
     }
 
-    /// Looks at the place where the file is to stand, of which nothing is changed. One that can't be
-    /// written to is a failure.
+    /// Looks at the place where the file is to stand, of which nothing is changed. One that can't
+    /// be written to is a failure.
     pub fn find(&mut self) -> Result<(), DeviceFault>
         ensures took { file_took self.new ≡ file_took self.old }
         ensures unplaced { IsUnplaced self.old → IsUnplaced self.new }
@@ -121,7 +121,7 @@ impl<'a> FileOutput<'a> {
         !self.is_cut
     }
 
-    /// What becomes of what was written.
+    /// What becomes of what was written: `is_done` decides of a draft alone.
     fn settled(&self, progress: Progress<'a>, is_done: bool) -> Settled<'a>
         ensures took { took_in result.placed result.progress ≡ taken_by progress.entry }
         ensures whole { IsNone result.fault → IsTrue is_done
@@ -186,7 +186,7 @@ impl<'a> FileOutput<'a> {
         }
     }
 
-    /// How the writing went.
+    /// How the writing went, for what a person is told of it.
     pub fn writing(&self) -> Writing<'_>
         ensures { IsTrue result.has_failed
             ↔ (0 < writing_failures self.now ⊎ IsTrue self.now.is_cut) }
@@ -224,7 +224,7 @@ fn flushed<'a>(stream: BufWriter<Noted<Stream>>) -> Settled<'a>
     }
 }
 
-/// Where nothing was written.
+/// Where nothing was written no file was made, so there is nothing to place or to remove.
 fn nothing_written<'a>() -> Settled<'a>
     ensures { result ≡ record { progress = Front; placed = None; fault = None } }
 {
@@ -235,7 +235,7 @@ fn nothing_written<'a>() -> Settled<'a>
     }
 }
 
-/// That what was written was removed before.
+/// That what was to take the name was removed before.
 fn removed() -> io::Error {
     io::Error::from(ErrorKind::NotFound)
 }

@@ -1,7 +1,7 @@
 //! A file that is written. It tells the octets that it took, and not what the file holds.
 //!
-//! A plain file is made where its first octets come, beside the name that it is to have. A device or
-//! a pipe takes the octets as they come.
+//! A plain file is made where its first octets come, beside the name that it is to have. A device
+//! or a pipe takes the octets as they come.
 ghost use Rattle.std.specs.Prelude.{◌≡◌, ◌≤◌, ◌+◌, ◌-◌, ◌^◌, ◌<◌, ◌↔◌, ◌++◌, [], length, min, take};
 ghost use Rattle.std.specs.Prelude.{None, IfOk, OnErr, OnOk, true};
 ghost use Rattle.devices.specs.Written.{taken_by};
@@ -32,13 +32,13 @@ pub struct FileSink<'a> {
 /// How far a file is written.
 #[derive(Drop)]
 pub(crate) enum Progress<'a> {
-    /// Nothing is written.
+    /// Nothing is written, so there is no file yet.
     Front,
     /// What was written went to what has the name.
     Direct(BufWriter<Noted<Stream>>),
     /// What was written stands beside the name.
     Beside(Draft<'a, HostRuntime>),
-    /// What was written was removed.
+    /// What was written is gone, as it was not whole; what it took is still told.
     Removed(Draft<'a, HostRuntime>),
 }
 
@@ -59,8 +59,8 @@ impl<'a> FileSink<'a> {
         }
     }
 
-    /// Looks at the place where the file is to stand, of which nothing is changed. One that can't be
-    /// written to is a failure.
+    /// Looks at the place where the file is to stand, of which nothing is changed. One that can't
+    /// be written to is a failure.
     pub(crate) fn find(&mut self) -> Result<(), DeviceFault>
         ensures took { ⟦<FileSink<'a> as ByteSink>⟧.took self.new
             ≡ ⟦<FileSink<'a> as ByteSink>⟧.took self.old }
@@ -110,7 +110,7 @@ impl<'a> FileSink<'a> {
         Ok(())
     }
 
-    /// What is to be written, at a place that is found.
+    /// What is to be written, at a place that is found: its buffer is made here, and not before.
     fn begun(&self, place: Place<Global>) -> io::Result<Progress<'a>>
         ensures { IfOk result (λ p. taken_by p ≡ []) }
     {
@@ -131,7 +131,7 @@ impl<'a> FileSink<'a> {
         self.fault
     }
 
-    /// Whether it failed.
+    /// Whether a call failed, which no later one mends.
     pub(crate) fn has_failed(&self) -> bool
         ensures { result ≡ true ↔ 0 < self.now.failures }
     {
@@ -143,7 +143,8 @@ impl<'a> FileSink<'a> {
         self.name
     }
 
-    /// Counts a failure.
+    /// Counts a failure, and keeps why it came, so that want of memory for the buffer is told as
+    /// that.
     fn fail(&mut self, fault: Option<io::Error>) -> DeviceFault
         ensures failures { self.new.failures ≡ min (self.old.failures + 1) (2 ^ 64 - 1) }
         ensures progress { self.new.progress ≡ self.old.progress }

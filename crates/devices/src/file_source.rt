@@ -26,9 +26,9 @@ pub struct FileSource<'a> {
     progress: Progress,
     gave: History,
     failures: u64,
-    /// Whether its reading began.
+    /// Whether its reading began: the last file that did is the one that a fault is told of.
     is_begun: bool,
-    /// How many octets were read.
+    /// How many octets were read, or passed: the place where the reading stands.
     octet: u64,
     /// Whether it begins as what gzip packs.
     is_packed: bool,
@@ -41,7 +41,7 @@ pub struct FileSource<'a> {
 enum Progress {
     /// The file isn't open yet.
     Front,
-    /// It is open.
+    /// It is open, and was not read to its end.
     Within(BufReader<File>),
     /// It was read to its end, and closed.
     Past,
@@ -81,7 +81,7 @@ impl<'a> FileSource<'a> {
         source
     }
 
-    /// Whether it is this plain file.
+    /// Whether it is this plain file, whatever name either has; never where that is none.
     pub fn is(&self, file: Option<Identity>) -> bool {
         file.is_some() && identity_of(self.rt, self.path) == file
     }
@@ -95,7 +95,7 @@ impl<'a> FileSource<'a> {
         }
     }
 
-    /// Where the reading stands.
+    /// Where the reading stands: its name, how many octets were read, and why it failed last.
     pub fn reading(&self) -> Reading<'a> {
         Reading {
             name: self.name,

@@ -79,12 +79,12 @@ pub fn last_begun<'a>(files: &[FileSource<'a>]) -> Option<Reading<'a>> {
     last
 }
 
-/// Whether one of these files is this one.
+/// Whether a file that is read is the one that is to be written.
 pub fn any_is(files: &[FileSource<'_>], file: Option<Identity>) -> bool {
     files.iter().any(|it| it.is(file))
 }
 
-/// Whether this file, where one is named, is this one.
+/// The same of a file that may not be named.
 pub fn one_is(named: &Option<FileSource<'_>>, file: Option<Identity>) -> bool {
     match named {
         Some(named) => named.is(file),

@@ -30,7 +30,7 @@ impl History {
         }
     }
 
-    /// These come behind those before.
+    /// Puts octets behind those before, for clauses alone: nothing is kept.
     pub(crate) fn note(&mut self, _octets: &[u8])
         ensures { self.new.octets ≡ self.old.octets ++ _octets.now }
     {}
@@ -57,7 +57,7 @@ impl Sendings {
         }
     }
 
-    /// This one comes behind those before.
+    /// Puts a datagram behind those before, for clauses alone: nothing is kept.
     pub(crate) fn note(&mut self, _octets: &[u8])
         ensures { self.new.datagrams ≡ self.old.datagrams ++ _octets.now ∷ [] }
     {}
@@ -84,7 +84,7 @@ impl Arrivals {
         }
     }
 
-    /// This one comes behind those before.
+    /// Puts a datagram and its path behind those before, for clauses alone: nothing is kept.
     pub(crate) fn note(&mut self, path: Path, octets: &[u8])
         ensures { self.new.came ≡ self.old.came ++ (path, octets.now) ∷ [] }
     {

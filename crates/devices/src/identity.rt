@@ -9,8 +9,8 @@ pub struct Identity {
     inode: u64,
 }
 
-/// The plain file of a name, through links too; none where nothing has the name, or what has it is a
-/// device, a pipe or a folder.
+/// The plain file of a name, through links too; none where nothing has the name, or what has it is
+/// a device, a pipe or a folder.
 pub(crate) fn identity_of(rt: &HostRuntime, name: &str) -> Option<Identity> {
     let found = fs::metadata(rt, name).ok()?;
     if found.is_file() {

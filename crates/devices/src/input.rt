@@ -6,7 +6,7 @@ use crate::standing::Reading;
 use st_format::{ByteSource, DeviceFault};
 use std::io::{self, Read};
 
-/// Any reader, as standard input.
+/// Standard input, or any other reader in its place.
 #[derive(Drop)]
 pub struct InputSource<R: Read + Drop> {
     reader: R,
@@ -14,11 +14,11 @@ pub struct InputSource<R: Read + Drop> {
     is_ended: bool,
     gave: History,
     failures: u64,
-    /// How many octets were read.
+    /// How many octets were read: the place where the reading stands.
     octet: u64,
     /// Why it failed last.
     fault: Option<io::Error>,
-    /// What was read, where it is kept.
+    /// All that was read so far, where a fault's line is to be shown of it.
     kept: Option<Vec<u8>>,
 }
 
@@ -39,7 +39,7 @@ impl<R: Read + Drop> InputSource<R> {
         }
     }
 
-    /// What was read, where it is kept.
+    /// All that was read so far, where it is kept and there was memory for it.
     pub fn kept(&self) -> Option<&[u8]> {
         match &self.kept {
             Some(kept) => Some(kept.as_slice()),
@@ -47,7 +47,7 @@ impl<R: Read + Drop> InputSource<R> {
         }
     }
 
-    /// Where the reading stands.
+    /// Where the reading stands: how many octets were read, and why it failed last.
     pub fn reading(&self) -> Reading<'static> {
         Reading {
             name: "standard input",

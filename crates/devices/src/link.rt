@@ -35,7 +35,8 @@ pub struct UdpLink {
 }
 
 impl UdpLink {
-    /// Binds two sockets on 127.0.0.1.
+    /// Binds two sockets on 127.0.0.1, each at a port that is free. An `Err` is the system's
+    /// refusal.
     pub fn open<N: Net>(net: &N) -> io::Result<UdpLink>
         ensures unfailed { IfOk result (λ l. ⟦<UdpLink as DatagramSink>⟧.failures l ≡ 0) }
         ensures untaken { IfOk result (λ l. ⟦<UdpLink as DatagramSink>⟧.took l ≡ []) }
@@ -58,7 +59,7 @@ impl UdpLink {
         })
     }
 
-    /// How sending and receiving went.
+    /// How sending and receiving went, for what a person is told of it.
     pub fn writing(&self) -> Writing<'static>
         ensures { IsTrue result.has_failed
             ↔ (0 < ⟦<UdpLink as DatagramSink>⟧.failures self.now) }

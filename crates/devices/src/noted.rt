@@ -22,14 +22,14 @@ impl<W: Write + Drop> Noted<W> {
         }
     }
 
-    /// The writer itself.
+    /// The writer itself, for what a draft asks of its file.
     pub(crate) fn writer(&self) -> &W
         ensures { result.now ≡ self.now.writer }
     {
         &self.writer
     }
 
-    /// What it took.
+    /// What it took, for the clauses behind; the writer is given up.
     pub(crate) fn into_wrote(self) -> History
         ensures { result ≡ self.wrote }
     {

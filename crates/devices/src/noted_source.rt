@@ -52,7 +52,7 @@ impl<G: Giver> NotedSource<G> {
         let _failures = &self.failures;
     }
 
-    /// The giver.
+    /// The giver, lent for what it tells beside its octets.
     pub fn giver(&self) -> &G
         ensures { result.now ≡ self.now.giver }
     {

@@ -7,7 +7,7 @@ use crate::stream::{OUTPUT, Stream};
 use st_format::{ByteSink, DeviceFault};
 use std::io::{self, Write};
 
-/// Any writer, as standard output.
+/// Standard output, or any other writer in its place.
 #[derive(Drop)]
 pub struct OutputSink<W: Write + Drop> {
     writer: W,
@@ -33,7 +33,7 @@ impl<W: Write + Drop> OutputSink<W> {
         }
     }
 
-    /// How the writing went.
+    /// How the writing went, for what a person is told of it.
     pub fn writing(&self) -> Writing<'static>
         ensures { IsTrue result.has_failed
             ↔ (0 < ⟦<OutputSink<W> as ByteSink>⟧.failures self.now) }

@@ -21,8 +21,9 @@ pub(crate) enum Place<A: Allocator> {
     Direct,
 }
 
-/// Finds out what stands there, following links. A place that can't be written to is a fault; of
-/// what stands there nothing is changed.
+/// Finds out what stands there, following links. A place that can't be written to is a fault, also
+/// a file that itself may not be written, though one could be put in its place. Of what stands
+/// there nothing is changed.
 pub(crate) fn find_place<R: Files + Alloc>(files: &R, name: &str) -> io::Result<Place<R::A>> {
     if is_stream(name) {
         return Ok(Place::Direct);

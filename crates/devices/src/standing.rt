@@ -6,7 +6,7 @@ use std::io;
 #[derive(Clone, Copy)]
 pub struct Reading<'a> {
     pub name: &'a str,
-    /// How many octets were read.
+    /// How many octets were read: the place where the reading stands.
     pub octet: u64,
     /// Whether it begins as what gzip packs.
     pub is_packed: bool,

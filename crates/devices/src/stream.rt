@@ -5,7 +5,7 @@ use std::io::{self, Stderr, Stdout, Write};
 /// The name of standard output.
 pub(crate) const OUTPUT: &str = "-";
 
-/// A stream that is written.
+/// A stream that is written: a device or a pipe by its name, standard output, or standard error.
 #[derive(Drop)]
 pub enum Stream {
     Named(File),
@@ -14,7 +14,8 @@ pub enum Stream {
 }
 
 impl Stream {
-    /// The stream of this name.
+    /// The stream of this name: standard output, or a device or a pipe, which is opened to be
+    /// written.
     pub(crate) fn open(rt: &HostRuntime, name: &str) -> io::Result<Stream> {
         if name == OUTPUT {
             Ok(Stream::Output(rt.stdout()))

@@ -18,14 +18,15 @@ use Rattle.export_engine.specs.declared.places.Envelopes.{Envelopes}
 use Rattle.export_engine.specs.declared.places.IpEnvelope.{IpEnvelope}
 use Rattle.export_engine.specs.declared.places.IpEnvelope.TheVariants.{V4, V6}
 
--- the address that sends, of IPv4 and of IPv6: one for documentation. RFC 5737, 3; RFC 3849, 2
+-- the address that sends of IPv4: one for documentation (RFC 5737, 3)
 abbrev pub sender : List ℕ
 sender = 192 ∷ 0 ∷ 2 ∷ 1 ∷ []
 
+-- the address that sends of IPv6, 2001:db8::1: one for documentation (RFC 3849, 2)
 abbrev pub sender6 : List ℕ
 sender6 = 0x20 ∷ 0x01 ∷ 0x0d ∷ 0xb8 ∷ 0 ∷ 0 ∷ 0 ∷ 0 ∷ 0 ∷ 0 ∷ 0 ∷ 0 ∷ 0 ∷ 0 ∷ 0 ∷ 1 ∷ []
 
--- from octets of a source to an address and a port, and from the same port
+-- from octets of a source to an address of IPv4 and a port, and from the same port
 abbrev pub envelope_4 : List ℕ → Ipv4Addr → ℕ → IpEnvelope
 envelope_4 source a port =
     V4 (record {
@@ -35,6 +36,7 @@ envelope_4 source a port =
       destination_port = port;
     })
 
+-- the same of IPv6
 abbrev pub envelope_6 : List ℕ → Ipv6Addr → ℕ → IpEnvelope
 envelope_6 source a port =
     V6 (record {
@@ -90,11 +92,12 @@ most_payload (V6 e) = 65527
 abbrev pub can_say : IpEnvelope → ℕ → ℕ → Bool
 can_say e moment count = nat_le count (most_payload e) && nat_lt moment (2 ^ 32 * 1000000000)
 
--- how a record's datagram is sent; none where it is left out
+-- an envelope, where there is one and it can say a datagram of so many octets at a moment
 abbrev pub if_said : Option IpEnvelope → ℕ → ℕ → Option IpEnvelope
 if_said None moment count = None
 if_said (Some e) moment count = if can_say e moment count then Some e else None
 
+-- how a record's datagram is sent; none where it is left out
 abbrev pub sent_by : Envelopes → Entry → Option IpEnvelope
 sent_by es e = if_said (envelope_of es e.path) e.moment (length e.octets)
 
@@ -108,6 +111,7 @@ abbrev pub packet_by : Option IpEnvelope → Entry → List ℕ
 packet_by None e = []
 packet_by (Some envelope) e = datagram_by envelope e.moment e.octets
 
+-- the packet of a record, where it has one
 abbrev pub packet_text : Envelopes → Entry → List ℕ
 packet_text es e = packet_by (sent_by es e) e
 
@@ -124,6 +128,7 @@ abbrev pub is_there : Option IpEnvelope → Bool
 is_there None = false
 is_there (Some envelope) = true
 
+-- a record of a capture has a packet
 abbrev pub has_packet : Envelopes → Entry → Bool
 has_packet es e = is_there (sent_by es e)
 

@@ -13,15 +13,17 @@ use Rattle.export_engine.specs.declared.places.Envelopes.{Envelopes}
 use Rattle.export_engine.specs.declared.places.IpEnvelope.{IpEnvelope}
 use Rattle.export_engine.specs.declared.places.IpEnvelope.TheVariants.{V4, V6}
 
--- a datagram so sent: the packet at this time, its octets, and the datagram that these are
+-- a datagram so sent, as a packet that is recorded at this time
 abbrev pub recorded_by : IpEnvelope → ℕ → List ℕ → Recorded
 recorded_by (V4 e) time payload = recorded_of e time payload
 recorded_by (V6 e) time payload = recorded6_of e time payload
 
+-- the octets of its packet
 abbrev pub frame_by : IpEnvelope → List ℕ → List ℕ
 frame_by (V4 e) payload = frame_text e payload
 frame_by (V6 e) payload = frame6_text e payload
 
+-- the datagram that these are
 abbrev pub datagram_in : IpEnvelope → List ℕ → Datagram
 datagram_in (V4 e) payload = datagram_of e payload
 datagram_in (V6 e) payload = datagram_of (ends_of e) payload

@@ -30,8 +30,8 @@ pub struct Exporting<'a> {
 
 /// Writes a capture, of either version, as a recording of pcap in nanoseconds: a packet of
 /// Ethernet, IPv4 or IPv6, and UDP for each record, at the record's moment, which is taken for
-/// nanoseconds since 1970. The packet goes to the flow of the record's path, from 192.0.2.1 or
-/// 2001:db8::1 and the flow's own port.
+/// nanoseconds since 1970. The packet goes to the flow of the record's path, from the source that
+/// the flow names, or else from 192.0.2.1 or 2001:db8::1, and from the flow's own port.
 ///
 /// A record is left out whose path has no flow, which has more than 65,507 octets, or 65,527 over
 /// IPv6, or whose moment is 2^32 seconds or later. `exported N left out K` is printed to `output`.
@@ -123,7 +123,7 @@ fn export_capture<A: Allocator + Copy, S: ByteSource, K: ByteSink>(
     }
 }
 
-/// Room for any packet.
+/// Room for the greatest packet, which is made once for all.
 fn packet_room<A: Allocator>(alloc: A) -> Result<Vec<u8, A>, AllocError>
     ensures { IfOk result (λ room. vec_len room ≡ 65605) }
 {

@@ -16,10 +16,10 @@ use media_file::{FileFault, RecordHead, read_front, record_begins, record_rest};
 use pcap_file::{HEADS6, write_pcap_head, write_record, write_record6};
 use st_format::{ByteSink, ByteSource, DeviceFault, write_whole};
 
-/// Room for the greatest packet, in octets.
+/// Room for the greatest packet, in octets: one of IPv6, with all that stands before its payload.
 pub const PACKET: usize = HEADS6 + MOST_PAYLOAD6;
 
-/// How many octets stand before the packets of a recording.
+/// How many octets stand before the packets of a recording: the head of a file of pcap.
 const HEAD: usize = 24;
 
 /// How many datagrams were written, and how many were left out.
@@ -29,7 +29,8 @@ pub struct ExportCounts {
     pub left_out: u64,
 }
 
-/// Writes a datagram's packet over the first octets of `packet`, and answers how many.
+/// Writes a datagram's packet over the first octets of `packet`, as a record of pcap, and answers
+/// how many octets it has.
 fn write_datagram(packet: &mut [u8], envelope: &IpEnvelope, time: u64, payload: &[u8]) -> usize
     requires few { length payload.now ≤ most_payload envelope.now }
     requires room { 65605 ≤ length packet.old }

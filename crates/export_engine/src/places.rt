@@ -43,7 +43,7 @@ pub struct Envelopes {
     pub b: Option<IpEnvelope>,
 }
 
-/// From the octets of a source to an address and a port, and from the same port.
+/// From the octets of a source to an address and a port, and from the same port: a flow names one.
 fn envelope_4(source: [u8; 4], address: Ipv4Addr, port: u16) -> IpEnvelope
     ensures { result ≡ envelope_4 source address port }
 {
@@ -149,7 +149,7 @@ impl IpEnvelope {
         }
     }
 
-    /// Whether a datagram of so many octets at this moment has a packet.
+    /// Whether a datagram of so many octets at this moment has a packet, which pcap can say.
     fn can_say(&self, moment: u64, count: usize) -> bool
         ensures { result ≡ can_say self.now moment count }
     {

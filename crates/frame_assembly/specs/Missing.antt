@@ -73,14 +73,15 @@ abbrev pub unknown_runs : Raster → ℕ → List (Range ℕ)
 unknown_runs r row =
     map (columns_of (pixel_group r.format.sampling r.format.depth).pixels) (missing_runs_in r row)
 
--- The same of mark words, for the code's own clauses: whether a group is known, and the columns of
--- the missing runs of groups, the first of this number
+-- The same of mark words, for the code's own clauses: whether a group is known
 abbrev pub is_known_mark : ℕ → Bool
 is_known_mark mark = is_group_present (state_of_mark mark)
 
+-- which groups are known, each by its mark word
 abbrev pub flags_in : List ℕ → List Bool
 flags_in marks = map is_known_mark marks
 
+-- the columns of the missing runs of groups, the first of this number
 abbrev pub runs_of_marks : ℕ → ℕ → List ℕ → List (Range ℕ)
 runs_of_marks columns group marks =
     map (columns_of columns) (runs_from group group (flags_in marks))

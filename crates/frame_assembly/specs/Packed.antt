@@ -56,11 +56,13 @@ abbrev pub cells_in : Format → List ℕ → List ℕ → List Cell
 cells_in f marks octets =
     packed_cells (bits_of f.depth) (pixel_group f.sampling f.depth).octets marks octets
 
+-- mark words and octets are those of whole groups of a format
 abbrev pub ArePacked : Format → List ℕ → List ℕ → Type 0
 ArePacked f marks octets =
     IsPacked (bits_of f.depth) (pixel_group f.sampling f.depth).octets
     (pixel_group f.sampling f.depth).samples marks octets
 
+-- groups after others of the format were joined to them
 abbrev pub AreJoined : Format → List ℕ → List ℕ → List ℕ → List ℕ → List ℕ → List ℕ → Type 0
 AreJoined f marks octets other_marks others new_marks new_octets =
     Joins (bits_of f.depth) (pixel_group f.sampling f.depth).octets

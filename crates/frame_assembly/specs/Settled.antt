@@ -44,6 +44,7 @@ abbrev pub base_number : {A : Type 0} → Sampling → Base A → ℕ → ℕ
 base_number s (Fill fill) k = slice_index fill (component_in_row s k)
 base_number s (Hold picture) k = slice_index picture.now.samples k
 
+-- the value of each cell, or the base's of its number where it has none
 abbrev pub settled_numbers : List Cell → (ℕ → ℕ) → List ℕ
 settled_numbers cells base =
     map (λ k. settled_cell (slice_index_or cells k Missing) (base k))

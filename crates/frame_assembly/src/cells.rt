@@ -8,7 +8,7 @@ use crate::groups::marked_cell;
 use pgroup_pack::sample_at;
 use st_format::{Cell, Format};
 
-/// The cell of the sample of this number.
+/// The cell of the sample of this number, counted from 0 in raster order.
 pub fn cell_in(format: &Format, marks: &[u16], octets: &[u8], number: usize) -> Cell
     requires packed { ArePacked format.now marks.now octets.now }
     requires below { number

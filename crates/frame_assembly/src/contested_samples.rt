@@ -109,7 +109,8 @@ fn even_groups(marks: &[u16], size: usize) -> usize
     marks.len()
 }
 
-/// Whether a group of this mark word has a contested sample.
+/// Whether a group of this mark word has a contested sample: most words are one of two, and have
+/// none.
 #[inline(always)]
 fn has_contested(mark: u16, size: usize) -> bool
     requires { size ≤ 12 }
@@ -136,7 +137,7 @@ fn next_set(mark: u16, at: usize, size: usize) -> usize
     size
 }
 
-/// Whether a bit of a mark word is set.
+/// Whether bit `i` of a mark word is set: of the first `size` bits, that sample `i` is contested.
 #[inline(always)]
 #[tactic(auto, using(std::proofs::lemmas::Nat::Bits::shr_and_one))]
 fn is_set(mark: u16, i: usize) -> bool
@@ -156,7 +157,7 @@ fn spot(sampling: Sampling, sample: usize) -> (u32, u8)
     (column_of(sampling, sample), component)
 }
 
-/// The column of a row's sample.
+/// The column of a row's sample: of 4:2:2 four samples have two columns.
 #[tactic(auto, unfolding(st_format::specs::Position::place_in_row))]
 fn column_of(sampling: Sampling, sample: usize) -> u32
     requires { sample ≤ 98320 }

@@ -56,7 +56,7 @@ pub fn count_cells(format: &Format, marks: &[u16], octets: &[u8]) -> Counts
     }
 }
 
-/// A bit for each sample of a group.
+/// A bit for each sample of a group: those of a mark word that tell contested samples.
 fn samples_mask(samples: usize) -> u16
     requires { samples ≤ 12 }
     ensures { result ≡ 2 ^ samples - 1 }

@@ -91,7 +91,7 @@ impl<A: Allocator + Copy> Frame<A> {
 }
 
 impl<A: Allocator> Frame<A> {
-    /// The format that the frame was made with.
+    /// The format that the frame was made with, which stays.
     pub fn format(&self) -> Format
         ensures format { result ≡ self.now.format }
         ensures whole { IsWhole self.now }
@@ -185,7 +185,7 @@ impl<A: Allocator> Frame<A> {
         );
     }
 
-    /// How many samples are present, missing and contested.
+    /// How many samples are present, missing and contested: together all of the raster.
     pub fn counts(&self) -> Counts
         ensures present { result.present ≡ count_by is_present self.now.cells }
         ensures missing { result.missing ≡ count_by is_missing self.now.cells }
@@ -480,7 +480,8 @@ impl<A: Allocator> Frame<A> {
         );
     }
 
-    /// Whether two frames have one format and the same cells.
+    /// Whether two frames have one format and the same cells. A sample without a value is kept as
+    /// 0, so two comparisons tell.
     pub fn same<B: Allocator>(&self, other: &Frame<B>) -> bool
         ensures { IsTrue result ↔ (self.now ≡ other.now) }
     {

@@ -18,7 +18,7 @@ const SPAN: usize = 128;
 /// How many groups of a block that is neither the same nor missing are looked at together.
 const CHUNK: usize = 8;
 
-/// Joins other groups, a span after the other.
+/// Joins other groups, a span after the other: those of another frame, or of a segment.
 pub fn join_run(
     format: &Format,
     marks: &mut [u16],
@@ -222,7 +222,8 @@ fn join_chunk(
     join_unlike(format, marks, octets, other_marks, others);
 }
 
-/// Joins a few other groups that are not the same.
+/// Joins a few other groups that are not the same: one by one only where some of a side are missing
+/// and some aren't.
 #[inline(always)]
 fn join_unlike(
     format: &Format,
@@ -253,7 +254,7 @@ fn join_unlike(
     join_groups(format, marks, octets, other_marks, others);
 }
 
-/// Joins a few other groups where no sample is missing on either side.
+/// Joins a few other groups where no sample is missing on either side: all are compared together.
 #[inline(always)]
 fn join_present(
     format: &Format,
@@ -293,7 +294,7 @@ fn or_marks(into: &mut [u16], from: &[u16])
     both.copy_to_slice(into);
 }
 
-/// Joins other groups one by one.
+/// Joins other groups one by one, as some on either side are missing and some are not.
 fn join_groups(
     format: &Format,
     marks: &mut [u16],
@@ -413,14 +414,12 @@ pub fn same_groups(
     same_words(marks, other_marks) && same_octets(octets, others)
 }
 
-/// Whether mark words are the same.
 fn same_words(left: &[u16], right: &[u16]) -> bool
     ensures { IsTrue result ↔ (left.now ≡ right.now) }
 {
     left == right
 }
 
-/// Whether octets are the same.
 fn same_octets(left: &[u8], right: &[u8]) -> bool
     ensures { IsTrue result ↔ (left.now ≡ right.now) }
 {

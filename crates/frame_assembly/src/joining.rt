@@ -12,13 +12,13 @@ use crate::state::PRESENT;
 use payload_header::Segment;
 use st_format::Format;
 
-/// The most groups of a row.
+/// The most groups of a row: as many as the widest row has columns.
 const MOST_GROUPS: usize = 8192;
 
 /// The mark words of groups of which each sample is present, for as many as a row may have.
 static WHOLE: [u16; MOST_GROUPS] = [PRESENT; MOST_GROUPS];
 
-/// How many groups a raster has.
+/// How many groups a raster has: at most 2^26.
 pub fn group_total(format: &Format) -> usize
     ensures value { result ≡ group_count format.now }
     ensures limit { result ≤ 8192 * 8192 }
@@ -61,7 +61,7 @@ pub fn join_segments(
     }
 }
 
-/// Joins what one segment offers.
+/// Joins what one segment offers: groups that lie one after another in a row, or nothing.
 fn join_segment(format: &Format, marks: &mut [u16], octets: &mut [u8], segment: &Segment<'_>)
     requires whole { length marks.old ≡ group_count format.now }
     requires packed { ArePacked format.now marks.old octets.old }
@@ -87,7 +87,7 @@ fn join_segment(format: &Format, marks: &mut [u16], octets: &mut [u8], segment: 
     );
 }
 
-/// Joins groups of which each sample is offered.
+/// Joins groups of which each sample is offered, as if they were another frame's.
 fn join_whole(format: &Format, marks: &mut [u16], octets: &mut [u8], others: &[u8])
     requires few { length marks.old ≤ MOST_GROUPS }
     requires packed { ArePacked format.now marks.old octets.old }

@@ -19,7 +19,7 @@ use st_format::Format;
 /// The most octets that a pgroup has: four pixels of 4:4:4 or RGB at 10 bits (RFC 4175, 4.3).
 pub const MOST_GROUP_OCTETS: usize = 15;
 
-/// The octets of a row.
+/// The octets of a row, as they are sent, with 0 for each sample that is missing or contested.
 pub fn octets_of_row<'a>(format: &Format, marks: &[u16], octets: &'a [u8], row: u32) -> &'a [u8]
     requires whole { length marks.now ≡ group_count format.now }
     requires packed { ArePacked format.now marks.now octets.now }
@@ -39,7 +39,7 @@ pub fn octets_of_row<'a>(format: &Format, marks: &[u16], octets: &'a [u8], row: 
     &octets[size * first..size * (first + count)]
 }
 
-/// The mark words of a row.
+/// The mark words of a row, one for each of its groups from the left.
 pub fn marks_of_row<'a>(format: &Format, marks: &'a [u16], octets: &[u8], row: u32) -> &'a [u16]
     requires whole { length marks.now ≡ group_count format.now }
     requires packed { ArePacked format.now marks.now octets.now }
@@ -153,7 +153,7 @@ pub fn set_group_of(
     }
 }
 
-/// Replaces one group.
+/// Replaces the mark word and the octets of one group.
 fn put_group(
     format: &Format,
     marks: &mut [u16],

@@ -22,7 +22,8 @@ const BLOCK_SAMPLES: usize = 768;
 /// Samples after which the components of each sampling come again.
 const TURN: usize = 12;
 
-/// The value of each cell, or the base's value where it has none.
+/// The value of each cell, or the base's value where it has none. An `Err` comes only where the
+/// allocator refused the memory.
 pub fn settled_samples<B: Allocator, C: Allocator>(
     alloc: B,
     format: &Format,
@@ -46,7 +47,7 @@ pub fn settled_samples<B: Allocator, C: Allocator>(
     Ok(samples)
 }
 
-/// Reads the samples, and gives each the base's value where its cell has none.
+/// Reads all samples, and then gives each the base's value where its cell has none.
 fn read_settled<C: Allocator>(
     format: &Format,
     marks: &[u16],
@@ -99,7 +100,7 @@ pub fn settle_run<C: Allocator>(
     settle_run_over(format, marks, octets, first, count, base, &pattern, samples);
 }
 
-/// The same over a base whose pattern was made.
+/// The same over a base whose pattern was made: once, for all runs that a caller settles.
 pub fn settle_run_over<C: Allocator>(
     format: &Format,
     marks: &[u16],
@@ -325,7 +326,7 @@ fn settle_block(of_group: usize, marks: &[u16], base: &[u16], samples: &mut [u16
     settle_each(of_group, marks, base, samples);
 }
 
-/// Whether each group has all its values.
+/// Whether each group has all its values: no sample is missing, and none contested.
 fn are_whole(marks: &[u16]) -> bool
     ensures { IsTrue result ↔ ((k : ℕ) → k < length marks.now → slice_index marks.now k ≡ 32768) }
 {
@@ -338,7 +339,7 @@ fn are_whole(marks: &[u16]) -> bool
     least == PRESENT && most == PRESENT
 }
 
-/// Settles groups one by one.
+/// Settles groups one by one, as some samples have a value and some have none.
 #[inline(always)]
 fn settle_each(of_group: usize, marks: &[u16], base: &[u16], samples: &mut [u16])
     requires few { of_group ≤ 12 }
@@ -374,7 +375,7 @@ fn settle_group(mark: u16, base: &[u16], samples: &mut [u16])
     }
 }
 
-/// The value of the cell, or `fill` where it has none.
+/// The value of the cell, or `fill` where it is missing or contested.
 fn settled_value(cell: Cell, fill: u16) -> u16
     ensures { result ≡ settled_cell cell fill }
 {

@@ -7,9 +7,9 @@ pub const PRESENT: u16 = 0x8000;
 /// What is known of the samples of a pgroup.
 #[derive(Clone, Copy, Debug, PartialEq, Eq)]
 pub enum GroupState {
-    /// All are missing.
+    /// Nothing is known of any of its samples: a datagram has all of a group, or none.
     Gone,
-    /// Each has a value.
+    /// Each of its samples has a value.
     Whole,
     /// None is missing, and sample `i` is contested where bit `i` is set.
     Mixed(u16),

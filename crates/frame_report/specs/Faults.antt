@@ -3,8 +3,10 @@ use Rattle.std.specs.Prelude.{ℕ, List, codes}
 use Rattle.frame_report.specs.declared.fault.ReportFault.{ReportFault}
 use Rattle.frame_report.specs.declared.fault.ReportFault.TheVariants.{Device}
 
+-- of reports that weren't written whole
 abbrev pub report_fault_number : ReportFault → ℕ
 report_fault_number Device = 1
 
+-- of reports that weren't written whole
 abbrev pub report_fault_name : ReportFault → List ℕ
 report_fault_name Device = codes "Device"

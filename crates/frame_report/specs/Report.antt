@@ -27,6 +27,7 @@ abbrev pub text_if : ℕ → Option Raster → List ℕ
 text_if timestamp None = []
 text_if timestamp (Some r) = frame_text timestamp r
 
+-- those of a timestamp of a receiver's window
 abbrev pub text_at : State → ℕ → List ℕ
 text_at s timestamp = text_if timestamp (frame_at s.opening.window s.frames timestamp)
 

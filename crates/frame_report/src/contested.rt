@@ -36,7 +36,7 @@ pub(crate) fn put_contested<A: Allocator, K: ByteSink>(
     put_rows::<ContestedSamples, A, K>(page, sink, frame)
 }
 
-/// The lines of the contested samples.
+/// The lines of the contested samples, one for each.
 struct ContestedSamples;
 
 impl RowLines for ContestedSamples {
@@ -56,7 +56,7 @@ impl RowLines for ContestedSamples {
     }
 }
 
-/// Puts the line of a row's sample.
+/// Puts the line of a row's sample, by the name of its component.
 fn put_line<K: ByteSink>(
     page: &mut Page,
     sink: &mut K,

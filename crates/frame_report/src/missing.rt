@@ -57,7 +57,7 @@ impl RowLines for MissingGroups {
     }
 }
 
-/// Puts the line of a row's columns.
+/// Puts the line of a row's columns, by the first and the last one.
 fn put_run<K: ByteSink>(
     page: &mut Page,
     sink: &mut K,

@@ -35,7 +35,7 @@ fn add_raster(page: &mut Page, format: &Format)
     page.add_number(b"/", u64::from(format.d()));
 }
 
-/// Adds the source that is pinned, or `any`.
+/// Adds the number of the source that is pinned, or `any` where none is.
 fn add_source(page: &mut Page, ssrc: Option<u32>)
     requires { length page.old + 40 ≤ GATHERED }
     ensures text { page.new ≡ page.old ++ source_text ssrc }

@@ -10,7 +10,7 @@ use std::marker::Model;
 /// How many octets are gathered before a sink is asked to take them.
 pub(crate) const GATHERED: usize = 4096;
 
-/// Room for any line.
+/// Room for any line, with 40 octets for each of its numbers.
 pub(crate) const LINE: usize = 512;
 
 /// Text that waits for a sink: a line is put behind it, and where that may have no place, what
@@ -43,7 +43,7 @@ impl Page {
         }
     }
 
-    /// Writes what waits where a line may have no place behind it.
+    /// Writes what waits where a line may have no place behind it: so pages are of whole lines.
     pub(crate) fn make_room<K: ByteSink>(&mut self, sink: &mut K) -> Result<(), DeviceFault>
         ensures room { OnOk result (length self.new + LINE ≤ GATHERED) }
         ensures ok { OnOk result
@@ -73,7 +73,7 @@ impl Page {
         Ok(())
     }
 
-    /// Adds a word behind what waits.
+    /// Adds a word behind what waits; there is room for it.
     pub(crate) fn add(&mut self, word: &[u8])
         requires { length self.old + length word.now ≤ GATHERED }
         ensures { self.new ≡ self.old ++ word.now }

@@ -45,7 +45,7 @@ pub fn write_report<A: Allocator, K: ByteSink>(
     Ok(())
 }
 
-/// Puts the last line, and writes what waits.
+/// Puts the last line, and writes what waits: a report without `end` isn't whole.
 fn write_end<K: ByteSink>(page: &mut Page, sink: &mut K) -> Result<(), DeviceFault>
     ensures ok { OnOk result
         (TakesText (told_of K.took K.held sink.old) (told_of K.took K.held sink.new)
@@ -101,7 +101,7 @@ fn put_frame<A: Allocator, K: ByteSink>(
     put_contested(page, sink, frame, counts.contested)
 }
 
-/// Puts the line of a frame's counts.
+/// Puts the line of a frame's counts, where it has place.
 fn put_counts<K: ByteSink>(
     page: &mut Page,
     sink: &mut K,
@@ -121,7 +121,6 @@ fn put_counts<K: ByteSink>(
     Ok(())
 }
 
-/// Adds the line of a frame's counts.
 fn add_counts(page: &mut Page, timestamp: u32, counts: Counts)
     requires { length page.old + LINE ≤ GATHERED }
     ensures { page.new ≡ page.old ++ counts_line timestamp counts }

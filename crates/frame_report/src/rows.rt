@@ -12,7 +12,7 @@ use std::alloc::Allocator;
 
 /// What is told of each row of a frame, as lines.
 pub(crate) trait RowLines {
-    /// The lines of a row.
+    /// The lines of a row, none where nothing is to tell of it.
     ghost lines: { Raster → ℕ → List ℕ };
 
     fn put_row<A: Allocator, K: ByteSink>(

@@ -43,6 +43,7 @@ arrival_by p (Ok d) =
     } ∷ []
 arrival_by p (Err reason) = []
 
+-- the datagrams in recorded packets, in their order
 abbrev pub arrivals_of : List Recorded → List Arrival
 arrivals_of packets = flat_map (λ p. arrival_by p (datagram_in p)) packets
 
@@ -51,5 +52,6 @@ abbrev pub omission_by : Result Datagram NoDatagram → List Omission
 omission_by (Ok d) = []
 omission_by (Err reason) = by.NoDatagram reason ∷ []
 
+-- the reasons of the packets that have none, in their order
 abbrev pub omissions_of : List Recorded → List Omission
 omissions_of packets = flat_map (λ p. omission_by (datagram_in p)) packets

@@ -51,13 +51,14 @@ abbrev pub NotesUnless : {A : Type 0} → ℕ → (List ℕ → Type 0) → Opti
 NotesUnless room told None old new = NotesOctets room told None old new
 NotesUnless room told (Some f) old new = IfContent f (NotesOctets room told (Some f) old new)
 
+-- the same of what was read between two moments
 abbrev pub NotesRecording : {A : Type 0} → ℕ → List ℕ → List ℕ → Type 0
     → Option RecordingFault → Inspection A → Inspection A → Type 0
 NotesRecording room before now ended end old new =
     NotesUnless room (IsRead before now ended) end old new
 
--- Of a recording of which this was seen, packets were noted, up to its end or up to a fault, whatever
--- was read before.
+-- Of a recording of which this was seen, packets were noted, up to its end or up to a fault,
+-- whatever was read before.
 pub record NotesBehind {A : Type 0} (room : ℕ) (seen : Seen) (read now : List ℕ) (ended : Type 0)
     (end : Option RecordingFault) (old new : Inspection A) : Type 0 where
   pub packets : List Recorded
@@ -74,16 +75,18 @@ counts_end (Some f) old new = CountsFault f old new
 abbrev pub end_of : Bool → Option RecordingFault
 end_of cut = if cut then Some Truncated else None
 
--- Recordings were noted, one after the other, each up to its end or to where it was cut short; and
--- whether one was cut short.
+-- the recording was cut short
 abbrev pub is_cut : Option RecordingFault → Bool
 is_cut (Some Truncated) = true
 is_cut _ = false
 
+-- its reading ended so that the next one is read: at its end, or where it was cut short
 abbrev pub is_told : Option RecordingFault → Bool
 is_told None = true
 is_told f = is_cut f
 
+-- Recordings were noted, one after the other, each up to its end or to where it was cut short; and
+-- whether one was cut short.
 pub record NotesAll {S A : Type 0} (room : ℕ) (told : S → List ℕ → Type 0) (recordings : List S)
     (cut : Bool) (old new : Inspection A) : Type 0 where
   pub noted : (octets : List (List ℕ)) → AllZip told recordings octets
@@ -93,21 +96,23 @@ pub record NotesAll {S A : Type 0} (room : ℕ) (told : S → List ℕ → Type 
   pub cuts : (octets : List (List ℕ)) → AllZip told recordings octets
       → cut ≡ list_any (λ o. is_cut (fault_in room o)) octets
 
--- what is told of a flow, and of how many flows there are and of packets left out: lines for a
--- person, or objects of JSON (RFC 8259)
+-- what is told of a flow: lines for a person, or an object of JSON (RFC 8259)
 abbrev pub count_told : Form → FlowCount → List ℕ
 count_told Lines c = count_text c
 count_told Json c = count_json c
 
+-- how many flows there are, and the packets left out, as lines
 abbrev pub end_text : ℕ → LeftOut → List ℕ
 end_text flows l = codes "flows " ++ (decimal flows ++ left_out_text l)
 
+-- the members of the first three reasons
 abbrev pub first_reasons_json : LeftOut → List ℕ
 first_reasons_json l =
     codes "\"CutShort\":" ++ (decimal l.cut_short
     ++ (codes ",\"NotIp\":" ++ (decimal l.not_ip
     ++ (codes ",\"BadIpHeader\":" ++ decimal l.bad_ip_header))))
 
+-- the packets left out, by the reason, as an object of JSON
 abbrev pub left_out_json : LeftOut → List ℕ
 left_out_json l =
     codes "{" ++ (first_reasons_json l
@@ -115,23 +120,27 @@ left_out_json l =
     ++ (codes ",\"Fragment\":" ++ (decimal l.fragment
     ++ (codes ",\"BadUdpLength\":" ++ (decimal l.bad_udp_length ++ codes "}")))))))
 
+-- how many flows there are, and the packets left out, as an object of JSON
 abbrev pub end_json : ℕ → LeftOut → List ℕ
 end_json flows l =
     codes "{\"flows\":" ++ (decimal flows
     ++ (codes ",\"left_out\":" ++ (left_out_json l ++ codes "}")))
 
+-- the one or the other
 abbrev pub end_told : Form → ℕ → LeftOut → List ℕ
 end_told Lines flows l = end_text flows l
 end_told Json flows l = end_json flows l
 
--- what is told of flows and of packets left out: of each flow, and then how many flows there are
--- and how many packets are left out, by the reason
+-- what is told of a flow, to its end of line
 abbrev pub count_lines : Form → FlowCount → List ℕ
 count_lines form c = count_told form c ++ codes "\n"
 
+-- what is told at the end, to its end of line
 abbrev pub end_lines : Form → List FlowCount → LeftOut → List ℕ
 end_lines form counts l = end_told form (length counts) l ++ codes "\n"
 
+-- what is told of flows and of packets left out: of each flow, and then how many flows there are
+-- and how many packets are left out, by the reason
 abbrev pub inspection_text : Form → List FlowCount → LeftOut → List ℕ
 inspection_text form counts l = flat_map (count_lines form) counts ++ end_lines form counts l
 

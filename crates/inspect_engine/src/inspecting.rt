@@ -19,7 +19,7 @@ use std::alloc::{AllocError, Allocator};
 /// How many octets a packet or a block of a recording may have (own).
 const ROOM: usize = 1_048_576;
 
-/// Room for a packet or a block.
+/// Room for the greatest packet or block of a recording that is read.
 fn room<A: Allocator>(alloc: A) -> Result<Vec<u8, A>, AllocError>
     ensures { IfOk result (λ buf. vec_len buf ≡ 1048576) }
 {

@@ -13,14 +13,14 @@ use std::alloc::{AllocError, Allocator};
 /// What is noted of the packets of recordings.
 #[derive(Drop)]
 pub struct Inspection<A: Allocator> {
-    /// The flows of their datagrams.
+    /// The flows of their datagrams, in the order in which they first came.
     pub flows: FlowTable<A>,
-    /// The packets that are no datagrams.
+    /// The packets that are no datagrams, counted by the reason why.
     pub left_out: LeftOut,
 }
 
 impl<A: Allocator + Copy> Inspection<A> {
-    /// Of no packets.
+    /// What is noted of no packets.
     pub fn new(alloc: A) -> Inspection<A>
         ensures flows { result.flows ≡ flow_counts [] }
         ensures left_out { result.left_out ≡ left_out_of [] }

@@ -46,7 +46,7 @@ pub fn print_inspection<A: Allocator + Copy, O: ByteSink>(
     )
 }
 
-/// The lines of a flow, without the last end of line.
+/// The lines of a flow, or its object of JSON, without the last end of line.
 #[derive(Clone, Copy)]
 struct CountLines<'a> {
     form: Form,
@@ -113,7 +113,8 @@ impl Display for LeftOutJson {
     }
 }
 
-/// The members of the first three reasons.
+/// The members of the first three reasons; the object is written in two parts, each of a few
+/// counts.
 #[derive(Clone, Copy)]
 struct FirstReasons(LeftOut);
 
@@ -145,7 +146,8 @@ fn text_of<D: Display + Drop>(value: D) -> Option<ArrayString<TEXT>>
     }
 }
 
-/// Prints lines, and an end of line behind them.
+/// Prints lines, and an end of line behind them. That they fit is not proved: some that did not
+/// would be told as want of memory.
 fn print<D: Display + Drop, O: ByteSink>(lines: D, output: &mut O) -> Result<(), Fault>
     ensures printed { OnOk result (IfSome (D.output lines)
         (λ text. O.took output.new ≡ O.took output.old ++ (text ++ 10 ∷ []))) }

@@ -33,7 +33,7 @@ pub fn note_recording<A: Allocator + Copy, S: ByteSource>(
     note_packets(inspection, source, &mut layout, buf)
 }
 
-/// Notes the packets of a recording that is open.
+/// Notes the packets of a recording that is open, up to its end or its first fault.
 fn note_packets<A: Allocator + Copy, S: ByteSource>(
     inspection: &mut Inspection<A>,
     source: &mut S,

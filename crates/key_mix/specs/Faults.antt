@@ -19,6 +19,7 @@ use Rattle.key_mix.specs.declared.faults.JobFault.TheVariants.{
 use Rattle.key_mix.specs.declared.faults.SendJobFault.{SendJobFault}
 use Rattle.key_mix.specs.declared.faults.SendJobFault.TheVariants.{Job, BadPacketSize, Sink}
 
+-- of jobs
 abbrev pub job_fault_number : JobFault → ℕ
 job_fault_number NoMemory = 1
 job_fault_number FormatsDiffer = 2
@@ -29,6 +30,7 @@ job_fault_number NotYcc444 = 6
 job_fault_number WrongInputCount = 7
 job_fault_number BadGain = 8
 
+-- of jobs
 abbrev pub job_fault_name : JobFault → List ℕ
 job_fault_name NoMemory = codes "NoMemory"
 job_fault_name FormatsDiffer = codes "FormatsDiffer"
@@ -39,6 +41,7 @@ job_fault_name NotYcc444 = codes "NotYcc444"
 job_fault_name WrongInputCount = codes "WrongInputCount"
 job_fault_name BadGain = codes "BadGain"
 
+-- of jobs that are sent, without what the job's or the sink's fault says
 abbrev pub send_job_fault_name : SendJobFault → List ℕ
 send_job_fault_name (Job fault) = codes "Job"
 send_job_fault_name BadPacketSize = codes "BadPacketSize"

@@ -32,15 +32,17 @@ use Rattle.key_mix.specs.declared.faults.JobFault.TheVariants.{
   BadGain,
 }
 
--- the column or row that a wipe counts, and how many there are
+-- the column or row that a wipe counts
 abbrev pub along : Axis → Position → ℕ
 along Columns at = at.column
 along Rows at = at.row
 
+-- how many of these there are
 abbrev pub extent : Axis → Format → ℕ
 extent Columns f = f.width
 extent Rows f = f.height
 
+-- the two values at a position, mixed by the weight of its column or row
 abbrev pub wipe_value : WipeShape → Values → Values → Position → ℕ
 wipe_value w a b at =
     wipe (value_at a at) (value_at b at) (weight (along w.axis at) w.position w.soft)

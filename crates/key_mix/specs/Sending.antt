@@ -105,12 +105,13 @@ IsSendFault (fault.Job e) j formats size =
 IsSendFault fault.BadPacketSize j formats size = IsBadSize j formats size
 IsSendFault (fault.Sink sent) j formats size = IsSendable j formats size
 
--- the faults that come before a picture is sent, and those that come after its plan was made
+-- the faults that come before a picture is sent
 abbrev pub IsEarly : SendJobFault → Type 0
 IsEarly (fault.Job e) = Unit {0}
 IsEarly fault.BadPacketSize = Unit {0}
 IsEarly (fault.Sink sent) = ⊥
 
+-- the faults that come after its plan was made
 abbrev pub IsLate : SendJobFault → Type 0
 IsLate (fault.Job e) = e ≡ NoMemory
 IsLate fault.BadPacketSize = ⊥

@@ -9,7 +9,7 @@ use thiserror::Error;
 /// Why there is no picture.
 #[derive(Clone, Copy, Debug, PartialEq, Eq, Error)]
 pub enum JobFault {
-    /// The memory was refused.
+    /// The allocator refused the memory. Tested last.
     #[error("the memory was refused")]
     NoMemory = 1,
     /// The first two pictures have different formats, or the key has another size, depth or rate.
@@ -38,7 +38,7 @@ pub enum JobFault {
 impl JobFault {
     ghost use Rattle.key_mix.specs.Faults.{job_fault_name, job_fault_number};
 
-    /// Its number: 1 to 8.
+    /// Its number: 1 to 8, which isn't the order of the tests.
     pub fn number(self) -> u8
         ensures { result ≡ job_fault_number self }
     {
@@ -105,7 +105,7 @@ impl From<ColourFault> for JobFault {
 /// Why a job's picture wasn't sent.
 #[derive(Clone, Copy, Debug, PartialEq, Eq, Error)]
 pub enum SendJobFault {
-    /// There is no picture.
+    /// The job is refused, or memory was wanted for its picture.
     #[error("there is no picture: {0}")]
     Job(JobFault),
     /// The greatest size of a packet is below 20 octets and a pgroup of the job's picture, or above

@@ -48,10 +48,10 @@ pub(crate) fn format_of_one(job: &Job, format: Format) -> Result<Format, JobFaul
     }
 }
 
-/// The greatest gain: four times as far.
+/// The greatest gain (own): four times as far, in 4096ths.
 pub(crate) const MOST_GAIN: u32 = 16384;
 
-/// The same of two pictures.
+/// The same of two pictures, of which only a wipe is made.
 pub(crate) fn format_of_two(job: &Job, a: Format, b: Format) -> Result<Format, JobFault>
     ensures format { IfOk result (λ f. IsJobFormat f job.now (a ∷ b ∷ [])) }
     ensures sound { OnOk result (IsSoundJob job.now (a ∷ b ∷ [])) }
@@ -66,7 +66,7 @@ pub(crate) fn format_of_two(job: &Job, a: Format, b: Format) -> Result<Format, J
     }
 }
 
-/// The same of three pictures.
+/// The same of three pictures, of which only a key is made.
 pub(crate) fn format_of_three(
     job: &Job,
     a: Format,
@@ -126,7 +126,7 @@ pub(crate) fn test_key(a: Format, b: Format, by: Format) -> Result<(), JobFault>
     Ok(())
 }
 
-/// Whether two formats have one size, depth and rate.
+/// Whether two formats have one size, depth and rate, whatever their samplings.
 pub(crate) fn are_alike(left: Format, right: Format) -> bool
     ensures { IsTrue result ↔ IsAlike left right }
 {
@@ -137,7 +137,7 @@ pub(crate) fn are_alike(left: Format, right: Format) -> bool
         && left.d() == right.d()
 }
 
-/// How many columns or rows there are.
+/// How many columns or rows there are: at most so many a wipe's position and softness name.
 pub(crate) fn extent_of(axis: Axis, format: Format) -> u32
     ensures { result ≡ extent axis format }
 {

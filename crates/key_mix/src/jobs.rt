@@ -35,7 +35,7 @@ pub fn run_job<A: Allocator, C: Allocator + Copy>(
     }
 }
 
-/// The same of one picture.
+/// The same of one picture. It stays the caller's, so a range and a gain are made of a copy.
 fn run_on_one<A: Allocator, C: Allocator + Copy>(
     alloc: C,
     job: &Job,
@@ -56,7 +56,7 @@ fn run_on_one<A: Allocator, C: Allocator + Copy>(
     }
 }
 
-/// The same of two pictures.
+/// The same of two pictures, of which only a wipe is made.
 fn run_on_two<A: Allocator, C: Allocator + Copy>(
     alloc: C,
     job: &Job,
@@ -74,7 +74,7 @@ fn run_on_two<A: Allocator, C: Allocator + Copy>(
     }
 }
 
-/// The same of three pictures.
+/// The same of three pictures, of which only a key is made.
 fn run_on_three<A: Allocator, C: Allocator + Copy>(
     alloc: C,
     job: &Job,

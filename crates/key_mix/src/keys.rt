@@ -77,7 +77,7 @@ pub fn key<A: Allocator, B: Allocator, K: Allocator, C: Allocator + Copy>(
     Ok(Picture::from_samples(format, samples))
 }
 
-/// The samples of two lists of one format, keyed by the lumas of a third.
+/// The samples of two lists of one format, keyed by the lumas of a third, of a sampling of its own.
 fn keyed_samples<C: Allocator + Copy>(
     alloc: C,
     format: Format,
@@ -217,7 +217,7 @@ fn pair_keys(of_key: Sampling, scale: u16, row: &[u16], keys: &mut [u16])
     }
 }
 
-/// The same, pair after pair.
+/// The same, pair after pair, where each pixel of `row` has a luma of its three samples.
 #[inline(always)]
 fn pixel_pair_keys(of_key: Sampling, scale: u16, row: &[u16], keys: &mut [u16])
     requires few { length keys.old ≤ 32768 }

@@ -23,7 +23,7 @@ pub use wipes::wipe;
 pub enum Axis {
     /// From the left to the right.
     Columns,
-    /// From the top to the bottom.
+    /// From the top to the bottom; a row has one weight.
     Rows,
 }
 
@@ -31,7 +31,7 @@ pub enum Axis {
 /// on the second.
 #[derive(Clone, Copy, Debug, PartialEq, Eq)]
 pub struct WipeShape {
-    /// Columns or rows.
+    /// What it runs along.
     pub axis: Axis,
     /// How many columns or rows stand before it, all of the first picture: at most as many as there
     /// are.
@@ -40,19 +40,19 @@ pub struct WipeShape {
     pub soft: u32,
 }
 
-/// What is made of pictures.
+/// What is made of pictures, by formulas over whole numbers (ITU-R BT.709; the rest is own).
 #[derive(Clone, Copy, Debug, PartialEq, Eq)]
 pub enum Job {
-    /// A picture brought to a range.
+    /// One picture, each value brought to the nearest one of a range.
     Limit(RangeKind),
     /// A picture with each value so many 4096ths as far from black, or from the centre for Cb and
     /// Cr: at most 16384.
     Gain(u32),
     /// A picture of R, G and B in Y, Cb and Cr (ITU-R BT.709).
     ToYcc444,
-    /// A picture with the Cb and Cr of the even columns alone.
+    /// A picture of Y, Cb and Cr at each column, with those of the even columns alone.
     ToYcc422,
-    /// A wipe from a first picture to a second.
+    /// A wipe from a first picture to a second of its format.
     Wipe(WipeShape),
     /// A first picture and a second, mixed by the luma of a third.
     Key,

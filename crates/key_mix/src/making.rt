@@ -32,7 +32,7 @@ const ROOM: usize = 3072;
 /// How many samples a short part has at most: room for it is made in a third of the time.
 const SHORT_PART: usize = 256;
 
-/// Room for those.
+/// Room for a short part of each of the four kinds.
 const SHORT_ROOM: usize = 1024;
 
 /// What the samples of a picture are made of.
@@ -122,7 +122,7 @@ impl<'a, A: Allocator> MadePicture<'a, A> {
         pack(&self.format, made, octets);
     }
 
-    /// The same in room of its own.
+    /// The same in room of its own, which is a short one where that does.
     fn write_part(&self, first: usize, count: usize, octets: &mut [u8])
         requires inside { first + count ≤ group_count self.now.format }
         requires few { (pixel_group self.now.format.sampling self.now.format.depth).samples * count

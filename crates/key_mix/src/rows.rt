@@ -4,7 +4,7 @@ ghost use Rattle.st_format.specs.Position.{number_in_row, place_in_row};
 
 use st_format::Sampling;
 
-/// The column of the j-th sample of a row.
+/// The column of the j-th sample of a row: Cb and Cr of 4:2:2 are at the even column.
 #[tactic(auto, using(crate::proofs::InRow::columns))]
 #[inline(always)]
 pub(crate) fn column_in_row(sampling: Sampling, j: usize) -> usize
@@ -19,7 +19,8 @@ pub(crate) fn column_in_row(sampling: Sampling, j: usize) -> usize
     }
 }
 
-/// The number in its row of the luma at a column.
+/// The number in its row of the luma at a column; of R, G and B it would be R's, and no key has
+/// these.
 #[tactic(auto, using(crate::proofs::InRow::lumas))]
 #[inline(always)]
 pub(crate) fn luma_in_row(sampling: Sampling, column: usize) -> usize

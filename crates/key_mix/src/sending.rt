@@ -26,12 +26,13 @@ use packet_plan::{Plan, Raster, Stamp, send_frame};
 use st_format::{DatagramSink, Format, Picture};
 use std::alloc::{AllocError, Allocator, Global};
 
-/// A frame, and what a sample without a value gets: what a job takes for a picture.
+/// A frame, and what a sample without a value gets: what a job takes for a picture. One allocator
+/// for both keeps the inputs of a slice of one type.
 #[derive_where(Clone, Copy)]
 pub struct JobInput<'a, A: Allocator = Global> {
-    /// The frame.
+    /// Its samples may be missing or contested.
     pub frame: &'a Frame<A>,
-    /// A fill that fits the frame's depth, or a picture of its format.
+    /// What such a sample gets: a fill that fits the frame's depth, or a picture of its format.
     pub base: Base<'a, A>,
 }
 
@@ -108,7 +109,8 @@ fn has_long_runs<A: Allocator>(plan: &Plan<A>) -> bool {
     run >= LONG_RUN && format.row_samples() >= LONG_ROW && format.sample_count() >= LARGE_PICTURE
 }
 
-/// A plan for the job's picture.
+/// A plan for the job's picture: `Job` where that is refused, and then `BadPacketSize`, before want
+/// of memory.
 fn job_plan<A: Allocator, C: Allocator + Copy>(
     alloc: C,
     job: &Job,
@@ -127,7 +129,7 @@ fn job_plan<A: Allocator, C: Allocator + Copy>(
     Ok(Plan::new(alloc, format, max_octets)?)
 }
 
-/// The job's picture of settled inputs, against which nothing speaks.
+/// The job's picture of settled inputs, against which nothing speaks: only memory can fail.
 fn job_picture<A: Allocator, C: Allocator + Copy>(
     alloc: C,
     job: &Job,
@@ -181,7 +183,7 @@ fn job_format<A: Allocator>(job: &Job, inputs: &[JobInput<'_, A>]) -> Result<For
     }
 }
 
-/// The picture of each input.
+/// The picture of each input, settled. An `Err` comes only where the allocator refused the memory.
 fn settle_inputs<A: Allocator, C: Allocator + Copy>(
     alloc: C,
     inputs: &[JobInput<'_, A>],

@@ -5,7 +5,7 @@ ghost use Rattle.frame_assembly.specs.Patterns.{IsPatternOf};
 use crate::JobInput;
 use std::alloc::{Allocator, Global};
 
-/// How many samples the pattern of a base has.
+/// How many samples the pattern of a base has: those of 64 groups of 12.
 const PATTERN: usize = 768;
 
 /// An input, and the pattern of its base, which is made once.

@@ -58,7 +58,7 @@ pub fn wipe<A: Allocator, B: Allocator, C: Allocator + Copy>(
     Ok(Picture::from_samples(format, samples))
 }
 
-/// The weight at a column or row.
+/// The weight at a column or row, in 256ths of the second picture.
 #[tactic(auto, using(crate::proofs::Mixed::weights))]
 fn weight_at(shape: WipeShape, place: usize) -> u16
     requires { place < 2 ^ 32 }
@@ -147,7 +147,7 @@ fn first_weights(sampling: Sampling, shape: WipeShape, weights: &mut [u16])
     }
 }
 
-/// The weights of a row, from those of the row above it.
+/// The weights of a row, from those of the row above it: along columns all rows have the same.
 fn next_weights(shape: WipeShape, row: u32, weights: &mut [u16])
     ensures long { length weights.new ≡ length weights.old }
     ensures each { EachIndex weights.new (λ j.
@@ -161,7 +161,6 @@ fn next_weights(shape: WipeShape, row: u32, weights: &mut [u16])
     }
 }
 
-/// One weight for all.
 fn fill_weights(weight: u16, weights: &mut [u16])
     ensures long { length weights.new ≡ length weights.old }
     ensures each { EachIndex weights.new (λ j. slice_index weights.new j ≡ weight) }

@@ -38,22 +38,26 @@ clip low high (negsuc v) = low
 abbrev pub video_data : ℕ → ℤ → ℕ
 video_data n z = clip (scale n) (255 * scale n - 1) z
 
--- the nearest value of the nominal range of luma, R, G and B, and that of Cb and Cr
+-- the nearest value of the nominal range of luma, R, G and B
 abbrev pub nominal : ℕ → ℤ → ℕ
 nominal n z = clip (16 * scale n) (235 * scale n) z
 
+-- the nearest value of the nominal range of Cb and Cr
 abbrev pub nominal_colour : ℕ → ℤ → ℕ
 nominal_colour n z = clip (16 * scale n) (240 * scale n) z
 
 -- ---- the matrix
 
+-- luma, of the coefficients 0.2126, 0.7152 and 0.0722 times 5000 (BT.709, 3)
 abbrev pub luma : ℕ → ℕ → ℕ → ℤ
 luma r g b = nearest (pos (1063 * r + 3576 * g + 361 * b)) 5000
 
+-- Cb: the distance of B to luma over 1.8556, 219 of it as 224, about the centre (BT.709, 3 and 4)
 abbrev pub cb : ℕ → ℕ → ℕ → ℕ → ℤ
 cb n r g b =
     nearest (pos 112 *ℤ (pos (4639 * b) -ℤ pos (1063 * r + 3576 * g))) 1015941 +ℤ pos (centre n)
 
+-- Cr: the distance of R to luma over 1.5748, 219 of it as 224, about the centre (BT.709, 3 and 4)
 abbrev pub cr : ℕ → ℕ → ℕ → ℕ → ℤ
 cr n r g b =
     nearest (pos 112 *ℤ (pos (3937 * r) -ℤ pos (3576 * g + 361 * b))) 862203 +ℤ pos (centre n)
@@ -76,9 +80,10 @@ weight x p q = if nat_lt x p then 0 else (if nat_le (p + q) x then 256 else ((x 
 abbrev pub key : ℕ → ℕ → ℕ → ℕ → ℕ
 key p a b k = (2 * (a * (p - k) + b * k) + p) / (2 * p)
 
--- the greatest k, and the k of a luma
+-- the greatest k: the nominal range of luma
 abbrev pub full_key : ℕ → ℕ
 full_key n = 219 * scale n
 
+-- the k of a luma: its distance to nominal black, and at most the greatest
 abbrev pub key_of : ℕ → ℕ → ℕ
 key_of n y = min (full_key n) (y - 16 * scale n)

@@ -6,7 +6,8 @@ ghost use Rattle.lane_kernels.specs.Formulas.{clip, gain};
 use crate::narrowing::above;
 use std::simd::prelude::*;
 
-/// The lanes `g / 4096` as far from `zeros`, within `low` and `high`.
+/// The lanes brought to `g / 4096` of their distance to `zeros`, and to `low` to `high`. All is
+/// raised by three times the zero, so that no lane is below 0.
 #[inline(always)]
 fn gain_lanes(x: u16x8, zeros: u16x8, g: u16, low: u16, high: u16) -> u16x8
     requires of_g { g ≤ 16384 }
@@ -23,7 +24,7 @@ fn gain_lanes(x: u16x8, zeros: u16x8, g: u16, low: u16, high: u16) -> u16x8
         .simd_min(u16x8::splat(high))
 }
 
-/// The value `g / 4096` as far from `zero`, within `low` and `high`.
+/// As `gain_lanes`, of one value.
 #[inline(always)]
 fn gain_of(x: u16, zero: u32, g: u32, low: u32, high: u32) -> u16
     requires of_zero { zero < 65536 }
@@ -37,7 +38,7 @@ fn gain_of(x: u16, zero: u32, g: u32, low: u32, high: u32) -> u16
 }
 
 /// Brings each value `g / 4096` as far from `zero`, and then to the nearest one from `low` to
-/// `high`.
+/// `high`. Only tests call it: `gain_about` takes the zeros of all components in one pass.
 pub fn gain(values: &mut [u16], zero: u16, g: u32, low: u16, high: u16)
     requires of_g { g ≤ 16384 }
     requires range { low ≤ high }

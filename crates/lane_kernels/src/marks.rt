@@ -4,7 +4,7 @@ ghost use Rattle.lane_kernels.specs.Marks.{ones_under};
 
 use std::simd::prelude::*;
 
-/// Sets in each word the bits that are set in the other.
+/// Sets in each mark word the bits that are set in the other row's.
 pub fn or_marks(into: &mut [u16], from: &[u16])
     requires { length from.now ≡ length into.old }
     ensures { EachIndex into.new (λ k.
@@ -23,7 +23,7 @@ pub fn or_marks(into: &mut [u16], from: &[u16])
     }
 }
 
-/// How many of the mask's bits the lanes have.
+/// How many of the mask's bits the lanes have: at most 256, so 16 bits hold it.
 #[inline(always)]
 fn ones_in(v: u16x16, mask: u16) -> u16
     ensures value { result ≡ ones_under mask v }

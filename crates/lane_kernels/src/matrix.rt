@@ -7,7 +7,7 @@ ghost use Rattle.lane_kernels.specs.Differences.{coefficients, difference};
 use crate::narrowing::{narrowed, narrowed_wide};
 use std::simd::prelude::*;
 
-/// The scale of a depth against 8 bits.
+/// How many values of a depth lie in one step of 8 bits.
 #[inline(always)]
 pub(crate) fn scale(bits: u32) -> u32
     requires { (8 ≤ bits) × (bits ≤ 16) }
@@ -37,7 +37,7 @@ struct Coefficients {
     divisor: u32,
 }
 
-/// Those of a colour difference.
+/// BT.709's numbers times 5000; the divisor is that of 112 times their difference.
 #[inline(always)]
 fn coefficients_of(colour: Difference) -> Coefficients
     ensures { result ≡ coefficients colour }
@@ -73,7 +73,7 @@ pub(crate) fn luma_lanes(red: u16x8, green: u16x8, blue: u16x8, low: u32, high: 
         .simd_min(u32x8::splat(high))
 }
 
-/// The luma of one pixel, from `low` to `high`.
+/// As `luma_lanes`, of one pixel.
 #[inline(always)]
 fn luma_of(red: u16, green: u16, blue: u16, low: u32, high: u32) -> u16
     requires range { low ≤ high }
@@ -84,7 +84,8 @@ fn luma_of(red: u16, green: u16, blue: u16, low: u32, high: u32) -> u16
     ((sum + 2500) / 5000).max(low).min(high) as u16
 }
 
-/// The luma of each pixel, of `bits` bits, brought to video data.
+/// The luma (BT.709) of each pixel of `bits` bits, brought to video data. Only tests call it:
+/// `ycc709` makes whole pixels.
 pub fn luma709(r: &[u16], g: &[u16], b: &[u16], bits: u32, out: &mut [u16])
     requires depth { (8 ≤ bits) × (bits ≤ 16) }
     requires of_r { length r.now ≡ length out.old }
@@ -244,7 +245,7 @@ fn colour709(
     }
 }
 
-/// Cb of each pixel, of `bits` bits, brought to video data.
+/// Cb (BT.709) of each pixel of `bits` bits, brought to video data. Only tests call it.
 pub fn cb709(r: &[u16], g: &[u16], b: &[u16], bits: u32, out: &mut [u16])
     requires depth { (8 ≤ bits) × (bits ≤ 16) }
     requires of_r { length r.now ≡ length out.old }
@@ -261,7 +262,7 @@ pub fn cb709(r: &[u16], g: &[u16], b: &[u16], bits: u32, out: &mut [u16])
     colour709(Difference::Cb, b, r, g, bits, out);
 }
 
-/// Cr of each pixel, of `bits` bits, brought to video data.
+/// Cr (BT.709) of each pixel of `bits` bits, brought to video data. Only tests call it.
 pub fn cr709(r: &[u16], g: &[u16], b: &[u16], bits: u32, out: &mut [u16])
     requires depth { (8 ≤ bits) × (bits ≤ 16) }
     requires of_r { length r.now ≡ length out.old }

@@ -6,7 +6,7 @@ ghost use Rattle.lane_kernels.specs.Formulas.{key, wipe};
 use crate::narrowing::narrowed;
 use std::simd::prelude::*;
 
-/// The lanes `w / 256` of the way from `x` to `y`.
+/// The lanes `w / 256` of the way from `x` to `y`, rounded.
 #[inline(always)]
 fn mix_lanes(x: u16x8, y: u16x8, w: u16x8) -> u32x8
     requires { EachIndex w (λ k. slice_index w k ≤ 256) }
@@ -20,7 +20,7 @@ fn mix_lanes(x: u16x8, y: u16x8, w: u16x8) -> u32x8
     (sum + u32x8::splat(128)) / u32x8::splat(256)
 }
 
-/// The value `w / 256` of the way from `x` to `y`.
+/// As `mix_lanes`, of one value.
 #[inline(always)]
 fn mix_of(x: u16, y: u16, w: u16) -> u16
     requires { w ≤ 256 }
@@ -29,7 +29,7 @@ fn mix_of(x: u16, y: u16, w: u16) -> u16
     ((x as u32 * (256 - w as u32) + y as u32 * w as u32 + 128) / 256) as u16
 }
 
-/// The values `w / 256` of the way from `a` to `b`.
+/// The values `w / 256` of the way from `a` to `b`, rounded, for weights of at most 256.
 pub fn mix256(a: &[u16], b: &[u16], w: &[u16], out: &mut [u16])
     requires of_a { length a.now ≡ length out.old }
     requires of_b { length b.now ≡ length out.old }
@@ -53,7 +53,7 @@ pub fn mix256(a: &[u16], b: &[u16], w: &[u16], out: &mut [u16])
     }
 }
 
-/// The lanes `k / p` of the way from `x` to `y`.
+/// The lanes `k / p` of the way from `x` to `y`, rounded.
 #[inline(always)]
 fn key_lanes(x: u16x8, y: u16x8, k: u16x8, p: u32) -> u32x8
     requires some { 1 ≤ p }
@@ -69,7 +69,7 @@ fn key_lanes(x: u16x8, y: u16x8, k: u16x8, p: u32) -> u32x8
     (sum + u32x8::splat(p / 2)) / u32x8::splat(p)
 }
 
-/// The value `k / p` of the way from `x` to `y`.
+/// As `key_lanes`, of one value.
 #[inline(always)]
 fn key_of(x: u16, y: u16, k: u16, p: u32) -> u16
     requires some { 1 ≤ p }
@@ -107,7 +107,8 @@ fn key_values(a: &[u16], b: &[u16], k: &[u16], p: u32, out: &mut [u16])
     }
 }
 
-/// The values `k / p` of the way from `a` to `b`.
+/// The values `k / p` of the way from `a` to `b`, rounded, for keys of at most `p`. The full keys
+/// of the four depths stand as literals, by which the compiler divides faster.
 pub fn key_mix(a: &[u16], b: &[u16], k: &[u16], p: u16, out: &mut [u16])
     requires of_a { length a.now ≡ length out.old }
     requires of_b { length b.now ≡ length out.old }

@@ -4,7 +4,7 @@ ghost use Rattle.lane_kernels.specs.Lanes.{HasLanes};
 
 use std::simd::prelude::*;
 
-/// The same lanes in half the width.
+/// The same lanes in half the width, where none is above it.
 #[inline(always)]
 pub fn narrowed(v: u32x8) -> u16x8
     requires { EachIndex v (λ k. slice_index v k < 65536) }
@@ -13,7 +13,7 @@ pub fn narrowed(v: u32x8) -> u16x8
     v.cast::<u16>()
 }
 
-/// The same lanes in a quarter of the width.
+/// The same lanes in a quarter of the width, where none is above it.
 #[inline(always)]
 pub fn narrowed_wide(v: u64x8) -> u16x8
     requires { EachIndex v (λ k. slice_index v k < 65536) }

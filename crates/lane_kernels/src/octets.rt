@@ -4,7 +4,8 @@ ghost use Rattle.lane_kernels.specs.Octets.{IsSelected};
 
 use std::simd::prelude::*;
 
-/// 255 where the octets differ, else 0.
+/// 255 where the octets of two rows differ, else 0. Only tests call it: joining frames by it and
+/// `select` took 1.01 to 1.28 of the time at 8 bits.
 pub fn differs(a: &[u8], b: &[u8], out: &mut [u8])
     requires lengths { length b.now ≡ length a.now }
     requires room { length out.old ≡ length a.now }
@@ -24,7 +25,7 @@ pub fn differs(a: &[u8], b: &[u8], out: &mut [u8])
     }
 }
 
-/// Bit by bit `a` where the mask's bit is set, else `b`.
+/// Bit by bit `a` where the mask's bit is set, else `b`. Only tests call it, as `differs`.
 pub fn select(mask: &[u8], a: &[u8], b: &[u8], out: &mut [u8])
     requires of_mask { length mask.now ≡ length out.old }
     requires of_a { length a.now ≡ length out.old }

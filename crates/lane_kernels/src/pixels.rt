@@ -32,7 +32,6 @@ struct Narrow {
     left_divisor: u16,
 }
 
-/// That of a colour difference.
 #[inline(always)]
 fn narrow_numbers(colour: Difference) -> Narrow
     ensures { result ≡ narrow_of colour }

@@ -14,11 +14,13 @@ use Rattle.media_file.specs.Fields.{field_at}
 use Rattle.st_format.specs.Reading.{◌>>=◌}
 use Rattle.st_format.specs.Given.{with_rest}
 
+-- the sampling of a code
 abbrev pub sampling_of : ℕ → Result Sampling FileFault
 sampling_of n =
     if n == 0 then Ok Ycc422
     else (if n == 1 then Ok Ycc444 else (if n == 2 then Ok Rgb else Err BadField))
 
+-- the depth of a number of bits
 abbrev pub depth_of : ℕ → Result Depth FileFault
 depth_of n =
     if n == 8 then Ok D8

@@ -31,6 +31,7 @@ pub data CutPlace : Type 0 where
   InHead : CutPlace
   InOctets : CutPlace
 
+-- within its head, or within the octets that this counts
 abbrev pub record_place : {octets : List ℕ} → IsCutRecord octets → CutPlace
 record_place (Head more short) = InHead
 record_place (Octets head path short) = InOctets
@@ -83,6 +84,7 @@ pub data IsCutCapture (octets : List ℕ) (limit : ℕ) : Type 0 where
   Text : HasCutText octets → IsCutCapture octets limit
   Record : HasBadRecord octets limit Truncated → IsCutCapture octets limit
 
+-- the place at which a capture is cut
 abbrev pub cut_place : {limit : ℕ} {octets : List ℕ} → IsCutCapture octets limit → CutPlace
 cut_place (Kind short) = InKind
 cut_place (Text cut) = InText

@@ -12,13 +12,15 @@ use Rattle.media_file.specs.Fields.{field_at}
 use Rattle.st_format.specs.Given.{with_rest}
 use Rattle.st_format.specs.Reading.{◌>>=◌}
 
--- the names
+-- what a capture begins with
 abbrev pub capture_name : List ℕ
 capture_name = codes "S20CAP"
 
+-- what a picture's file begins with
 abbrev pub picture_name : List ℕ
 picture_name = codes "S20PIC"
 
+-- what a receiver's file begins with
 abbrev pub receiver_name : List ℕ
 receiver_name = codes "S20RCV"
 

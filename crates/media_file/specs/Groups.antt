@@ -22,6 +22,7 @@ pub record Shape : Type 0 where
   pub samples : ℕ
   pub bits : ℕ
 
+-- the shape of a format's pgroups (RFC 4175, 4.3)
 abbrev pub shape_of : Sampling → Depth → Shape
 shape_of s b =
     record {
@@ -42,6 +43,7 @@ unfoldable pub mask_of : List Cell → ℕ
 mask_of [] = 0
 mask_of (c ∷ cs) = contested_bit c + 2 * mask_of cs
 
+-- the octets of a group's samples: 0 for one that is missing or contested
 abbrev pub samples_text : Shape → List Cell → List ℕ
 samples_text s cells = octets_in s.bits (map known_value cells)
 
@@ -88,6 +90,7 @@ mixed_by s mask values rest =
     if mask == 0 || not (nat_lt mask (2 ^ s.samples))
     || not (are_zeroed mask values) then Err MixedGroup else Ok (cells_by mask values, rest)
 
+-- a group, by its state (own): missing, whole, or with a mask of contested samples
 unfoldable pub group_at : Shape → List ℕ → Result (List Cell × List ℕ) FileFault
 group_at s [] = Err Truncated
 group_at s (state ∷ octets) =
@@ -103,6 +106,7 @@ group_at s (state ∷ octets) =
 abbrev pub groups_text : Shape → List (List Cell) → List ℕ
 groups_text s groups = flat_map (group_text s) groups
 
+-- so many groups
 unfoldable pub groups_at : Shape → ℕ → List ℕ → Result (List (List Cell) × List ℕ) FileFault
 groups_at s zero octets = Ok ([], octets)
 groups_at s (suc n) octets =

@@ -16,6 +16,7 @@ use Rattle.media_file.specs.Reading.{entries_up_to}
 use Rattle.media_file.specs.Records.{Entry, records_text}
 use Rattle.media_file.specs.Source.{IfTold}
 
+-- the records behind a front, where its version is 01
 abbrev pub old_by : Version → ℕ → List ℕ → Result (List Entry × List ℕ) FileFault
 old_by One limit octets = records_at limit octets
 old_by Two limit octets = Err BadVersion
@@ -30,10 +31,12 @@ abbrev pub new_by : Version → ℕ → List ℕ → List ℕ → List ℕ
 new_by One limit text behind = capture_text text (entries_up_to limit behind)
 new_by Two limit text behind = []
 
+-- what is written of what a front is read as, and of the octets behind it
 abbrev pub new_behind : Result (Version × List ℕ) FileFault → ℕ → List ℕ → List ℕ
 new_behind (Ok x) limit text = new_by x.0 limit text x.1
 new_behind (Err f) limit text = []
 
+-- what is written of a file's octets
 unfoldable pub new_text : ℕ → List ℕ → List ℕ → List ℕ
 new_text limit text octets = new_behind (kind_at capture_name octets) limit text
 
@@ -87,6 +90,7 @@ pub record Devices : Type 0 where
   pub held : Option (List ℕ)
   pub sink_failures : ℕ
 
+-- what the two tell now
 abbrev pub devices : Option (List ℕ) → ℕ → Option (List ℕ) → ℕ → Devices
 devices to_give source_failures held sink_failures = record {
   to_give = to_give;

@@ -68,6 +68,7 @@ pub data PicturePlace : Type 0 where
   InBlock : PicturePlace
   InGroups : PicturePlace
 
+-- the place at which a picture's file is cut
 abbrev pub picture_place : {octets : List ℕ} → IsCutPicture octets → PicturePlace
 picture_place (Kind short) = InKind
 picture_place (Block cut) = InBlock

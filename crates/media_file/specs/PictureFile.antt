@@ -22,6 +22,7 @@ pub record Shown : Type 0 where
   pub format : Fields
   pub samples : List ℕ
 
+-- what the file of a picture says
 abbrev pub shown_of : Values → Shown
 shown_of p = record { format = fields_of p.format; samples = p.samples }
 
@@ -49,6 +50,7 @@ abbrev pub one_by : Version → List ℕ → Result (Version × List ℕ) FileFa
 one_by One rest = Ok (One, rest)
 one_by Two rest = Err BadVersion
 
+-- a name, and version 01
 unfoldable pub one_at : List ℕ → List ℕ → Result (Version × List ℕ) FileFault
 one_at name octets = kind_at name octets >>= λ x. one_by x.0 x.1
 

@@ -49,6 +49,7 @@ abbrev pub entries_by : Result (Entry × List ℕ) FileFault → (List ℕ → L
 entries_by (Ok x) next = x.0 ∷ next x.1
 entries_by (Err f) next = []
 
+-- at most so many records, each at the front of what is behind the one before
 unfoldable pub entries_up_to : ℕ → List ℕ → List Entry
 entries_up_to zero octets = []
 entries_up_to (suc n) [] = []

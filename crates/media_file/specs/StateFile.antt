@@ -43,6 +43,7 @@ pub record Kept : Type 0 where
   pub ssrc : Option ℕ
   pub frames : List Held
 
+-- a timestamp, and the groups of its frame
 abbrev pub held_text : Fields → Held → List ℕ
 held_text f h = to_be_bytes w32 h.timestamp ++ groups_text (shape_of f.sampling f.depth) h.groups
 
@@ -67,6 +68,7 @@ pub record FitsBlock (f : Fields) : Type 0 where
   pub n : f.n < 2 ^ 32
   pub d : f.d < 2 ^ 32
 
+-- a source's number has 32 bits (RFC 3550, 5.1)
 abbrev pub SsrcFits : Option ℕ → Type 0
 SsrcFits None = ⊤
 SsrcFits (Some ssrc) = ssrc < 2 ^ 32
@@ -77,16 +79,18 @@ pub record IsHeld (f : Fields) (h : Held) : Type 0 where
   pub count : length h.groups ≡ raster_groups f
   pub groups : AllByRecursion (IsGroup (shape_of f.sampling f.depth)) h.groups
 
+-- what has a text: each number fits its field, and each frame has all groups
 pub record IsKeptReceiver (k : Kept) : Type 0 where
   pub room : FitsBlock k.format
   pub ssrc : SsrcFits k.ssrc
   pub frames : AllByRecursion (IsHeld k.format) k.frames
 
--- a raster's cells in groups of so many, and the groups joined
+-- a raster's cells in groups of so many
 unfoldable pub cut_cells : ℕ → ℕ → List Cell → List (List Cell)
 cut_cells size zero cells = []
 cut_cells size (suc n) cells = take size cells ∷ cut_cells size n (drop size cells)
 
+-- the cells of groups, joined
 abbrev pub joined_groups : List (List Cell) → List Cell
 joined_groups [] = []
 joined_groups (g ∷ gs) = g ++ joined_groups gs

@@ -14,6 +14,7 @@ use Rattle.media_file.specs.Fronts.{front_text}
 use Rattle.media_file.specs.Reading.{entries_in}
 use Rattle.media_file.specs.Records.{Entry, records_text}
 
+-- a record of these fields
 abbrev pub entry : Path → ℕ → List ℕ → Entry
 entry path moment octets = record { path = path; moment = moment; octets = octets }
 
@@ -73,7 +74,7 @@ pub record WriterPlace : Type 0 where
   pub moment : ℕ
   pub failed : Bool
 
--- behind a datagram, and after a fault
+-- behind a datagram
 abbrev pub place_behind : WriterPlace → WriterPlace
 place_behind p =
     record {
@@ -84,6 +85,7 @@ place_behind p =
       failed = p.failed;
     }
 
+-- after a fault
 abbrev pub place_failed : WriterPlace → WriterPlace
 place_failed p = record { paths = p.paths; text_len = p.text_len; moment = p.moment; failed = true }
 

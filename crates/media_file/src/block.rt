@@ -12,10 +12,11 @@ use crate::front::read_field;
 use byteorder::{BigEndian, ByteOrder};
 use st_format::{ByteSource, Depth, Format, Sampling};
 
-/// How many octets a format block has.
+/// How many octets a format block has (own): 1 for the sampling, 1 for the depth, 2 for width and
+/// height each, 4 for N and D each.
 const BLOCK: usize = 14;
 
-/// The code of a sampling in a format block.
+/// The code of a sampling in a format block (own): 0 to 2.
 fn code_of(sampling: Sampling) -> u8
     ensures { result ≡ sampling_code sampling }
 {
@@ -26,7 +27,7 @@ fn code_of(sampling: Sampling) -> u8
     }
 }
 
-/// The format block of a format.
+/// The fourteen octets that a format is told by, the highest octet of each number first (own).
 pub fn format_block(format: &Format) -> [u8; BLOCK]
     ensures { result ≡ format_text (fields_of format.now) }
 {
@@ -40,7 +41,7 @@ pub fn format_block(format: &Format) -> [u8; BLOCK]
     block
 }
 
-/// The sampling of a code of the format block.
+/// The sampling of a code of the format block; `BadField` where no sampling has it.
 fn sampling_in(code: u8) -> Result<Sampling, FileFault>
     ensures { result ≡ sampling_of code }
 {
@@ -52,7 +53,7 @@ fn sampling_in(code: u8) -> Result<Sampling, FileFault>
     }
 }
 
-/// The depth of a number of bits of the format block.
+/// The depth of a number of bits of the format block; `BadField` where no depth has it.
 fn depth_in(code: u8) -> Result<Depth, FileFault>
     ensures { result ≡ depth_of code }
 {
@@ -65,7 +66,7 @@ fn depth_in(code: u8) -> Result<Depth, FileFault>
     }
 }
 
-/// The format that fourteen octets say.
+/// The format that fourteen octets say; `BadField` where there is none such.
 fn format_in(block: &[u8; BLOCK]) -> Result<Format, FileFault>
     ensures exact { made_fields result ≡ block_of block.now }
     ensures fault { IfErr result (λ f. f ≡ FileFault.BadField) }

@@ -19,7 +19,7 @@ use crate::steps::{record_begins, record_rest};
 use st_format::{ByteSource, MOST_DATAGRAM};
 use std::alloc::{Allocator, Global};
 
-/// A text and records.
+/// What a capture says, of either version: a text and records.
 #[derive(Drop)]
 pub struct Capture<A: Allocator = Global> {
     /// At most 65,535 octets: an SDP text by convention.
@@ -99,7 +99,7 @@ fn read_whole_capture<A: Allocator + Copy, S: ByteSource>(
     Ok(Capture { text, records })
 }
 
-/// Room for a record or a text.
+/// Room for the longest text and the longest datagram, which are of one length.
 fn buffer<A: Allocator>(alloc: A) -> Result<Vec<u8, A>, FileFault>
     ensures room { IfOk result (λ v. vec_len v ≡ 65535) }
     ensures memory { IfErr result (λ f. f ≡ FileFault.NoMemory) }
@@ -107,7 +107,7 @@ fn buffer<A: Allocator>(alloc: A) -> Result<Vec<u8, A>, FileFault>
     Ok(vec![in alloc; 0u8; MOST_DATAGRAM]?)
 }
 
-/// Reads records up to the end.
+/// Reads records up to the end: the octet that begins one is read before it is counted.
 fn read_records<A: Allocator + Copy, S: ByteSource>(
     alloc: A,
     source: &mut S,

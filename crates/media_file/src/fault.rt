@@ -11,10 +11,10 @@ use thiserror::Error;
 /// The first fault in the order of a file's octets, or a fault of the machine that came before it.
 #[derive(Clone, Copy, Debug, PartialEq, Eq, Error)]
 pub enum FileFault {
-    /// A growth was refused.
+    /// The allocator refused memory.
     #[error("the memory was refused")]
     NoMemory = 1,
-    /// The device failed.
+    /// The device failed. Why is its own matter.
     #[error("the device failed")]
     Device = 2,
     /// The first six octets aren't the name of such a file.

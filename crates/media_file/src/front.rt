@@ -13,18 +13,18 @@ ghost use Rattle.st_format.specs.History.{GrewFrom};
 use crate::fault::FileFault;
 use st_format::{ByteSource, read_whole};
 
-/// What a capture begins with.
+/// The name that a capture begins with; two digits of a version follow.
 pub(crate) const CAPTURE: &[u8] = b"S20CAP";
 
-/// What a picture's file begins with.
+/// The name that a picture's file begins with; two digits of a version follow.
 pub(crate) const PICTURE: &[u8] = b"S20PIC";
 
 /// The versions of files, which are two digits behind a file's name.
 #[derive(Clone, Copy)]
 pub enum Version {
-    /// `01`
+    /// `01`: a capture without a text, and each other file.
     One,
-    /// `02`
+    /// `02`: a capture with a text.
     Two,
 }
 
@@ -81,7 +81,7 @@ pub fn read_end<S: ByteSource>(source: &mut S) -> Result<(), FileFault>
     Ok(())
 }
 
-/// The version of a file that begins with these octets.
+/// The version of a file that begins with these octets: `BadName` comes before `BadVersion`.
 fn version_in(name: &[u8], octets: &[u8; 8]) -> Result<Version, FileFault>
     ensures exact { result ≡ kind_of name.now octets.now }
     ensures named { IfErr result IsOfFront }
@@ -93,7 +93,7 @@ fn version_in(name: &[u8], octets: &[u8; 8]) -> Result<Version, FileFault>
     version_by(version)
 }
 
-/// The version that two digits are.
+/// The version of two digits: `BadVersion` where it is none of the two.
 fn version_by(digits: &[u8]) -> Result<Version, FileFault>
     ensures exact { result ≡ version_of digits.now }
     ensures named { IfErr result IsOfFront }
@@ -202,7 +202,7 @@ pub fn read_front_behind<S: ByteSource>(
     }
 }
 
-/// Four octets, and four behind them.
+/// Four octets, and four behind them: what a name and a version take.
 fn eight(four: &[u8], rest: &[u8; 4]) -> [u8; 8]
     requires { length four.now ≡ 4 }
     ensures { result ≡ four.now ++ rest.now }
@@ -212,7 +212,7 @@ fn eight(four: &[u8], rest: &[u8; 4]) -> [u8; 8]
     ]
 }
 
-/// Reads a text behind its length.
+/// Reads a text behind its length, two octets with the high one first.
 fn read_text<S: ByteSource>(source: &mut S, text: &mut [u8]) -> Result<usize, FileFault>
     requires { 65535 ≤ length text.old }
     ensures room { length text.new ≡ length text.old }

@@ -92,7 +92,8 @@ fn read_all<A: Allocator, S: ByteSource>(
     Ok(PackedPicture::from_octets(format, octets))
 }
 
-/// Reads all pgroups of a raster.
+/// Reads all pgroups of a raster at once: a short file that announces a large picture costs that
+/// memory until it is refused.
 fn read_groups<A: Allocator, S: ByteSource>(
     source: &mut S,
     format: &Format,
@@ -117,7 +118,7 @@ fn read_groups<A: Allocator, S: ByteSource>(
     Ok(room)
 }
 
-/// How many octets all pgroups of a raster take.
+/// How many octets all pgroups of a raster take: they are whole, so their bits are whole octets.
 fn raster_octets(format: &Format) -> usize
     ensures { Agree format.now result (sample_count format.now) }
 {

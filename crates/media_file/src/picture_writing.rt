@@ -42,7 +42,7 @@ pub fn write_picture<A: Allocator, K: ByteSink>(
     Ok(())
 }
 
-/// Writes what stands before the pgroups.
+/// Writes what stands before the pgroups: name and version, and the format block.
 fn write_head<K: ByteSink>(sink: &mut K, format: &Format) -> Result<(), DeviceFault>
     ensures ok { OnOk result (Appends (K.held sink.old) (K.held sink.new)
         (picture_head (fields_of format.now))) }
@@ -112,7 +112,6 @@ fn write_piece<K: ByteSink>(
     write_whole(sink, octets)
 }
 
-/// The octets of some samples, by whole pgroups (RFC 4175, 4.3).
 fn pack(format: &Format, samples: &[u16], octets: &mut [u8])
     requires lengths { Agree format.now (length octets.old) (length samples.now) }
     requires fit { Fit (bits_of format.now.depth) samples.now }

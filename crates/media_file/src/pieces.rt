@@ -8,7 +8,7 @@ use st_format::{Depth, Format};
 /// are.
 pub(crate) const PIECE: usize = 3600;
 
-/// How many samples of a format that many octets spell.
+/// How many samples of a format the octets of a piece spell: its bits over those of a sample.
 fn most_samples(format: &Format) -> usize
     ensures exact { bits_of format.now.depth * result ≡ 28800 }
     ensures fits { result ≤ 3600 }
@@ -42,7 +42,7 @@ pub(crate) fn piece_samples(format: &Format, done: usize, count: usize) -> usize
     most
 }
 
-/// How many octets a piece's samples take.
+/// How many octets a piece's samples take: whole ones, as a piece is of whole pgroups.
 pub(crate) fn piece_octets(format: &Format, samples: usize) -> usize
     requires few { bits_of format.now.depth * samples ≤ 28800 }
     requires whole { bits_of format.now.depth * samples % 8 ≡ 0 }

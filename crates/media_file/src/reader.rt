@@ -26,14 +26,14 @@ use st_format::{ByteSource, DatagramSource, SourceFault, Turn};
 use std::marker::Model;
 use std::snapshot::Snapshot;
 
-/// Where a reader stands.
+/// How far a reader has come.
 #[derive(Clone, Copy)]
 pub enum Standing {
     /// At the front of a record or at the end, which one isn't known.
     Reads,
-    /// At the end.
+    /// It has told the end, and tells it at each later call.
     Ended,
-    /// At its fault.
+    /// It came to a fault, and tells it at each later call.
     Failed(FileFault),
 }
 
@@ -174,7 +174,7 @@ impl<S: ByteSource> CaptureReader<S> {
         }
     }
 
-    /// How many octets the capture's text has.
+    /// How many octets the capture's text has: at most 65,535.
     pub fn text_len(&self) -> usize
         ensures { result ≡ self.now.text_len }
     {
@@ -216,7 +216,7 @@ impl<S: ByteSource> CaptureReader<S> {
     }
 }
 
-/// A fault as a source of datagrams tells it.
+/// A fault as a source of datagrams tells it: one of the content by its number.
 fn told(fault: FileFault) -> SourceFault
     ensures { result ≡ source_fault fault }
 {

@@ -2,7 +2,7 @@
 use st_format::Path;
 use std::alloc::{Allocator, Global};
 
-/// What a record says before its octets.
+/// What a record says before its octets: eleven octets of a capture (own).
 #[derive(Clone, Copy)]
 pub struct RecordHead {
     pub path: Path,
@@ -18,6 +18,6 @@ pub struct Record<A: Allocator = Global> {
     pub path: Path,
     /// What the writer handed in; it has no meaning to a reader.
     pub moment: u64,
-    /// At most 65,535.
+    /// The datagram's: at most 65,535.
     pub octets: Vec<u8, A>,
 }

@@ -13,7 +13,7 @@ use crate::fault::FileFault;
 use crate::record::RecordHead;
 use st_format::{ByteSource, Path, read_whole};
 
-/// The octets of a record's head but for the first.
+/// The octets of a record's head but for the first, which is read by itself: it may be the end.
 const REST: usize = 10;
 
 /// Reads the first octet of a record, or answers `None` at the end.
@@ -54,7 +54,7 @@ fn path_in(first: u8) -> Result<Path, FileFault>
     }
 }
 
-/// The head that an octet and the ten behind it make.
+/// The head that an octet and the ten behind it make; `BadField` where the octet is no path.
 fn head_of(first: u8, rest: &[u8; REST]) -> Result<RecordHead, FileFault>
     ensures exact { result ≡ head_at first rest.now }
     ensures spelled { IfOk result (λ r. IsRecordHead first rest.now r) }

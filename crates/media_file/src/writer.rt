@@ -180,7 +180,7 @@ impl<K: ByteSink> DatagramSink for CaptureWriter<K> {
     ghost fails = { λ old octets new.
         FailsDatagram K.held K.took K.failures K.names old octets new };
 
-    /// Writes the datagram's records.
+    /// Writes the datagram's records, one for each of the writer's paths.
     fn put(&mut self, octets: &[u8]) -> Result<(), SinkFault>
         requires { length octets.now ≤ 65535 }
         ensures taken { OnOk result

@@ -15,7 +15,7 @@ use byteorder::{BigEndian, ByteOrder};
 use st_format::{ByteSink, DeviceFault, Path, write_whole};
 use std::alloc::Allocator;
 
-/// The octets of a record's head.
+/// The octets of a record's head: path, moment and length.
 const HEAD: usize = 11;
 
 /// How many octets stand before the text of a capture: name, version and the text's length.

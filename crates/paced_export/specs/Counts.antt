@@ -16,10 +16,11 @@ is_by A B = false
 is_by B A = false
 is_by B B = true
 
--- how many records of a path have a timestamp
+-- a record is of a path, and has a timestamp
 abbrev pub is_of : Path → ℕ → Entry → Bool
 is_of path ts e = is_by path e.path && timestamp_in e.octets == ts
 
+-- how many records of a path have a timestamp
 abbrev pub count_of : Path → ℕ → List Entry → ℕ
 count_of path ts entries = count_by (is_of path ts) entries
 
@@ -30,9 +31,11 @@ first_timestamp (e ∷ entries) = Some (timestamp_in e.octets)
 
 -- ---- as they are kept
 
+-- the count of a timestamp, 0 where none was counted
 abbrev pub counted_in : BTreeMap ℕ ℕ → ℕ → ℕ
 counted_in m ts = unwrap_or (get nat_cmp m ts) 0
 
+-- the count of a path and a timestamp
 abbrev pub counted : {Al : Type 0} → FrameCounts Al → Path → ℕ → ℕ
 counted t A ts = counted_in t.a ts
 counted t B ts = counted_in t.b ts

@@ -25,6 +25,7 @@ paced_behind p all before [] = []
 paced_behind p all before (e ∷ entries) =
     paced_entry p all before e ∷ paced_behind p all (before ++ e ∷ []) entries
 
+-- all records of a capture
 abbrev pub paced : Pace → (Path → ℕ → ℕ) → List Entry → List Entry
 paced p all entries = paced_behind p all [] entries
 

@@ -47,7 +47,7 @@ pub(crate) fn read_ahead<A: Allocator + Copy, S: ByteSource>(
     read_frames(alloc, source, &mut buf)
 }
 
-/// Does that with this room for any record.
+/// The same by a room for any record, which is also one for the capture's text.
 fn read_frames<A: Allocator + Copy, S: ByteSource>(
     alloc: A,
     source: &mut S,
@@ -73,7 +73,8 @@ fn read_frames<A: Allocator + Copy, S: ByteSource>(
     }
 }
 
-/// The active time of a frame, by the rate that an SDP text says.
+/// The active time of a frame, in nanoseconds, by the rate that an SDP text says; its fault where
+/// it says none.
 fn active_said<A: Allocator + Copy>(alloc: A, text: &[u8]) -> Result<u64, Fault>
     ensures said { IfOk result (SaysActive text.now) }
     ensures short { IfOk result (λ active. active ≤ 960000000) }

@@ -28,7 +28,8 @@ impl Pace {
         self.begin(timestamp) + self.share(packet, packets)
     }
 
-    /// When the frame of a timestamp begins.
+    /// When the frame of a timestamp begins, in nanoseconds since 1970: 9 ticks of 90 kHz are
+    /// 100,000.
     fn begin(&self, timestamp: u32) -> u64
         ensures value { result ≡ begin_of self.now timestamp }
         ensures fits { result < 2 ^ 63 }
@@ -36,7 +37,7 @@ impl Pace {
         self.start + u64::from(timestamp.wrapping_sub(self.first)) * 100_000 / 9
     }
 
-    /// How long behind a frame's begin its packet is sent.
+    /// How long behind a frame's begin its packet is sent, in nanoseconds.
     fn share(&self, packet: u64, packets: u64) -> u64
         requires { packet ≤ 16777216 }
         ensures value { result ≡ share_of self.now packet packets }
@@ -59,7 +60,7 @@ pub(crate) fn timestamp_in(octets: &[u8]) -> u32
     ])
 }
 
-/// The octet of a place, or 0.
+/// The octet of a place, or 0 where there is none.
 fn octet(octets: &[u8], place: usize) -> u8
     ensures { result ≡ slice_index octets.now place }
 {

@@ -39,7 +39,9 @@ pub struct Pacing<'a> {
 /// 2110-21, gapped).
 ///
 /// The capture is read twice, first from `ahead` and then from `capture`, which are to give the
-/// same: the first reading tells how many records each frame has.
+/// same: the first reading tells how many records each frame has, in less memory than frames that
+/// are held would take. That both gave the same no clause says: the moments are those of the
+/// second's records by the first's counts.
 ///
 /// # Errors
 ///
@@ -94,7 +96,7 @@ where
     print(Line::Exported(counts.written, counts.left_out), output)
 }
 
-/// The pace of frames that were read ahead, from this moment on.
+/// The pace of frames that were read ahead. Without a record no first timestamp is asked for.
 fn pace_from<A: Allocator>(start: u64, told: &Ahead<A>) -> Pace
     requires { start < 2 ^ 32 * 1000000000 }
     ensures start { result.start ≡ start }
@@ -146,7 +148,7 @@ fn export_capture<A: Allocator + Copy, S: ByteSource, K: ByteSink>(
     }
 }
 
-/// Room for any packet.
+/// Room for the greatest packet, which is made once for all.
 fn packet_room<A: Allocator>(alloc: A) -> Result<Vec<u8, A>, AllocError>
     ensures { IfOk result (λ room. vec_len room ≡ 65605) }
 {

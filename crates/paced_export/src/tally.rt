@@ -18,7 +18,7 @@ pub(crate) struct FrameCounts<A: Allocator> {
 }
 
 impl<A: Allocator + Copy> FrameCounts<A> {
-    /// Of no records.
+    /// The counts of no records, which take no memory.
     pub(crate) fn new(alloc: A) -> FrameCounts<A>
         ensures { Counts result [] }
     {
@@ -55,7 +55,6 @@ impl<A: Allocator + Copy> FrameCounts<A> {
         Ok(())
     }
 
-    /// Counts one more of a path and a timestamp.
     fn add_count(&mut self, path: Path, timestamp: u32) -> Result<(), AllocError>
         requires { counted self.old path timestamp < 2 ^ 64 - 1 }
         ensures { OnOk result (AddsTo self.old self.new path timestamp) }
@@ -67,14 +66,14 @@ impl<A: Allocator + Copy> FrameCounts<A> {
     }
 }
 
-/// The count of a timestamp.
+/// The count of a timestamp, 0 where none was counted.
 fn count_in<A: Allocator>(counts: &BTreeMap<u32, u64, A>, timestamp: u32) -> u64
     ensures { result ≡ counted_in counts.now timestamp }
 {
     counts.get(&timestamp).copied().unwrap_or(0)
 }
 
-/// Counts one more of a timestamp.
+/// Counts one more of a timestamp; an `Err` where the memory for a first one was refused.
 fn add_to<A: Allocator + Copy>(
     counts: &mut BTreeMap<u32, u64, A>,
     timestamp: u32,

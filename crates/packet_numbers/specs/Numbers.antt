@@ -74,6 +74,7 @@ pub record AreMissingRuns (m : Numbers) (runs : List (ℕ × ℕ)) : Type 0 wher
 abbrev pub closed_run : ℕ → ℕ → List (ℕ × ℕ)
 closed_run start end = if nat_lt start end then (start, end - start) ∷ [] else []
 
+-- the runs of flags from a place on, where none was noted from start up to it
 abbrev pub runs_from : ℕ → ℕ → List Bool → List (ℕ × ℕ)
 runs_from start place [] = closed_run start place
 runs_from start place (true ∷ flags) =
@@ -84,6 +85,7 @@ runs_from start place (false ∷ flags) = runs_from start (place + 1) flags
 abbrev pub numbered_run : ℕ → (ℕ × ℕ) → (ℕ × ℕ)
 numbered_run first run = ((first + run.0) % 2 ^ 32, run.1)
 
+-- the list that `missing_runs` answers
 abbrev pub missing_runs_of : Numbers → List (ℕ × ℕ)
 missing_runs_of m = map (numbered_run m.first) (runs_from 0 0 m.noted)
 
@@ -97,5 +99,6 @@ abbrev pub seq_map_fault_name : SeqMapFault → List ℕ
 seq_map_fault_name NoMemory = codes "NoMemory"
 seq_map_fault_name BadCount = codes "BadCount"
 
+-- the name of the one refusal of `absorb` (own)
 abbrev pub opened_unlike_name : List ℕ
 opened_unlike_name = codes "OpenedUnlike"

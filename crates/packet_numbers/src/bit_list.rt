@@ -6,7 +6,6 @@ ghost use Rattle.packet_numbers.specs.BitList.{flag_at, union_of_flags};
 use std::alloc::{AllocError, Allocator, Global};
 use std::marker::Model;
 
-/// How many flags a word has.
 const FLAGS: usize = 64;
 
 /// A list of flags, one bit for each, whose length stays.
@@ -37,14 +36,14 @@ impl<A: Allocator> BitList<A> {
         Ok(BitList { count, words })
     }
 
-    /// How many flags there are.
+    /// How many flags there are: as many as it was made with.
     pub fn len(&self) -> usize
         ensures { result ≡ length self.now }
     {
         self.count
     }
 
-    /// The flag at a place.
+    /// The flag at a place, which is below the length.
     pub fn get(&self, place: usize) -> bool
         requires { place < length self.now }
         ensures { result ≡ get_or self.now place false }
@@ -52,7 +51,7 @@ impl<A: Allocator> BitList<A> {
         is_set(&self.words, place)
     }
 
-    /// Sets the flag at a place.
+    /// Sets the flag at a place, which is below the length. None is ever unset.
     pub fn set(&mut self, place: usize)
         requires { place < length self.old }
         ensures { self.new ≡ set self.old place true }
@@ -60,7 +59,7 @@ impl<A: Allocator> BitList<A> {
         set_flag(self.words.as_mut_slice(), place);
     }
 
-    /// Sets each flag that is set in the other list.
+    /// Sets each flag that is set in the other list, which is as long.
     pub fn absorb<B: Allocator>(&mut self, other: &BitList<B>)
         requires { length self.old ≡ length other.now }
         ensures { self.new ≡ union_of_flags self.old other.now }
@@ -69,7 +68,7 @@ impl<A: Allocator> BitList<A> {
     }
 }
 
-/// Whether the flag at a place is set.
+/// Whether bit `place % 64` of word `place / 64` is set.
 fn is_set(words: &[u64], place: usize) -> bool
     requires { place < 64 * length words.now }
     ensures { result ≡ flag_at words.now place }
@@ -77,7 +76,7 @@ fn is_set(words: &[u64], place: usize) -> bool
     (words[place / FLAGS] >> (place % FLAGS)) & 1 == 1
 }
 
-/// Sets the flag at a place.
+/// Sets bit `place % 64` of word `place / 64`.
 fn set_flag(words: &mut [u64], place: usize)
     requires { place < 64 * length words.old }
     ensures { (k : ℕ) → flag_at words.new k ≡ (k == place || flag_at words.old k) }

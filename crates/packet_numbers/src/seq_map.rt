@@ -28,7 +28,7 @@ pub enum SeqMapFault {
 impl SeqMapFault {
     ghost use Rattle.packet_numbers.specs.Numbers.{seq_map_fault_name, seq_map_fault_number};
 
-    /// The fault's number, 1 or 2.
+    /// The fault's number, 1 or 2, which isn't the order of the tests: `BadCount` is tested first.
     pub fn number(self) -> u8
         ensures { result ≡ seq_map_fault_number self }
     {
@@ -73,7 +73,7 @@ pub enum Noted {
     Beyond,
 }
 
-/// The greatest count of packet numbers.
+/// The greatest count of packet numbers (own): their bits take 128 KiB.
 pub const MAX_COUNT: u32 = 1_048_576;
 
 /// Which packet numbers came, of a run of numbers modulo 2^32 (RFC 4175, 4.1), with a bit for each.
@@ -111,7 +111,7 @@ impl<A: Allocator> SeqMap<A> {
         Ok(SeqMap { first, noted })
     }
 
-    /// The first packet number.
+    /// The first packet number, which has place 0.
     pub fn first(&self) -> u32
         ensures value { result ≡ self.now.first }
         ensures numbers { IsNumbers self.now }
@@ -119,7 +119,7 @@ impl<A: Allocator> SeqMap<A> {
         self.first
     }
 
-    /// How many packet numbers there are.
+    /// How many packet numbers there are from the first on, noted or not: 1 to [`MAX_COUNT`].
     pub fn count(&self) -> u32
         ensures value { result ≡ number_count self.now }
         ensures numbers { IsNumbers self.now }
@@ -188,7 +188,7 @@ impl<A: Allocator> SeqMap<A> {
     }
 }
 
-/// The runs of flags that are not set, by packet numbers.
+/// The runs of flags that are not set, by packet numbers: each by its first and its length.
 fn runs_of<A: Allocator, B: Allocator>(
     alloc: B,
     first: u32,

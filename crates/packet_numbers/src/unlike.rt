@@ -11,7 +11,7 @@ pub struct OpenedUnlike;
 impl OpenedUnlike {
     ghost use Rattle.packet_numbers.specs.Numbers.{opened_unlike_name};
 
-    /// Its number: 1.
+    /// Its number: 1, as there is but one.
     pub fn number(self) -> u8
         ensures { result ≡ 1 }
     {

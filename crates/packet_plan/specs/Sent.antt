@@ -55,6 +55,7 @@ pub record IsSentPacket (octets : List ℕ) (p : Values) (stamp : Stamp) (i : �
   pub marker : header.marker ≡ is_last
   pub carries : AllZip (CarriesRun p) runs segments
 
+-- whether a list has nothing: behind the last packet there is none
 abbrev pub is_empty : {X : Type 0} → List X → Bool
 is_empty [] = true
 is_empty (x ∷ xs) = false

@@ -10,7 +10,7 @@ use arrayvec::ArrayVec;
 use st_format::Format;
 use std::alloc::{AllocError, Allocator};
 
-/// How many octets a pgroup has.
+/// How many octets a pgroup has, at most 15, as `u32`, in which plans reckon.
 #[tactic(auto, unfolding(crate::specs::Plan::group_octets))]
 pub(crate) fn group_octets_of(format: &Format) -> u32
     ensures value { result ≡ group_octets format.now }
@@ -20,7 +20,7 @@ pub(crate) fn group_octets_of(format: &Format) -> u32
     format.pgroup().octets as u32
 }
 
-/// How many pgroups a raster has.
+/// How many pgroups a raster has: at most 2^26, so 32 bits hold the number of each.
 fn group_count_of(format: &Format) -> u32
     ensures value { result ≡ group_count format.now }
     ensures most { group_count format.now ≤ 8192 * 8192 }
@@ -28,7 +28,8 @@ fn group_count_of(format: &Format) -> u32
     format.height * format.row_groups()
 }
 
-/// How many pgroups fit behind this many headers of segments.
+/// How many pgroups fit behind this many headers of segments: 12 octets are RTP's, 2 the extended
+/// number's, and 6 each header's.
 #[tactic(auto, unfolding(crate::specs::Greedy::room))]
 fn room_for(format: &Format, max_octets: u32, count: u32) -> u32
     requires few { count ≤ 3 }
@@ -56,7 +57,7 @@ fn next_of(format: &Format, max_octets: u32, group: u32) -> u32
     group_count_of(format).min(one.max(two.max(three)))
 }
 
-/// The runs of the packet that begins with this pgroup.
+/// The runs of the packet that begins with this pgroup: one for each row that it has pgroups of.
 #[tactic(auto, unfolding(crate::specs::Greedy::packet_from))]
 pub(crate) fn runs_from(format: &Format, max_octets: u32, group: u32) -> ArrayVec<PacketRun, 3>
     requires size { IsSize max_octets format.now }
@@ -78,7 +79,7 @@ pub(crate) fn runs_from(format: &Format, max_octets: u32, group: u32) -> ArrayVe
     runs
 }
 
-/// The first pgroup of each packet.
+/// The first pgroup of each packet. An `Err` comes only where the allocator refused the memory.
 pub(crate) fn starts_of<A: Allocator>(
     alloc: A,
     format: &Format,

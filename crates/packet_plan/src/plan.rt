@@ -26,13 +26,13 @@ use thiserror::Error;
 /// of two, and a header of six (RFC 3550, 5.1; RFC 4175, 4).
 const ONE_SEGMENT: u32 = 20;
 
-/// The greatest size of a packet, in octets.
+/// The greatest size of a packet, in octets with its RTP header (own).
 const MOST_OCTETS: u32 = 9000;
 
 /// Why there is no plan. The size is tested first.
 #[derive(Clone, Copy, Debug, PartialEq, Eq, Error)]
 pub enum PlanFault {
-    /// The memory was refused.
+    /// The allocator refused the memory for the packets' first pgroups.
     #[error("the memory was refused")]
     NoMemory = 1,
     /// The greatest size is below 20 octets and a pgroup, or above 9000.
@@ -43,7 +43,7 @@ pub enum PlanFault {
 impl PlanFault {
     ghost use Rattle.packet_plan.specs.Faults.{plan_fault_name, plan_fault_number};
 
-    /// Its number: 1 or 2.
+    /// Its number: 1 or 2, which isn't the order of the tests.
     pub fn number(self) -> u8
         ensures { result ≡ plan_fault_number self }
     {
@@ -80,7 +80,8 @@ impl From<AllocError> for PlanFault {
 }
 
 /// Which pgroups each packet of a picture carries. It keeps the number of each packet's first
-/// pgroup, four octets a packet.
+/// pgroup, four octets a packet and at most 256 MiB. Where a packet ends is a formula of where it
+/// begins, so any packet is written by itself.
 ///
 /// Contracts see it as its format, its greatest size and a list of packets, each a list of runs.
 #[derive(Drop)]
@@ -143,7 +144,7 @@ impl<A: Allocator> Plan<A> {
         })
     }
 
-    /// How many packets there are.
+    /// How many packets there are: from 1 to 2^26.
     pub fn len(&self) -> u32
         ensures value { result ≡ length self.now.packets }
         ensures some { 0 < length self.now.packets }
@@ -165,7 +166,7 @@ impl<A: Allocator> Plan<A> {
         let _format = &self.format;
     }
 
-    /// The runs of a packet, one for each of its segments.
+    /// The runs of a packet, from 0 on: one to three, each what a segment of it carries.
     pub fn packet(&self, index: u32) -> ArrayVec<PacketRun, 3>
         requires { index < length self.now.packets }
         ensures { result.items ≡ packet_at self.now index }
@@ -265,7 +266,7 @@ impl<A: Allocator> Plan<A> {
         )
     }
 
-    /// The format that the plan was made for.
+    /// The format that the plan was made for: that of the pictures that are sent by it.
     pub fn format(&self) -> Format
         ensures { result ≡ self.now.format }
     {

@@ -12,10 +12,10 @@ use std::alloc::Allocator;
 /// A picture whose runs can be written into packets: its samples may be numbers, as a [`Picture`]
 /// has them, or packed octets, as a [`PackedPicture`] keeps them.
 pub trait Raster {
-    /// The picture's values.
+    /// The picture's values, however they are kept.
     ghost values: { Self → Values };
 
-    /// The format that the plan was made for.
+    /// The picture's format: a plan that it is sent by was made for that.
     fn format(&self) -> Format
         ensures value { result ≡ (values self.now).format }
         ensures whole { IsPicture (values self.now) };

@@ -7,6 +7,6 @@ pub struct PacketRun {
     pub row: u32,
     /// The first pgroup, from 0 at the left.
     pub first: u32,
-    /// How many pgroups.
+    /// How many pgroups, at least one: none of them is behind the row's end.
     pub groups: u32,
 }

@@ -26,7 +26,7 @@ use std::alloc::Allocator;
 /// The octets of an RTP header without sources and extension (RFC 3550, 5.1).
 const RTP_OCTETS: usize = 12;
 
-/// The head of the segment that carries a run.
+/// The head of the segment that carries a run: its column in pixels, its length in octets.
 fn head_of(format: &Format, run: PacketRun) -> SegmentHead
     requires { HasHead format.now run }
     ensures { result ≡ head_at format.now run }
@@ -38,7 +38,7 @@ fn head_of(format: &Format, run: PacketRun) -> SegmentHead
     }
 }
 
-/// The heads of the segments that carry runs, one for each run.
+/// The heads of the segments that carry runs, one for each run; those behind are of no meaning.
 fn heads_of(format: &Format, runs: &[PacketRun]) -> [SegmentHead; 3]
     requires few { length runs.now ≤ 3 }
     requires heads { AllByRecursion (HasHead format.now) runs.now }
@@ -59,7 +59,8 @@ fn heads_of(format: &Format, runs: &[PacketRun]) -> [SegmentHead; 3]
     heads
 }
 
-/// Writes the RTP header and the front of the payload, and answers how long they are.
+/// Writes the RTP header and the front of the payload, and answers how long they are: 14 octets and
+/// 6 for each segment.
 fn write_front(
     buf: &mut [u8],
     format: &Format,
@@ -92,7 +93,7 @@ fn write_front(
     RTP_OCTETS + front
 }
 
-/// The values of a run, where they lie in the picture.
+/// The values of a run, where they lie in the picture: none is copied.
 fn run_samples<A: Allocator>(picture: &Picture<A>, run: PacketRun) -> &[u16]
     requires { HasHead picture.now.format run }
     ensures value { result.now ≡ run_values picture.now run }
@@ -106,7 +107,6 @@ fn run_samples<A: Allocator>(picture: &Picture<A>, run: PacketRun) -> &[u16]
     values
 }
 
-/// Writes the octets that values spell.
 fn write_values(format: &Format, values: &[u16], octets: &mut [u8])
     requires lengths { Agree format.now (length octets.old) (length values.now) }
     requires fit { Fit (bits_of format.now.depth) values.now }
@@ -136,7 +136,7 @@ pub(crate) fn write_run<A: Allocator>(
     end
 }
 
-/// The octets of a run, where they lie in the picture.
+/// The octets of a run, where they lie in the picture: none is copied.
 fn packed_run<A: Allocator>(picture: &PackedPicture<A>, run: PacketRun) -> &[u8]
     requires { HasHead picture.now.format run }
     ensures { result.now ≡ run_octets picture.now run }

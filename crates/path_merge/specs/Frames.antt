@@ -51,6 +51,7 @@ frame_at [] rs ts = None
 frame_at (t ∷ w) [] ts = None
 frame_at (t ∷ w) (r ∷ rs) ts = if ts == t then Some r else frame_at w rs ts
 
+-- the cell at a position, missing where there is no frame
 abbrev pub cell_if : Option Raster → Position → Cell
 cell_if None p = Missing
 cell_if (Some r) p = cell_at r p

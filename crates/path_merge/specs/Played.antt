@@ -39,6 +39,7 @@ stays_ended_behind window before [] = []
 stays_ended_behind window before (event ∷ events) =
     stays_ended_by window before event ++ stays_ended_behind window (before ++ event ∷ []) events
 
+-- the stays that events end, in order, from the first event on
 abbrev pub ended_stays : List ℕ → List Event → List Stay
 ended_stays window events = stays_ended_behind window [] events
 

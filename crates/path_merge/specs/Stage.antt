@@ -80,11 +80,13 @@ pub record AllFollowed {A : Type 0} (plan : RasterPlan) (stamp : Stamp) (picture
   pub admitted : AreAdmittedTo events s count
   pub stage : IsStage plan stamp pictures s (take count events) new
 
+-- from the stage before the first event, so many events were all admitted and followed
 abbrev pub FollowsTo : {A : Type 0} → RasterPlan → Stamp → List Values → List Event → ℕ
     → Stage A → Stage A → Type 0
 FollowsTo plan stamp pictures events count old new = (s : Scene) → 0 < length s.opening.window →
     IsStage plan stamp pictures s [] old → AllFollowed plan stamp pictures s events count new
 
+-- the same of all events
 abbrev pub FollowsAll : {A : Type 0} → RasterPlan → Stamp → List Values → List Event
     → Stage A → Stage A → Type 0
 FollowsAll plan stamp pictures events old new =

@@ -8,7 +8,7 @@ use frame_assembly::Frame;
 use st_format::Format;
 use std::alloc::Allocator;
 
-/// Frames of which nothing is known.
+/// Frames of which nothing is known, of one format. `NoMemory` where the memory was refused.
 pub fn blank_frames<A: Allocator + Copy>(
     alloc: A,
     format: Format,
@@ -24,7 +24,7 @@ pub fn blank_frames<A: Allocator + Copy>(
     Ok(frames)
 }
 
-/// Joins frames to frames of the same formats, one by one.
+/// Joins frames to frames of the same formats, each to the one at its own place.
 pub fn join_frames<A: Allocator, B: Allocator>(frames: &mut [Frame<A>], others: &[Frame<B>])
     requires { SameFormats frames.old others.now }
     ensures { frames.new ≡ joined_frames frames.old others.now }

@@ -97,7 +97,8 @@ pub fn any_tree()
 
 /// What octets offer to a receiver is said by the grammar: one list has it (`exact`), that of their
 /// segments at their timestamp where they are a datagram for it (`datagram`; RFC 4175, 4.3), else
-/// none.
+/// none. That octets are below 256 is wanted: of 300 as the second a walk reads the marker set, and
+/// the grammar has no such octet.
 pub fn offered_by_grammar()
     ensures exact { (o : Opening) (octets : List ℕ) (offered : List Offer) →
         AreOctets octets → (offered ≡ offers o octets) ↔ AreOffersOf offered octets o }

@@ -10,12 +10,12 @@ pub trait Observer {
     /// What it is after an answer, by what it was before.
     ghost after: { Self → Result Taken Refusal → Self };
 
-    /// Takes note of an answer.
+    /// Takes note of an answer, once for each datagram that came.
     fn note(&mut self, answer: Result<Taken, Refusal>)
         ensures { self.new ≡ after self.old answer };
 }
 
-/// Takes note of nothing.
+/// Takes note of nothing, where nobody wants the answers.
 #[derive(Drop)]
 pub struct Unobserved;
 

@@ -34,7 +34,7 @@ use std::alloc::{Allocator, Global};
 use std::marker::Model;
 use std::mem;
 
-/// How many of the last refusals a receiver keeps.
+/// How many of the last refusals a receiver keeps (own).
 const MOST_REFUSALS: usize = 64;
 
 /// A receiver of datagrams by two paths: a frame for each timestamp of its window.
@@ -114,7 +114,7 @@ impl<A: Allocator + Copy> Receiver<A> {
         Receiver::of_window(alloc, format, payload_type, ssrc, window)
     }
 
-    /// The same, where the window is one.
+    /// The same, where the window is one: then only memory can fail.
     fn of_window(
         alloc: A,
         format: Format,
@@ -160,7 +160,8 @@ impl<A: Allocator> Receiver<A> {
         let _format = &self.format;
     }
 
-    /// Takes a datagram that came by a path: joins what it offers to the frame of its timestamp.
+    /// Takes a datagram that came by a path: joins what it offers to the frame of its timestamp,
+    /// alike whichever path it was (SMPTE ST 2022-7).
     ///
     /// The first refusal is answered, in the order of their numbers. A refused datagram changes no
     /// frame; it is kept as one of the last 64 refusals, with its path. No memory is taken.
@@ -205,7 +206,7 @@ impl<A: Allocator> Receiver<A> {
         taken
     }
 
-    /// Joins what a datagram offers.
+    /// Joins what a datagram offers to the frame of its timestamp, where the window has that.
     #[tactic(auto, using(crate::proofs::Joined::frames_left_alone))]
     fn join(&mut self, octets: &[u8]) -> Result<Taken, Refusal>
         ensures answer { result ≡ taken_at self.old.opening octets.now }
@@ -227,7 +228,7 @@ impl<A: Allocator> Receiver<A> {
         }
     }
 
-    /// Keeps a refusal with its path; where there are 64 already, the oldest goes.
+    /// Keeps a refusal with its path; where there are 64 already, the buffer drops the oldest.
     fn keep_refusal(&mut self, path: Path, taken: Result<Taken, Refusal>)
         ensures opening { self.new.opening ≡ self.old.opening }
         ensures frames { self.new.frames ≡ self.old.frames }
@@ -278,7 +279,8 @@ impl<A: Allocator> Receiver<A> {
             && same_window(self.window.as_slice(), other.window.as_slice())
     }
 
-    /// Joins the frames of a receiver that was opened alike.
+    /// Joins the frames of a receiver that was opened alike: these are as many, of the same
+    /// formats.
     fn join_all<B: Allocator>(&mut self, other: &Receiver<B>)
         requires { self.old.opening ≡ other.now.opening }
         ensures opening { self.new.opening ≡ self.old.opening }
@@ -318,7 +320,8 @@ impl<A: Allocator> Receiver<A> {
         Ok(self.move_on(next, out))
     }
 
-    /// Exchanges the first frame and blanks the new one, which then stands last.
+    /// Exchanges the first frame and blanks the new one, which then stands last: the frames are
+    /// turned by one, so none is copied or made.
     fn move_on(&mut self, next: u32, out: &mut Frame<A>) -> u32
         requires new { IsMember next self.old.opening.window → ⊥ }
         requires format { out.old.format ≡ self.old.opening.format }
@@ -379,7 +382,7 @@ impl<A: Allocator> Receiver<A> {
         Refusals::of(self.refusals.iter())
     }
 
-    /// How many refusals are kept: at most 64.
+    /// How many refusals are kept: at most 64, the last ones.
     pub fn refusal_count(&self) -> usize
         ensures count { result ≡ length self.now.refusals }
         ensures most { result ≤ 64 }
@@ -397,7 +400,7 @@ impl<A: Allocator> Receiver<A> {
         *self.refusals.get(place).unwrap()
     }
 
-    /// The format of the frames.
+    /// The format of the frames, with which it was opened.
     pub fn format(&self) -> Format
         ensures format { result ≡ self.now.opening.format }
         ensures receiver { IsReceiver self.now }
@@ -422,7 +425,7 @@ impl<A: Allocator> Receiver<A> {
         self.ssrc
     }
 
-    /// The timestamps of the window, in 90 kHz ticks.
+    /// The timestamps of the window, from 1 to 16, all different, in 90 kHz ticks.
     pub fn window(&self) -> &[u32]
         ensures window { result.now ≡ self.now.opening.window }
         ensures receiver { IsReceiver self.now }

@@ -30,7 +30,7 @@ pub struct Received {
 pub struct ReceiveFault {
     /// How many datagrams it had delivered in this call. They are taken.
     pub delivered: u64,
-    /// Its fault.
+    /// What the source told of its failure.
     pub fault: SourceFault,
 }
 
@@ -51,7 +51,8 @@ impl ReceiveFault {
 /// A datagram that the receiver refuses, or that is outside its window, counts as delivered and
 /// stops nothing. `buf` has room for any datagram: 65,535 octets. No memory is taken.
 ///
-/// An `Err` is the source's one failure in this call. What it delivered before is taken.
+/// An `Err` is the source's one failure in this call. What it delivered before is taken. A source
+/// says nothing then of its turns to come, so it is said which it gave before.
 pub fn receive<S: DatagramSource, A: Allocator>(
     source: &mut S,
     receiver: &mut Receiver<A>,

@@ -6,7 +6,7 @@ ghost use Rattle.path_merge.specs.Opening.{AreDifferent, IsWindow, IsWindowSize}
 
 use crate::fault::OpenFault;
 
-/// The most timestamps that a window has.
+/// The most timestamps that a window has (own).
 pub const MOST_TIMESTAMPS: usize = 16;
 
 /// Whether a window has 1 to 16 timestamps, all different: the first fault, in their order.
@@ -26,7 +26,7 @@ pub fn check_window(window: &[u32]) -> Result<(), OpenFault>
     Ok(())
 }
 
-/// Whether a timestamp stands twice.
+/// Whether a timestamp stands twice: of 16 at most each is compared with those behind it.
 fn has_double(window: &[u32]) -> bool
     ensures double { IsTrue result → AreDifferent window.now → ⊥ }
     ensures different { IsFalse result → AreDifferent window.now }
@@ -37,14 +37,14 @@ fn has_double(window: &[u32]) -> bool
     }
 }
 
-/// Whether a window has a timestamp.
+/// Whether a window has a timestamp already: none may stand twice in it.
 pub fn has_timestamp(window: &[u32], timestamp: u32) -> bool
     ensures { IsTrue result ↔ IsMember timestamp window.now }
 {
     window.contains(&timestamp)
 }
 
-/// The place of a timestamp, where the window has it.
+/// The place of a timestamp, from 0, where the window has it: there stands its frame.
 pub fn place_of(window: &[u32], timestamp: u32) -> Option<usize>
     ensures found { IfSome result (λ i. slice_get window.now i ≡ Some timestamp) }
     ensures none { IfNone result (All (λ t. t ≢ timestamp) window.now) }

@@ -64,6 +64,7 @@ header_fault f h = if h.octets == 0 then None else first_of (
     )
     ∷ [])
 
+-- the first of two faults, where there is one
 abbrev pub option_or : Option PayloadFault → Option PayloadFault → Option PayloadFault
 option_or None later = later
 option_or (Some e) later = Some e
@@ -73,6 +74,7 @@ abbrev pub headers_fault : Format → List Header → Option PayloadFault
 headers_fault f [] = None
 headers_fault f (h ∷ hs) = option_or (header_fault f h) (headers_fault f hs)
 
+-- a fault, where there is one, and else what comes behind it
 abbrev pub fault_or : {A : Type 0} → Option PayloadFault → Result A PayloadFault
     → Result A PayloadFault
 fault_or None later = later
@@ -85,9 +87,11 @@ segments_at (h ∷ hs) octets =
     record { row = h.row; offset = h.offset; octets = take h.octets octets } ∷ segments_at hs
     (drop h.octets octets)
 
+-- how many octets headers announce: the sum of their Lengths
 abbrev pub counted_octets : List Header → ℕ
 counted_octets hs = sum_by (λ h. h.octets) hs
 
+-- the segments that headers announce, where all their octets are there
 abbrev pub data_at : List Header → List ℕ → Result (List Segment) PayloadFault
 data_at hs octets =
     if nat_lt (length octets) (counted_octets hs) then Err ShortData else Ok (segments_at hs octets)

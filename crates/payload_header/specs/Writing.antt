@@ -8,7 +8,8 @@ use Rattle.payload_header.specs.declared.writing.SegmentHead.{SegmentHead}
 use Rattle.payload_header.specs.Payload.{Header, header_text, IsInside, IsPayload, most_segments}
 
 -- A head whose numbers fit the fields of a header: Length has 16 bits, row and Offset 15 (RFC 4175,
--- 4.2)
+-- 4.2). Of Length that is asked too, since a slice of structs tells a proof nothing of their
+-- ranges.
 pub record HeadFits (h : SegmentHead) : Type 0 where
   pub octets : h.octets < 2 ^ 16
   pub row : h.row < 2 ^ 15

@@ -15,7 +15,7 @@ use crate::payload::{PayloadFault, PayloadView, Segment};
 use arrayvec::ArrayVec;
 use st_format::Format;
 
-/// The fields of a segment's header.
+/// A segment's header (RFC 4175, 4.2): Length, F, the row, C and Offset.
 #[derive(Clone, Copy, Default)]
 pub struct Header {
     octets: u16,
@@ -25,7 +25,7 @@ pub struct Header {
     offset: u16,
 }
 
-/// The header in six octets.
+/// The header in six octets: F and C are the highest bits of the second and the third field.
 #[tactic(auto, unfolding(crate::specs::Reading::header_of))]
 fn header_at(octets: &[u8]) -> Header
     requires { length octets.now ≡ 6 }
@@ -42,7 +42,8 @@ fn header_at(octets: &[u8]) -> Header
     }
 }
 
-/// What is wrong with a header.
+/// What is wrong with a header, in the order of the faults. Nothing is with one without octets,
+/// whatever it says beside (own).
 fn fault_of(format: &Format, header: &Header) -> Option<PayloadFault>
     ensures { result ≡ header_fault format.now (fields header.now) }
 {
@@ -69,7 +70,7 @@ fn fault_of(format: &Format, header: &Header) -> Option<PayloadFault>
     None
 }
 
-/// The headers, and what follows them.
+/// One to three headers, each but the last with C set, and what follows them.
 #[tactic(auto, unfolding(crate::specs::Reading::headers_at))]
 fn headers_of(octets: &[u8]) -> Result<(ArrayVec<Header, 3>, &[u8]), PayloadFault>
     ensures { Gives (λ x. (map fields x.0.items, x.1.now)) result (headers_at 3 octets.now) }
@@ -91,7 +92,6 @@ fn headers_of(octets: &[u8]) -> Result<(ArrayVec<Header, 3>, &[u8]), PayloadFaul
     Err(PayloadFault::TooManySegments)
 }
 
-/// The first fault of the headers in turn.
 fn first_fault(format: &Format, headers: &[Header]) -> Option<PayloadFault>
     ensures { result ≡ headers_fault format.now (map fields headers.now) }
 {
@@ -103,7 +103,7 @@ fn first_fault(format: &Format, headers: &[Header]) -> Option<PayloadFault>
     None
 }
 
-/// How many octets the headers announce.
+/// How many octets the headers announce, which are to follow them.
 fn total(headers: &[Header]) -> usize
     requires { length headers.now ≤ 3 }
     ensures { result ≡ counted_octets (map fields headers.now) }

@@ -21,11 +21,11 @@ pub struct SegmentHead {
     pub row: u16,
     /// The column of the first pixel, from 0 at the left: 15 bits.
     pub offset: u16,
-    /// How many octets the segment has.
+    /// How many octets the segment has: its Length.
     pub octets: u16,
 }
 
-/// Writes a header of six octets.
+/// Writes a header of six octets (RFC 4175, 4.2), with C where another follows. F isn't set.
 fn write_header(buf: &mut [u8], head: &SegmentHead, more: bool)
     requires room { 6 ≤ length buf.old }
     requires fields { HeadFits head.now }
@@ -50,7 +50,7 @@ fn write_header_at(buf: &mut [u8], at: usize, head: &SegmentHead, more: bool) ->
     at + 6
 }
 
-/// Fills a slice with the headers of segments, one after another.
+/// Fills a slice with the headers of segments, one after another; the last has no C.
 fn write_headers(buf: &mut [u8], heads: &[SegmentHead])
     requires room { length buf.old ≡ 6 * length heads.now }
     requires fields { AllByRecursion HeadFits heads.now }
@@ -64,7 +64,7 @@ fn write_headers(buf: &mut [u8], heads: &[SegmentHead])
     }
 }
 
-/// Writes the extended number and the headers.
+/// Writes the extended number in two octets, and the headers behind it.
 fn write_front(buf: &mut [u8], extended: u16, heads: &[SegmentHead])
     requires room { 2 + 6 * length heads.now ≤ length buf.old }
     requires fields { AllByRecursion HeadFits heads.now }

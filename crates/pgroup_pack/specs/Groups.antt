@@ -12,6 +12,7 @@ abbrev pub blanked_from : ℕ → ℕ → List ℕ → List ℕ
 blanked_from mask i [] = []
 blanked_from mask i (v ∷ vs) = (if bit_at mask i == 1 then 0 else v) ∷ blanked_from mask (i + 1) vs
 
+-- all samples of a group, with 0 for each whose bit of the mask is set
 abbrev pub blanked_samples : ℕ → List ℕ → List ℕ
 blanked_samples mask vs = blanked_from mask 0 vs
 

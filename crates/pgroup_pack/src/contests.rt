@@ -57,7 +57,9 @@ fn contest_few(format: &Format, octets: &mut [u8], others: &[u8], marks: &mut [u
     let samples = format.pgroup().samples;
     let groups = marks.len();
     let are_alike = octets.len() == others.len();
-    // The sizes of each format as literals: the compiler then unrolls all that is done.
+    // The sizes of each format as literals: the compiler then unrolls all that is done, and the
+    // worst case takes half the time. The last arm is the same with variables, of which the proof
+    // is.
     match format.depth {
         Depth::D8 if are_alike && samples == 4 && groups == 8 && octets.len() == 32 => {
             contest_lanes(format, Depth::D8, 4, octets, others, marks)

@@ -3,7 +3,7 @@ ghost use Rattle.std.specs.Prelude.{◌≡◌, ◌<◌, ◌*◌, ◌/◌, length
 ghost use Rattle.pgroup_pack.specs.Packing.{Fit};
 ghost use Rattle.st_format.specs.Samples.{Spells, values_in};
 
-/// A sample is an octet.
+/// An octet a sample, whose value it is.
 #[inline(always)]
 pub(crate) fn unpack(octets: &[u8], samples: &mut [u16])
     requires { 8 * length octets.now ≡ 8 * length samples.old }
@@ -14,7 +14,7 @@ pub(crate) fn unpack(octets: &[u8], samples: &mut [u16])
     }
 }
 
-/// An octet is a sample.
+/// An octet a sample: each value fits one.
 #[inline(always)]
 pub(crate) fn pack(samples: &[u16], octets: &mut [u8])
     requires lengths { 8 * length octets.old ≡ 8 * length samples.now }

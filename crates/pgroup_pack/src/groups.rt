@@ -31,7 +31,7 @@ pub fn differing(format: &Format, a: &[u8], b: &[u8]) -> u16
     differing_samples(&left[..count], &right[..count])
 }
 
-/// Makes each sample of a pgroup 0 whose bit of the mask is set.
+/// Makes each sample of a pgroup 0 whose bit of the mask is set: a contested sample is kept as 0.
 pub fn blank(format: &Format, octets: &mut [u8], mask: u16)
     requires { length octets.old ≡ (pixel_group format.now.sampling format.now.depth).octets }
     ensures { values_in (bits_of format.now.depth) octets.new
@@ -60,7 +60,7 @@ fn differing_samples(left: &[u16], right: &[u16]) -> u16
     word
 }
 
-/// Makes each sample 0 whose bit of the mask is set.
+/// Makes each sample 0 whose number is that of a set bit of the mask.
 fn blank_samples(samples: &mut [u16], mask: u16)
     requires { length samples.old ≤ MOST }
     ensures { samples.new ≡ blanked_samples mask samples.old }

@@ -26,8 +26,8 @@ use st_format::{Depth, Format};
 
 /// Reads the samples that octets spell, in the order in which they are sent.
 ///
-/// The octets are whole pgroups, none too, and the slices agree: the octets have as many bits
-/// as the samples.
+/// The slices agree: the octets have as many bits as the samples, none too. Those of whole pgroups
+/// have, and nothing more is asked.
 pub fn unpack(format: &Format, octets: &[u8], samples: &mut [u16])
     requires { Agree format.now (length octets.now) (length samples.old) }
     ensures spelled { Spells (bits_of format.now.depth) octets.now samples.new }
@@ -38,8 +38,8 @@ pub fn unpack(format: &Format, octets: &[u8], samples: &mut [u16])
 
 /// Writes the octets that spell samples, which stand in the order in which they are sent.
 ///
-/// The samples are those of whole pgroups, none too, each fits the depth, and the slices
-/// agree: the octets have as many bits as the samples.
+/// Each sample fits the depth, and the slices agree: the octets have as many bits as the samples,
+/// none too. Those of whole pgroups have, and nothing more is asked.
 pub fn pack(format: &Format, samples: &[u16], octets: &mut [u8])
     requires lengths { Agree format.now (length octets.old) (length samples.now) }
     requires fit { Fit (bits_of format.now.depth) samples.now }
@@ -64,7 +64,7 @@ pub fn sample_at(format: &Format, octets: &[u8], i: usize) -> u16
     }
 }
 
-/// The same by the depth.
+/// The same by the depth alone, so that a caller may have it as a literal.
 #[inline(always)]
 fn unpack_at(depth: Depth, octets: &[u8], samples: &mut [u16])
     requires { 8 * length octets.now ≡ bits_of depth * length samples.old }
@@ -78,7 +78,7 @@ fn unpack_at(depth: Depth, octets: &[u8], samples: &mut [u16])
     }
 }
 
-/// The same by the depth.
+/// The same by the depth alone, so that a caller may have it as a literal.
 #[inline(always)]
 fn pack_at(depth: Depth, samples: &[u16], octets: &mut [u8])
     requires lengths { 8 * length octets.old ≡ bits_of depth * length samples.now }

@@ -43,7 +43,7 @@ impl<A: Allocator> PackedPicture<A> {
         PackedPicture { format, octets }
     }
 
-    /// The format of its raster.
+    /// The format of its raster, whose pgroups its octets are.
     pub fn format(&self) -> Format
         ensures value { result ≡ self.now.format }
         ensures whole { IsPicture self.now }

@@ -52,7 +52,7 @@ fn samples_of(octets: u8x16) -> u16x8
     high * u16x8::splat(256) + low
 }
 
-/// A sample of each two octets.
+/// A sample of each two octets, the high one first (RFC 4175, 4.3).
 #[inline(always)]
 fn unpack_twos(octets: &[u8], samples: &mut [u16])
     requires { 8 * length octets.now ≡ 16 * length samples.old }

@@ -128,7 +128,7 @@ fn octets_of(samples: u16x8) -> u8x16
     first + second
 }
 
-/// Four samples of each five octets.
+/// Four samples of each five octets, the highest bits of each first (RFC 4175, 4.3).
 #[inline(always)]
 fn unpack_fives(octets: &[u8], samples: &mut [u16])
     requires { 8 * length octets.now ≡ 10 * length samples.old }
@@ -147,7 +147,7 @@ fn unpack_fives(octets: &[u8], samples: &mut [u16])
     }
 }
 
-/// Five octets of each four samples.
+/// Five octets of each four samples, as `unpack_fives` reads them.
 #[inline(always)]
 fn pack_fours(samples: &[u16], octets: &mut [u8])
     requires lengths { 8 * length octets.old ≡ 10 * length samples.now }

@@ -76,7 +76,7 @@ fn octets_of(samples: u16x8) -> u8x16
     first + second
 }
 
-/// Two samples of each three octets.
+/// Two samples of each three octets, the highest bits of each first (RFC 4175, 4.3).
 #[inline(always)]
 fn unpack_threes(octets: &[u8], samples: &mut [u16])
     requires { 8 * length octets.now ≡ 12 * length samples.old }
@@ -91,7 +91,7 @@ fn unpack_threes(octets: &[u8], samples: &mut [u16])
     }
 }
 
-/// Three octets of each two samples.
+/// Three octets of each two samples, as `unpack_threes` reads them.
 #[inline(always)]
 fn pack_twos(samples: &[u16], octets: &mut [u8])
     requires lengths { 8 * length octets.old ≡ 12 * length samples.now }

@@ -46,6 +46,7 @@ settled_over base q =
       samples = map (λ at. settled_cell (cell_at q at) (base at)) (places q.format);
     }
 
+-- settled, over a value for each component
 abbrev pub settled_by_fill : List ℕ → Raster → Values
 settled_by_fill fill q = settled_over (λ at. slice_index fill at.component) q
 
@@ -66,10 +67,12 @@ raster_formats qs = map (λ q. q.format) qs
 abbrev pub frames_lent : List (Bor Raster) → List Raster
 frames_lent fs = map (λ f. f.now) fs
 
+-- the frames are those of this timestamp, one of each receiver
 abbrev pub AreLentAt : List (Bor Raster) → ℕ → List State → Type 0
 AreLentAt fs ts rs =
     map (λ r. frame_at r.opening.window r.frames ts) rs ≡ map (λ f. Some f.now) fs
 
+-- a fill's values fit the depth of each frame
 abbrev pub FitsLent : List ℕ → List (Bor Raster) → Type 0
 FitsLent fill fs = AllByRecursion (λ f. AllByRecursion (FitsDepth f.now.format) fill) fs
 

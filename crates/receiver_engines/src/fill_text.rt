@@ -20,7 +20,7 @@ pub fn read_fill(text: &[u8]) -> Option<[u16; 3]>
     Some([read_value(first)?, read_value(second)?, read_value(third)?])
 }
 
-/// A number of 16 bits.
+/// A number of 16 bits, in decimal digits: a component's value.
 fn read_value(text: &[u8]) -> Option<u16>
     ensures is { IfSome result (λ n. IsNumberOf text.now n) }
     ensures none { IfNone result ((n : ℕ) → n < 65536 → IsNumberOf text.now n → ⊥) }

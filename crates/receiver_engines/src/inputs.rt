@@ -68,7 +68,7 @@ pub fn fill_for<A: Allocator>(text: &[u8], frames: &[&Frame<A>]) -> Result<[u16;
     Ok(fill)
 }
 
-/// Whether three values fit the depth of a format.
+/// Whether three values fit the depth of a format, as each component's does.
 fn fits(fill: [u16; 3], format: Format) -> bool
     ensures { IsTrue result ↔ AllByRecursion (FitsDepth format) fill }
 {
@@ -122,7 +122,7 @@ pub fn inputs_of<'a, A: Allocator + Copy>(
     Ok(with_held(inputs, frames[0], picture))
 }
 
-/// Inputs of which the first is this frame with a held picture.
+/// Inputs of which the first is this frame with a held picture: the others have the fill.
 fn with_held<'a, A: Allocator + Copy>(
     mut inputs: Vec<JobInput<'a, A>, A>,
     frame: &'a Frame<A>,
@@ -138,7 +138,7 @@ fn with_held<'a, A: Allocator + Copy>(
     inputs
 }
 
-/// Each frame with the fill.
+/// An input for each frame, all with the one fill. Only memory can fail.
 fn filled_inputs<'a, A: Allocator + Copy>(
     alloc: A,
     frames: &[&'a Frame<A>],

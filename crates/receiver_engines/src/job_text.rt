@@ -29,7 +29,7 @@ pub fn read_job(text: &[u8]) -> Option<Job>
     }
 }
 
-/// A job that has no numbers.
+/// A job whose text has no numbers, and so is one of a few.
 fn read_plain(text: &[u8]) -> Option<Job>
     ensures is { IfSome result (λ job. IsJobText text.now job) }
     ensures none { IfNone result ((job : Job) → IsPlain job → IsJobText text.now job → ⊥) }

@@ -12,7 +12,8 @@ use std::marker::Model;
 use std::snapshot::Snapshot;
 
 /// Writes a capture with a text, of records by path A, into a sink of octets. It is begun at the
-/// first datagram: a sink of which nothing is asked before isn't touched.
+/// first datagram, as a `CaptureWriter` is as it is opened: a sink of which nothing is asked before
+/// isn't touched.
 ///
 /// After a fault it takes nothing more, and the sink is asked for nothing.
 #[derive(Drop)]
@@ -48,7 +49,7 @@ impl<'t, K: ByteSink> Model for LateCapture<'t, K> {
 }
 
 impl<'t, K: ByteSink> LateCapture<'t, K> {
-    /// A capture with this text that isn't begun.
+    /// A capture with this text that isn't begun: its front goes out with the first datagram.
     pub(crate) fn new(sink: K, text: &'t [u8]) -> Self
         requires few { length text.now ≤ 65535 }
         ensures sink { result.sink ≡ sink }
@@ -69,7 +70,7 @@ impl<'t, K: ByteSink> LateCapture<'t, K> {
         }
     }
 
-    /// Gives the sink back, as it then is.
+    /// Gives the sink back, as it then is: without a datagram as it was.
     pub(crate) fn into_inner(self) -> K
         ensures { result ≡ self.entry.sink }
     {

@@ -112,7 +112,7 @@ fn join_each<A: Allocator + Copy, S: ByteSource>(
     Ok(())
 }
 
-/// Reads the receiver of a place, and merges it into one.
+/// Reads the receiver at a place in the list, and merges it into one.
 fn join_at<A: Allocator + Copy, S: ByteSource>(
     alloc: A,
     merged: &mut Receiver<A>,

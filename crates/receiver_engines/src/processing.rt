@@ -33,13 +33,13 @@ pub struct Processing<'a> {
     /// The job, as `limit:nominal`, `limit:video`, `gain:G`, `ycc444`, `ycc422`,
     /// `wipe:columns:P:S`, `wipe:rows:P:S` or `key`.
     pub job: &'a [u8],
-    /// The timestamp of the frames, in ticks of a 90 kHz clock.
+    /// The timestamp of the frames, in 90 kHz ticks: each receiver's window has to have it.
     pub timestamp: u32,
     /// The value of each component, with commas between, for a sample that has none.
     pub fill: &'a [u8],
     /// What the packets have in common; the payload type is at most 127.
     pub stamp: Stamp,
-    /// The most octets of a packet.
+    /// The most octets of a packet, from 20 and those of a pgroup to 9000.
     pub max_octets: u32,
 }
 
@@ -307,7 +307,7 @@ fn send_capture<A: Allocator + Copy, K: ByteSink>(
     answer
 }
 
-/// A fault of the sending as one that ends a run.
+/// A fault of the sending as one that ends a run: the sink's is a device's.
 fn send_job_fault(fault: SendJobFault) -> Fault
     ensures { result ≡ of_send_job fault }
 {

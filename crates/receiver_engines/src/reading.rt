@@ -42,7 +42,7 @@ pub fn read_receivers<A: Allocator + Copy, S: ByteSource>(
     Ok(receivers)
 }
 
-/// Reads the receiver of a place.
+/// Reads the receiver of a place in the list.
 fn read_at<A: Allocator + Copy, S: ByteSource>(
     alloc: A,
     states: &mut [S],
@@ -68,7 +68,7 @@ fn read_at<A: Allocator + Copy, S: ByteSource>(
     read_receiver(alloc, &mut states[place])
 }
 
-/// Reads the picture that is held, where there is one.
+/// Reads the picture that is to be held, if a file of one is named.
 pub fn read_held<A: Allocator, S: ByteSource>(
     alloc: A,
     hold: &mut Option<S>,

@@ -16,6 +16,7 @@ abbrev pub only_one : Version → Result (Unit {0}) FileFault
 only_one One = Ok tt
 only_one Two = Err BadVersion
 
+-- a receiver's file's name and version
 unfoldable pub name_at : List ℕ → Result (Unit {0} × List ℕ) FileFault
 name_at octets = kind_at receiver_name octets >>= λ x. with_rest (only_one x.0) x.1
 
@@ -23,6 +24,7 @@ name_at octets = kind_at receiver_name octets >>= λ x. with_rest (only_one x.0)
 abbrev pub payload_type_of : ℕ → Result ℕ FileFault
 payload_type_of n = if nat_lt 127 n then Err BadField else Ok n
 
+-- an octet that is a payload type
 unfoldable pub payload_type_at : List ℕ → Result (ℕ × List ℕ) FileFault
 payload_type_at octets = octet_at octets >>= λ x. with_rest (payload_type_of x.0) x.1
 
@@ -30,6 +32,7 @@ payload_type_at octets = octet_at octets >>= λ x. with_rest (payload_type_of x.
 abbrev pub flag_of : ℕ → Result Bool FileFault
 flag_of n = if n == 0 then Ok false else (if n == 1 then Ok true else Err BadField)
 
+-- an octet that says whether a source is pinned
 unfoldable pub flag_at : List ℕ → Result (Bool × List ℕ) FileFault
 flag_at octets = octet_at octets >>= λ x. with_rest (flag_of x.0) x.1
 
@@ -37,6 +40,7 @@ flag_at octets = octet_at octets >>= λ x. with_rest (flag_of x.0) x.1
 abbrev pub ssrc_of : Bool → ℕ → Result (Option ℕ) FileFault
 ssrc_of pinned n = if pinned then Ok (Some n) else (if n == 0 then Ok None else Err BadField)
 
+-- whether a source is pinned, and which: in both cases five octets
 unfoldable pub ssrc_at : List ℕ → Result (Option ℕ × List ℕ) FileFault
 ssrc_at octets = flag_at octets >>= λ x. number_at x.1 >>= λ n. with_rest (ssrc_of x.0 n.0) n.1
 
@@ -44,6 +48,7 @@ ssrc_at octets = flag_at octets >>= λ x. number_at x.1 >>= λ n. with_rest (ssr
 abbrev pub window_count : ℕ → Result ℕ FileFault
 window_count n = if n == 0 || nat_lt 16 n then Err BadField else Ok n
 
+-- an octet that counts a window
 unfoldable pub count_at : List ℕ → Result (ℕ × List ℕ) FileFault
 count_at octets = octet_at octets >>= λ x. with_rest (window_count x.0) x.1
 

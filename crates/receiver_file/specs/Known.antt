@@ -20,12 +20,13 @@ use Rattle.media_file.specs.StateFile.{cut_cells}
 abbrev pub shape_in : Format → Shape
 shape_in f = shape_of f.sampling f.depth
 
--- the groups of a row, and those of the rows before it
+-- the groups of a row
 abbrev pub row_cut : Raster → ℕ → List (List Cell)
 row_cut r row =
     cut_cells (shape_in r.format).samples (row_groups r.format)
     (drop (group_start r.format row 0) r.cells)
 
+-- the groups of so many first rows
 abbrev pub rows_cut : Raster → ℕ → List (List Cell)
 rows_cut r rows = cut_cells (shape_in r.format).samples (rows * row_groups r.format) r.cells
 

@@ -30,6 +30,7 @@ kept_of s = record {
   frames = kept_frames (fields_of s.opening.format) s.opening.window s.frames;
 }
 
+-- the timestamp of a frame that is kept
 abbrev pub timestamp_in : Held → ℕ
 timestamp_in h = h.timestamp
 
@@ -61,10 +62,11 @@ pub record IsReceiverFile (octets : List ℕ) (s : State) : Type 0 where
   pub writable : IsWritable s
   pub whole : octets ≡ state_text (kept_of s)
 
--- the two parts of a file: what stands before the frames, and the frames
+-- what stands in a file before the frames
 abbrev pub kept_front_text : Kept → List ℕ
 kept_front_text k = kind_text receiver_name One ++ (format_text k.format ++ opening_text k)
 
+-- the frames of a file, each behind its timestamp
 abbrev pub kept_frames_text : Kept → List ℕ
 kept_frames_text k = flat_map (held_text k.format) k.frames
 

@@ -30,6 +30,7 @@ use Rattle.receiver_file.specs.Saved.{IsSaved, timestamp_in}
 abbrev pub kept_head_text : Head → List ℕ
 kept_head_text h = h.payload_type ∷ (ssrc_text h.ssrc ++ h.count ∷ [])
 
+-- fields behind the format block that a file can have
 pub record IsHead (h : Head) : Type 0 where
   pub payload_type : h.payload_type < 128
   pub ssrc : SsrcFits h.ssrc
@@ -52,12 +53,15 @@ abbrev pub flag_octet : Bool → ℕ
 flag_octet false = 0
 flag_octet true = 1
 
+-- what stands in a file before the payload type
 abbrev pub block_front : Fields → List ℕ
 block_front f = kind_text receiver_name One ++ format_text f
 
+-- what stands in a file before the next frame
 abbrev pub frames_front : Fields → Head → List Held → List ℕ
 frames_front f h frames = (block_front f ++ kept_head_text h) ++ flat_map (held_text f) frames
 
+-- the shape of a format's pgroups
 abbrev pub shape_by : Fields → Shape
 shape_by f = shape_of f.sampling f.depth
 

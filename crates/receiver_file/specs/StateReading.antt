@@ -18,6 +18,7 @@ use Rattle.receiver_file.specs.Numbers.{number_at}
 abbrev pub new_of : List ℕ → ℕ → Result ℕ FileFault
 new_of before t = if list_any (λ u. u == t) before then Err BadField else Ok t
 
+-- a timestamp of four octets that didn't stand before
 unfoldable pub timestamp_at : List ℕ → List ℕ → Result (ℕ × List ℕ) FileFault
 timestamp_at before octets = number_at octets >>= λ x. with_rest (new_of before x.0) x.1
 

@@ -56,7 +56,7 @@ pub(crate) fn read_rows<A: Allocator, S: ByteSource>(
     fill(source, frame, &format, groups, packed)
 }
 
-/// Reads all groups of a frame.
+/// Reads all groups of a frame, each run or group behind the one before.
 fn fill<A: Allocator, S: ByteSource>(
     source: &mut S,
     frame: &mut Frame<A>,

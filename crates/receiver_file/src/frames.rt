@@ -22,10 +22,10 @@ use media_file::FileFault;
 use st_format::{ByteSource, Format};
 use std::alloc::Allocator;
 
-/// The most timestamps that a window has.
+/// The most timestamps that a window has (own).
 pub(crate) const MOST_TIMESTAMPS: usize = 16;
 
-/// Timestamps, and a frame for each.
+/// What a file says of a window: timestamps, and a frame for each.
 #[derive(Drop)]
 pub(crate) struct Frames<A: Allocator> {
     pub window: ArrayVec<u32, MOST_TIMESTAMPS>,
@@ -69,7 +69,7 @@ pub(crate) fn read_frames<A: Allocator + Copy, S: ByteSource>(
     Ok(Frames { window, frames })
 }
 
-/// Reads a timestamp that isn't one of those before.
+/// Reads a timestamp; `BadField` where it is one of those before.
 fn read_timestamp<S: ByteSource>(source: &mut S, before: &[u32]) -> Result<u32, FileFault>
     ensures new { IfOk result (λ t. IsMember t before.now → ⊥) }
     ensures read { IfOk result
@@ -86,7 +86,6 @@ fn read_timestamp<S: ByteSource>(source: &mut S, before: &[u32]) -> Result<u32, 
     new_in(before, timestamp)
 }
 
-/// A timestamp that isn't one of those before.
 fn new_in(before: &[u32], timestamp: u32) -> Result<u32, FileFault>
     ensures { result ≡ new_of before.now timestamp }
 {
@@ -96,7 +95,7 @@ fn new_in(before: &[u32], timestamp: u32) -> Result<u32, FileFault>
     Ok(timestamp)
 }
 
-/// Reads a frame by way of a room.
+/// Reads a frame by way of a room: at first nothing is known of it.
 fn read_frame<A: Allocator + Copy, S: ByteSource>(
     alloc: A,
     source: &mut S,

@@ -14,15 +14,15 @@ use crate::octets::{read_number, read_octet};
 use media_file::{FileFault, Version, read_kind};
 use st_format::ByteSource;
 
-/// The name of receivers' files.
+/// What a receiver's file begins with.
 const RECEIVER: &[u8] = b"S20RCV";
 
-/// The fields behind the format block.
+/// The fields behind the format block: seven octets (own).
 #[derive(Clone, Copy)]
 pub(crate) struct Head {
-    /// Up to 127.
+    /// The payload type of the datagrams that it takes: up to 127.
     pub payload_type: u8,
-    /// The source that is pinned, if one is.
+    /// The source that is pinned, or none.
     pub ssrc: Option<u32>,
     /// How many timestamps there are: 1 to 16.
     pub count: u8,
@@ -44,7 +44,7 @@ pub(crate) fn read_name<S: ByteSource>(source: &mut S) -> Result<(), FileFault>
     }
 }
 
-/// Reads the fields behind the format block.
+/// Reads the fields behind the format block, the first fault of them in their order.
 pub(crate) fn read_head<S: ByteSource>(source: &mut S) -> Result<Head, FileFault>
     ensures payload_type { IfOk result (λ h. h.payload_type ≤ 127) }
     ensures some { IfOk result (λ h. 0 < h.count) }
@@ -88,7 +88,7 @@ fn read_payload_type<S: ByteSource>(source: &mut S) -> Result<u8, FileFault>
     Ok(payload_type)
 }
 
-/// Reads whether a source is pinned, and which.
+/// Reads whether a source is pinned, and then its number in any case.
 fn read_ssrc<S: ByteSource>(source: &mut S) -> Result<Option<u32>, FileFault>
     ensures read { IfOk result
         (λ s. Takes ssrc_at (S.to_give source.old) (S.to_give source.new) s) }
@@ -105,7 +105,7 @@ fn read_ssrc<S: ByteSource>(source: &mut S) -> Result<Option<u32>, FileFault>
     ssrc_in(pinned, ssrc)
 }
 
-/// Reads whether a source is pinned.
+/// Reads whether a source is pinned: 0 or 1, and else `BadField`.
 fn read_flag<S: ByteSource>(source: &mut S) -> Result<bool, FileFault>
     ensures read { IfOk result
         (λ b. Takes flag_at (S.to_give source.old) (S.to_give source.new) b) }
@@ -131,7 +131,8 @@ fn flag_in(code: u8) -> Result<bool, FileFault>
     }
 }
 
-/// The source that is pinned. Where none is, 0 stands in its place.
+/// The source that is pinned. Where none is, 0 stands in its place, and any other number is a
+/// `BadField`: so a receiver has one file.
 fn ssrc_in(pinned: bool, ssrc: u32) -> Result<Option<u32>, FileFault>
     ensures { result ≡ ssrc_of pinned ssrc }
 {
@@ -142,7 +143,7 @@ fn ssrc_in(pinned: bool, ssrc: u32) -> Result<Option<u32>, FileFault>
     }
 }
 
-/// Reads the number of timestamps.
+/// Reads the number of timestamps: from 1 to 16, and else `BadField`.
 fn read_count<S: ByteSource>(source: &mut S) -> Result<u8, FileFault>
     ensures some { IfOk result (λ n. 0 < n) }
     ensures few { IfOk result (λ n. n ≤ 16) }

@@ -97,7 +97,7 @@ fn put_next(room: &mut [u8], at: usize, size: usize, marks: &[u16], octets: &[u8
     (1, put_wide_group(room, at, size, marks[0], octets))
 }
 
-/// Whether the groups of a block are whole, by their mark words.
+/// Whether the groups of a block are whole, all mark words at once.
 #[inline(always)]
 fn are_whole(marks: &[u16]) -> bool
     requires { BLOCK ≤ length marks.now }
@@ -129,7 +129,8 @@ fn put_block(room: &mut [u8], at: usize, size: usize, octets: &[u8]) -> usize
     end
 }
 
-/// Puts a group of the first `size` octets, as `put_group` does, and others behind its end.
+/// Puts a group of the first `size` octets, as `put_group` does, and others behind its end, which
+/// the next group is written over.
 #[inline(always)]
 fn put_wide_group(room: &mut [u8], at: usize, size: usize, mark: u16, octets: &[u8]) -> usize
     requires few { size ≤ MOST_GROUP_OCTETS }
@@ -195,7 +196,6 @@ fn put_group(room: &mut [u8], at: usize, mark: u16, octets: &[u8]) -> usize
     }
 }
 
-/// Puts octets, and others behind them.
 #[inline(always)]
 fn put_behind(room: &mut [u8], at: usize, head: &[u8], octets: &[u8]) -> usize
     requires { at + (length head.now + length octets.now) ≤ length room.old }
@@ -234,7 +234,7 @@ fn copy_few(to: &mut [u8], octets: &[u8])
     }
 }
 
-/// The state and the mask of a group some of whose samples are contested.
+/// The state and the mask of a group some of whose samples are contested: 2, and two octets.
 fn mixed_head(mask: u16) -> [u8; 3]
     ensures { result ≡ 2 ∷ to_be_bytes w16 mask }
 {

@@ -51,7 +51,7 @@ pub(crate) fn read_group<A: Allocator, S: ByteSource>(
     Ok(())
 }
 
-/// Gives a frame the group of a number, of which nothing is known yet.
+/// Gives a frame the group of a number, of which nothing is known yet: a missing one is so already.
 fn give_known<A: Allocator>(
     frame: &mut Frame<A>,
     format: &Format,
@@ -78,7 +78,7 @@ fn give_known<A: Allocator>(
     }
 }
 
-/// Gives a frame the group of a number, some of whose samples are contested.
+/// Gives a frame the group of a number, some of whose samples are contested, by its row and column.
 fn give_mixed<A: Allocator>(
     frame: &mut Frame<A>,
     format: &Format,
@@ -134,7 +134,8 @@ fn read_known<S: ByteSource>(
     }
 }
 
-/// Reads the mask and the octets of a group some of whose samples are contested.
+/// Reads the mask and the octets of a group some of whose samples are contested; `MixedGroup` where
+/// it isn't spelled as one.
 fn read_mixed<S: ByteSource>(
     source: &mut S,
     format: &Format,
@@ -166,7 +167,8 @@ fn read_mixed<S: ByteSource>(
     Ok(GroupState::Mixed(mask))
 }
 
-/// Whether a mask names some of a group's samples and no others, and those are 0.
+/// Whether a mask names some of a group's samples and no others, and those are 0: so a group has
+/// one spelling.
 fn is_mixed(format: &Format, octets: &[u8], mask: u16) -> bool
     requires { length octets.now ≡ (pixel_group format.now.sampling format.now.depth).octets }
     ensures { result
@@ -177,7 +179,7 @@ fn is_mixed(format: &Format, octets: &[u8], mask: u16) -> bool
     mask != 0 && mask >> format.pgroup().samples == 0 && is_blanked(format, octets, mask)
 }
 
-/// Whether each sample is 0 whose bit of the mask is set.
+/// Whether each sample is 0 whose bit of the mask is set: blanking these then changes none.
 fn is_blanked(format: &Format, octets: &[u8], mask: u16) -> bool
     requires { length octets.now ≡ (pixel_group format.now.sampling format.now.depth).octets }
     ensures { result ≡ are_zeroed mask (values_in (bits_of format.now.depth) octets.now) }

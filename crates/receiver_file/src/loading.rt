@@ -118,7 +118,7 @@ fn read_receiver<A: Allocator + Copy, S: ByteSource>(
     open_again(alloc, format, head, frames)
 }
 
-/// A receiver of these frames.
+/// A receiver of this window, whose own frames are exchanged for those that were read.
 fn open_again<A: Allocator + Copy>(
     alloc: A,
     format: Format,

@@ -25,7 +25,7 @@ pub(crate) fn read_octet<S: ByteSource>(source: &mut S) -> Result<u8, FileFault>
     Ok(octet[0])
 }
 
-/// Reads a number of four octets.
+/// Reads a number of four octets, the highest one first.
 pub(crate) fn read_number<S: ByteSource>(source: &mut S) -> Result<u32, FileFault>
     ensures read { IfOk result
         (λ n. Takes number_at (S.to_give source.old) (S.to_give source.new) n) }

@@ -12,10 +12,10 @@ use frame_assembly::{Frame, MOST_GROUP_OCTETS};
 use st_format::{ByteSink, DeviceFault, are_octets, write_whole};
 use std::alloc::Allocator;
 
-/// How many octets are gathered before a sink is asked to take them.
+/// How many octets are gathered before a sink is asked to take them: a group has 18 at most.
 const GATHERED: usize = 4096;
 
-/// Writes the groups of a frame, in raster order.
+/// Writes the groups of a frame, in raster order, row after row.
 pub(crate) fn write_rows<A: Allocator, K: ByteSink>(
     sink: &mut K,
     frame: &Frame<A>,
@@ -42,7 +42,7 @@ pub(crate) fn write_rows<A: Allocator, K: ByteSink>(
     Ok(())
 }
 
-/// Writes the groups of a row by way of a room, which is of no use behind that.
+/// Writes the groups of a row by way of a room, of which nothing is left for the next row.
 fn write_row<A: Allocator, K: ByteSink>(
     sink: &mut K,
     frame: &Frame<A>,
@@ -72,7 +72,7 @@ fn write_row<A: Allocator, K: ByteSink>(
     write_marked(sink, frame.format().pgroup().octets, marks, octets, room)
 }
 
-/// Writes groups of so many octets each by way of a room.
+/// Writes groups of so many octets each, as many at once as a room has place for.
 fn write_marked<K: ByteSink>(
     sink: &mut K,
     size: usize,

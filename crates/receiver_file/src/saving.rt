@@ -59,7 +59,7 @@ pub fn save_receiver<A: Allocator, K: ByteSink>(
     Ok(())
 }
 
-/// Writes what stands before the frames.
+/// Writes what stands before the frames: name, version, format block, and seven octets more.
 fn write_front<A: Allocator, K: ByteSink>(
     sink: &mut K,
     receiver: &Receiver<A>,
@@ -102,7 +102,7 @@ fn opening_of(payload_type: u8, ssrc: Option<u32>, count: u8) -> [u8; 7]
     opening
 }
 
-/// Writes the frames, in window order.
+/// Writes the frames, in window order, each behind its timestamp.
 fn write_frames<A: Allocator, K: ByteSink>(
     sink: &mut K,
     receiver: &Receiver<A>,
@@ -124,7 +124,7 @@ fn write_frames<A: Allocator, K: ByteSink>(
     Ok(())
 }
 
-/// A timestamp, as it stands before its frame.
+/// A timestamp, as it stands before its frame: the highest octet first.
 fn timestamp_octets(timestamp: u32) -> [u8; 4]
     ensures { result ≡ to_be_bytes w32 timestamp }
 {
@@ -133,7 +133,7 @@ fn timestamp_octets(timestamp: u32) -> [u8; 4]
     octets
 }
 
-/// Writes a timestamp and its frame.
+/// Writes a timestamp, and the groups of its frame behind it.
 fn write_frame<A: Allocator, K: ByteSink>(
     sink: &mut K,
     timestamp: u32,

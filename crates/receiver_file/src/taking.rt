@@ -115,7 +115,7 @@ fn take_whole<A: Allocator, S: ByteSource>(
     count
 }
 
-/// What a source lends, but no more than a room has.
+/// What a source lends, but no more than a room has into which groups are packed.
 fn lent<S: ByteSource>(source: &S) -> &[u8]
     ensures held { result.now ≡ take (length result.now) (S.at_hand source.now) }
     ensures few { length result.now ≤ ROOM }

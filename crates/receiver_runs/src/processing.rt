@@ -86,7 +86,7 @@ fn processing<'a>(words: &ProcessWords<'a>) -> Processing<'a>
     }
 }
 
-/// Whether the capture is one of the files that are read.
+/// Whether the capture that is to be written is one of the files that are read.
 fn is_read(
     out: &FileOutput<'_>,
     sdp: &Option<FileSource<'_>>,

@@ -11,3 +11,4 @@ pub mod Openings
 pub mod Lengths
 pub mod Endings
 pub mod SaidFlows
+pub mod Quiet

@@ -5,7 +5,7 @@ ghost use Rattle.std.specs.List.{AllByRecursion, sum_by, zip};
 ghost use Rattle.std.specs.Option.{option_copied};
 ghost use Rattle.recording_counts.specs.LeftOut.{left_out_of};
 ghost use Rattle.recording_counts.specs.declared.omission.Omission.{Omission as Reason};
-ghost use Rattle.run_outcome.specs.Fault.{Accounts, counts};
+ghost use Rattle.run_outcome.specs.Fault.{Accounts, IfRefused, counts};
 ghost use Rattle.run_outcome.specs.Moments.{WasRead};
 ghost use Rattle.run_outcome.specs.Refusing.{OfRefusal};
 ghost use Rattle.run_outcome.specs.Text.{GivesText};
@@ -58,7 +58,8 @@ pub struct Importing<'a> {
 ///
 /// A refusal where the SDP, a word for a flow, the flows or a file is refused, or where there are
 /// more than 16,777,216 records; nothing is written to `capture` before each file was read as far as
-/// its first record. And else that a device failed or memory was wanted.
+/// its first record. And else that a device failed or memory was wanted. Where it is refused
+/// nothing is printed.
 pub fn import<A, D, S, K, O>(
     alloc: A,
     wanted: Importing<'_>,
@@ -87,6 +88,8 @@ where
         (GivesText 65535 (D.gave sdp.old) (D.gave sdp.new) (D.ended sdp.new))
         (WasRead (gave_by S.gave) (ended_by S.ended)) (zip files.old files.new)
         (K.took capture.old) (K.took capture.new))) }
+    // A refusal comes before anything is printed.
+    ensures quiet { IfErr result (λ f. IfRefused f (output.new ≡ output.old)) }
     ensures failures { Accounts result (counts (D.failures sdp.old) (D.failures sdp.new)
         ∷ counts (sum_by (failures_by S.failures) files.old)
         (sum_by (failures_by S.failures) files.new)

@@ -10,7 +10,7 @@ ghost use Rattle.recording_engines.specs.Files.{AllClosed, ended_by, failures_by
 ghost use Rattle.recording_engines.specs.Imported.{Imports, IsImportRefusal};
 ghost use Rattle.recording_engines.specs.declared.importing.ImportCounts.{ImportCounts as Sums};
 ghost use Rattle.recording_runs.specs.Files.{AreNew};
-ghost use Rattle.run_outcome.specs.Fault.{Accounts, counts};
+ghost use Rattle.run_outcome.specs.Fault.{Accounts, IfRefused, counts};
 ghost use Rattle.run_outcome.specs.Moments.{WasRead};
 ghost use Rattle.run_outcome.specs.Refusing.{OfRefusal};
 ghost use Rattle.run_outcome.specs.Text.{GivesText};
@@ -24,7 +24,7 @@ use recording_engines::{ImportCounts, ImportFile, Importing};
 use run_outcome::{Fault, Writer};
 use std::alloc::{AllocError, Global};
 
-/// A file of `import` on this machine.
+/// A file of `import`, of this machine and in global memory.
 type InputFile<'a> = ImportFile<Global, FileSource<'a>>;
 
 /// Makes a capture of captures and recordings.
@@ -73,7 +73,7 @@ fn importing<'a>(words: &ImportWords<'a>) -> Importing<'a> {
     }
 }
 
-/// The octets of a text, where there is one.
+/// The octets of a text that may be absent.
 pub(crate) fn octets(text: Option<&str>) -> Option<&[u8]> {
     match text {
         Some(text) => Some(text.as_bytes()),
@@ -92,13 +92,13 @@ fn given_files<'a>(rt: &'a HostRuntime, names: &[&'a str]) -> Result<Vec<InputFi
     Ok(files)
 }
 
-/// Whether the capture is one of the files that are read.
+/// Whether the capture that is to be written is one of the files that are read.
 fn is_read(out: &FileOutput<'_>, sdp: &FileSource<'_>, files: &[InputFile<'_>]) -> bool {
     let file = out.identity();
     sdp.is(file) || files.iter().any(|it| is_of(it, file))
 }
 
-/// Whether a file is this plain one.
+/// Whether a file of `import`, as a capture or as a recording, is this plain one.
 fn is_of(it: &InputFile<'_>, file: Option<Identity>) -> bool {
     match it.source() {
         Some(source) => source.is(file),
@@ -152,6 +152,8 @@ fn import<'a>(
         (WasRead (gave_by file_gave) (ended_by file_ended)) (zip files.old files.new)
         (file_took out.old) (file_took out.new) r
         ⊎ (r ≡ OutputIsInput Import) × IsTrue is_input)) }
+    ensures quiet { IfErr result (λ f. IfRefused f
+        (output_took output.new ≡ output_took output.old)) }
     ensures owed { Accounts result (counts (file_failures sdp.old) (file_failures sdp.new)
         ∷ counts (sum_by (failures_by file_failures) files.old)
         (sum_by (failures_by file_failures) files.new)
@@ -180,12 +182,14 @@ impl<'a> Command for ImportCommand<'a> {
         (file_took old.out) (file_took new.out) (output_took old.output)
         (output_took new.output) sums };
 
-    ghost is_refused = { λ old new r. IsImportRefusal (option_copied old.wanted.a)
+    // Then nothing is printed.
+    ghost is_refused = { λ old new r. (IsImportRefusal (option_copied old.wanted.a)
         (option_copied old.wanted.b) (FileRead old.sdp new.sdp)
         (GivesText 65535 (file_gave old.sdp) (file_gave new.sdp) (file_ended new.sdp))
         (WasRead (gave_by file_gave) (ended_by file_ended)) (zip old.files.items new.files.items)
         (file_took old.out) (file_took new.out) r
-        ⊎ (r ≡ OutputIsInput Import) × IsTrue old.is_input };
+        ⊎ (r ≡ OutputIsInput Import) × IsTrue old.is_input)
+        × (output_took new.output ≡ output_took old.output) };
 
     ghost is_placed = { λ c. IsInPlace c.out × IsFalse c.is_input };
 

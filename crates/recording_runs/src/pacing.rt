@@ -26,7 +26,7 @@ pub struct PacedCommand<'a> {
     pub wanted: Pacing<'a>,
     /// The capture, of which the first reading tells how many records each frame has.
     pub ahead: FileSource<'a>,
-    /// The same file.
+    /// The same file once more, from its begin: the second reading writes its packets.
     pub capture: FileSource<'a>,
     pub out: FileOutput<'a>,
     /// Whether that is one of the files that are read.

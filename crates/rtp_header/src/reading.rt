@@ -9,7 +9,7 @@ ghost use Rattle.rtp_header.specs.Views.{seen_rtp};
 
 use crate::header::{FIXED, RtpFault, RtpView, VERSION};
 
-/// What stands behind `count` octets.
+/// What stands behind `count` octets; `ShortExtension` where there are fewer.
 fn skip(octets: &[u8], count: usize) -> Result<&[u8], RtpFault>
     ensures { Gives (λ x. x.now) result (rest_behind count octets.now) }
 {
@@ -20,7 +20,8 @@ fn skip(octets: &[u8], count: usize) -> Result<&[u8], RtpFault>
     Ok(rest)
 }
 
-/// What stands behind the extension, where there is one.
+/// What stands behind the extension, where there is one: its third and fourth octet count the words
+/// of four octets behind them (RFC 3550, 5.3.1).
 fn skip_extension(extended: bool, octets: &[u8]) -> Result<&[u8], RtpFault>
     ensures { Gives (λ x. x.now) result (behind_extension extended octets.now) }
 {
@@ -34,7 +35,7 @@ fn skip_extension(extended: bool, octets: &[u8]) -> Result<&[u8], RtpFault>
     skip(octets, 4 + 4 * words as usize)
 }
 
-/// What stands before the padding, where there is one.
+/// What stands before the padding, where there is one: its last octet counts it (RFC 3550, 5.1).
 fn strip_padding(padded: bool, octets: &[u8]) -> Result<&[u8], RtpFault>
     ensures { Gives (λ x. x.now) result (without_padding padded octets.now) }
 {
@@ -52,7 +53,7 @@ fn strip_padding(padded: bool, octets: &[u8]) -> Result<&[u8], RtpFault>
     Ok(payload)
 }
 
-/// What reading from the left gives.
+/// What reading from the left gives: a first fault ends it.
 #[tactic(auto, unfolding(crate::specs::Reading::rtp_walk))]
 fn read(octets: &[u8]) -> Result<RtpView<'_>, RtpFault>
     ensures exact { Gives seen_rtp result (rtp_walk octets.now) }

@@ -15,10 +15,11 @@ use Rattle.script_engines.specs.Traced.{FollowsAll, OpensBy, absent_lines}
 abbrev pub texts_of : List (ℕ × List ℕ) → List (List ℕ)
 texts_of lines = map (λ (line : ℕ × List ℕ). line.1) lines
 
--- the two lines of a script that open a receiver, and those behind them
+-- the two lines of a script that open a receiver
 abbrev pub first_lines : List ℕ → List (List ℕ)
 first_lines script = take 2 (texts_of (numbered_lines 0 script))
 
+-- the lines behind them
 abbrev pub lines_behind : List ℕ → List (List ℕ)
 lines_behind script = drop 2 (texts_of (numbered_lines 0 script))
 

@@ -15,6 +15,7 @@ pub record Failures : Type 0 where
   pub before : ℕ
   pub after : ℕ
 
+-- one device's two numbers
 abbrev pub counts : ℕ → ℕ → Failures
 counts before after = record { before = before; after = after }
 

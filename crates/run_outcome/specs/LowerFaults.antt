@@ -47,6 +47,7 @@ of_line number (line.Plan plan.NoMemory) = Memory
 of_line number (line.Play play.NoMemory) = Memory
 of_line number fault = Refused (Script number fault)
 
+-- an SDP's fault; this refusal where it is no want of memory
 abbrev pub sdp_fault : SdpFault → Refusal → Fault
 sdp_fault sdp.NoMemory refusal = Memory
 sdp_fault fault refusal = Refused refusal
@@ -56,35 +57,44 @@ sdp_fault fault refusal = Refused refusal
 abbrev pub of_sdp : Located → Fault
 of_sdp at = sdp_fault at.fault (Sdp at)
 
+-- of where an SDP's video is sent to, which wants no memory
 abbrev pub of_flows : FlowsFault → Fault
 of_flows refusal = Refused (Flows refusal)
 
+-- of a receiver that there isn't
 abbrev pub of_open : OpenFault → Fault
 of_open open_fault.NoMemory = Memory
 of_open refusal = Refused (Open refusal)
 
+-- of a plan that there isn't
 abbrev pub of_plan : PlanFault → Fault
 of_plan plan.NoMemory = Memory
 of_plan refusal = Refused (Plan refusal)
 
+-- of a job
 abbrev pub of_job : JobFault → Fault
 of_job job.NoMemory = Memory
 of_job refusal = Refused (Job refusal)
 
+-- a file's fault; this refusal where it is one of the content
 abbrev pub file_fault : FileFault → Refusal → Fault
 file_fault file.Device refusal = Device
 file_fault file.NoMemory refusal = Memory
 file_fault fault refusal = Refused refusal
 
+-- of a capture
 abbrev pub capture_fault : FileFault → Fault
 capture_fault fault = file_fault fault (Capture fault)
 
+-- of a picture's file
 abbrev pub picture_fault : FileFault → Fault
 picture_fault fault = file_fault fault (Picture fault)
 
+-- of a receiver's file
 abbrev pub state_fault : FileFault → Fault
 state_fault fault = file_fault fault (State fault)
 
+-- of a recording of another tool, whose reader wants no memory
 abbrev pub of_recording : RecordingFault → Fault
 of_recording recording.Device = Device
 of_recording refusal = Refused (Recording refusal)

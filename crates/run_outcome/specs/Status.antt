@@ -4,6 +4,7 @@ use Rattle.run_outcome.specs.declared.status.Status.{Status}
 use Rattle.run_outcome.specs.declared.status.Status.TheVariants.{Done, Refused, CommandLine, Device}
 use Rattle.run_outcome.specs.declared.status.Status.TheVariants.{Memory}
 
+-- the number that a program answers to who started it
 abbrev pub status_number : Status → ℕ
 status_number Done = 0
 status_number Refused = 1

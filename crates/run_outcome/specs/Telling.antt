@@ -11,10 +11,11 @@ TellsLine status line result old new took took' =
     ((result ≡ status) × (new ≡ old) × (took' ≡ took ++ line))
     ⊎ ((result ≡ Device) × Failed old new)
 
--- the two lines without a number
+-- the line of a device's failure, which has no number
 abbrev pub device_line : List ℕ
 device_line = codes "st2110: device\n"
 
+-- the line of want of memory, which has none either
 abbrev pub memory_line : List ℕ
 memory_line = codes "st2110: memory\n"
 

@@ -18,9 +18,9 @@ use std::alloc::AllocError;
 pub enum Fault {
     /// The words or the files are refused.
     Refused(Refusal),
-    /// A device failed.
+    /// A device failed. Which one its own count says.
     Device,
-    /// Memory was wanted.
+    /// Memory was wanted, and there was none.
     Memory,
 }
 
@@ -127,28 +127,28 @@ impl From<RecordingFault> for Fault {
     }
 }
 
-/// A fault of a capture.
+/// A capture's fault as one that ends a run: want of memory and a device's are none of the file's.
 pub fn of_capture(fault: FileFault) -> Fault
     ensures { result ≡ capture_fault fault }
 {
     of_file(fault, Refusal::Capture(fault))
 }
 
-/// A fault of a picture's file.
+/// A fault of a picture's file, as [`of_capture`] has one of a capture.
 pub fn of_picture(fault: FileFault) -> Fault
     ensures { result ≡ picture_fault fault }
 {
     of_file(fault, Refusal::Picture(fault))
 }
 
-/// A fault of a receiver's file.
+/// A fault of a receiver's file, as [`of_capture`] has one of a capture.
 pub fn of_state(fault: FileFault) -> Fault
     ensures { result ≡ state_fault fault }
 {
     of_file(fault, Refusal::State(fault))
 }
 
-/// A fault of a file, which is this refusal where it is one of the content.
+/// What ends a run at a file: this refusal, unless the device failed or memory was wanted.
 fn of_file(fault: FileFault, refusal: Refusal) -> Fault
     ensures { result ≡ file_fault fault refusal }
 {

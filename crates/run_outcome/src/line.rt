@@ -10,7 +10,7 @@ pub enum Line {
     Kept(u32),
     /// The datagram's timestamp isn't in the window.
     Outside,
-    /// The datagram was refused.
+    /// The datagram was refused for this reason.
     Refused(Refusal),
     /// Nothing is known of the sample.
     Missing,
@@ -18,7 +18,7 @@ pub enum Line {
     Value(u16),
     /// Offers of the sample differ.
     Contested,
-    /// There is no such sample.
+    /// There is no such sample: no frame of the timestamp, or no such position.
     Nowhere,
     /// How many samples of the frame of this timestamp are of each kind.
     Frame(u32, Counts),
@@ -33,15 +33,15 @@ pub enum Line {
     Receiver(usize),
     /// Of the numbers that are noted, none came from this one on, so many of them.
     Absent(u32, u32),
-    /// How many records were written.
+    /// How many records of a capture were written.
     Records(u64),
     /// How many records were written of A and of B, and how many packets were left out.
     Recorded(u64, u64, u64),
     /// How many datagrams were exported, and how many were left out.
     Exported(u64, u64),
-    /// How many datagrams were sent.
+    /// How many datagrams were sent: taken by a capture or a link.
     Sent(u64),
-    /// How many datagrams were delivered.
+    /// How many datagrams came, such as were refused or outside the window among them.
     Delivered(u64),
     /// How many datagrams were refused for this reason.
     RefusedCount(Refusal, u64),

@@ -53,7 +53,7 @@ fn print_frame<A: Allocator, O: ByteSink>(
     print(Line::Frame(timestamp, counts), output)
 }
 
-/// Prints a line, and an end of line behind it.
+/// Prints a line and its end by one call, so that lines of several runs into one pipe stay whole.
 pub fn print<O: ByteSink>(line: Line, output: &mut O) -> Result<(), Fault>
     ensures printed { OnOk result
         (O.took output.new ≡ O.took output.old ++ (line_text line ++ 10 ∷ [])) }

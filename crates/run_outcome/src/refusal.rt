@@ -41,13 +41,13 @@ pub enum Refusal {
     ReceiveNoSdp,
     /// A picture's format is not that of the first.
     SendFormats,
-    /// There are too many pictures.
+    /// There are more than 10,000 pictures.
     SendPictures,
     /// The text for a capture is longer than a capture's text may be.
     SendSdp,
     /// The two receivers are opened unlike.
     MergeUnlike,
-    /// The text is that of no job.
+    /// The text is none of those of jobs.
     ProcessJob,
     /// A receiver's window hasn't the timestamp.
     ProcessFrame,
@@ -63,19 +63,20 @@ pub enum Refusal {
     ImportPlaces,
     /// Recordings have too many datagrams of the flows.
     ImportRecords,
-    /// The file that this command is to write is one of those that it is to read.
+    /// The file that this command is to write is one of those that it is to read, whatever its
+    /// name. It is looked for behind the words, before any file is read.
     OutputIsInput(Writer),
     /// The SDP is refused, in a place of it where that is one's.
     Sdp(Located),
     /// The SDP doesn't say where its video is sent to.
     Flows(FlowsFault),
-    /// There is no such receiver.
+    /// The window is refused, so no receiver is opened with it.
     Open(OpenFault),
-    /// There is no such plan.
+    /// The greatest size of a packet is refused.
     Plan(PlanFault),
-    /// The job is refused.
+    /// The job is refused for its pictures, or for its numbers.
     Job(JobFault),
-    /// A capture is refused.
+    /// A capture is refused for its first fault.
     Capture(FileFault),
     /// A picture's file is refused.
     Picture(FileFault),

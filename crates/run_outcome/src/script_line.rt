@@ -13,39 +13,39 @@ use std::fmt;
 /// The form of a line of a script, or what else was wanted in the place of one.
 #[derive(Clone, Copy, Debug, PartialEq, Eq)]
 pub enum Form {
-    /// The line `format`.
+    /// The first line of a script: `format S B W H N/D`.
     Format,
-    /// The line `open`.
+    /// The second line of `trace`: `open PT SSRC WINDOW`.
     Open,
-    /// A datagram.
+    /// A datagram by a path: `A HEX` or `B HEX`.
     Datagram,
-    /// The line `slide` of `trace`.
+    /// The line `slide TS` of `trace`.
     Slide,
-    /// The line `cell`.
+    /// A sample that is asked for: `cell TS ROW COL COMP`.
     Cell,
-    /// The line `numbers`, which stands once.
+    /// The line `numbers FIRST COUNT`, which stands once.
     Numbers,
     /// Any line that `trace` has behind the first two.
     Traced,
-    /// The line `stamp`.
+    /// The second line of `rehearse`: `stamp PT FIRST TIMESTAMP SSRC`.
     Stamp,
-    /// The line `max`.
+    /// Its third line: `max OCTETS`.
     MaxOctets,
-    /// The line `window`.
+    /// Its fourth line: `window WINDOW`.
     Window,
-    /// The line `receivers`.
+    /// Its fifth line: `receivers N`.
     Receivers,
-    /// A picture.
+    /// A line of `rehearse` before its events: `picture HEX`.
     Picture,
-    /// The line `arrive`.
+    /// An event of `rehearse`: `arrive R A I` or `arrive R B I`.
     Arrive,
-    /// The line `slide` of `rehearse`.
+    /// An event of `rehearse`: `slide R TS`.
     SlideAt,
-    /// The line `merge`.
+    /// An event of `rehearse`: `merge R S`.
     Merge,
-    /// Any event.
+    /// Any event: `send`, or one of the three.
     Event,
-    /// A picture, or any event.
+    /// A picture or any event, where no event stood before.
     PictureOrEvent,
     /// The end of the script, which is too long.
     End,
@@ -94,13 +94,13 @@ impl Form {
 pub enum LineFault {
     /// It isn't of this form, or stands where it may not.
     Form(Form),
-    /// There is no such format.
+    /// The fields of a line `format` are of the form, and say no format.
     Format(FormatFault),
-    /// There is no such receiver.
+    /// The fields of a line `open` are of the form, and its window is refused.
     Open(OpenFault),
-    /// There is no such map of packet numbers.
+    /// The fields of a line `numbers` are of the form, and its count is refused.
     Numbers(SeqMapFault),
-    /// There is no such plan.
+    /// The number of a line `max` is refused.
     Plan(PlanFault),
     /// The schedule is not played.
     Play(PlayFault),

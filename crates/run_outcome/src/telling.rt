@@ -11,7 +11,7 @@ const DEVICE_LINE: &[u8] = b"st2110: device\n";
 /// What is told where memory was wanted.
 const MEMORY_LINE: &[u8] = b"st2110: memory\n";
 
-/// Tells that memory was wanted.
+/// Tells that memory was wanted, and how the run ends, as [`tell_line`] does.
 pub(crate) fn tell_memory<F: ByteSink>(faults: &mut F) -> Status
     ensures { TellsLine Memory memory_line result
         (F.failures faults.old) (F.failures faults.new) (F.took faults.old) (F.took faults.new) }
@@ -19,7 +19,7 @@ pub(crate) fn tell_memory<F: ByteSink>(faults: &mut F) -> Status
     tell_line(Status::Memory, MEMORY_LINE, faults)
 }
 
-/// Tells that a device failed.
+/// Tells that a device failed, and how the run ends, as [`tell_line`] does.
 pub(crate) fn tell_device<F: ByteSink>(faults: &mut F) -> Status
     ensures { TellsLine Device device_line result
         (F.failures faults.old) (F.failures faults.new) (F.took faults.old) (F.took faults.new) }

@@ -4,7 +4,8 @@ ghost use Rattle.std.specs.Prelude.{◌≡◌, ◌∷◌, ◌++◌, [], IfSome};
 use arrayvec::ArrayString;
 use std::fmt::{Display, Write};
 
-/// Room for any line of output or of a fault, in octets.
+/// Room for any line of output or of a fault, in octets. That each fits is not proved: one that
+/// didn't would be told as want of memory.
 const LINE: usize = 128;
 
 /// The text of a value and an end of line behind it; none where that has no room.

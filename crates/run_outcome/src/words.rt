@@ -1,7 +1,7 @@
 //! Words of a line.
 ghost use Rattle.std.specs.Prelude.{◌≡◌, ◌≢◌, ◌++◌, List, ℕ, MatchOption};
 
-/// The text behind a word, where it begins so.
+/// What stands behind a word that a text begins with; none where it begins otherwise.
 pub fn after_word<'a>(text: &'a [u8], word: &[u8]) -> Option<&'a [u8]>
     ensures cases { MatchOption result ((rest : List ℕ) → text.now ≢ word.now ++ rest) (λ rest.
         text.now ≡ word.now ++ rest.now) }

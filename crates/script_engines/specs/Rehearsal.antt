@@ -22,16 +22,19 @@ use Rattle.script_engines.specs.RehearsalForms.{IsStampLine, IsWindowLine}
 abbrev pub IsMaxLine : List ℕ → ℕ → Type 0
 IsMaxLine text octets = IsNumberLine text (codes "max ") octets
 
--- a text is such a line
+-- a text is a line `stamp`
 abbrev pub SaysStamp : List ℕ → Type 0
 SaysStamp text = (stamp : Stamp) × IsStampLine text stamp
 
+-- a text is a line `max`
 abbrev pub SaysMax : List ℕ → Type 0
 SaysMax text = (octets : ℕ) × IsMaxLine text octets
 
+-- a text is a line `window`
 abbrev pub SaysWindow : List ℕ → Type 0
 SaysWindow text = (window : List ℕ) × IsWindowLine text window
 
+-- a text is a line `receivers`
 abbrev pub SaysCount : List ℕ → Type 0
 SaysCount text = (count : ℕ) × IsCountLine text count
 
@@ -43,6 +46,7 @@ pub record Heading : Type 0 where
   pub window : List ℕ
   pub receivers : ℕ
 
+-- what the lines that were read say
 abbrev pub heading_of : {A : Type 0} → Head A → Heading
 heading_of head = record {
   format = head.format;
@@ -72,14 +76,16 @@ IsFaultyFrom form Later lines end fault =
     IsFaultyNext form lines end fault
     ⊎ ((behind : List (ℕ × List ℕ)) × ReadsOne form lines behind × Later behind end fault)
 
--- the first line at fault from the window on, from the greatest size on, from the stamp on
+-- the first line at fault from the window on
 abbrev pub IsFaultyFromWindow : List (ℕ × List ℕ) → ℕ → Fault → Type 0
 IsFaultyFromWindow lines end fault =
     IsFaultyFrom SaysWindow (IsFaultyNext SaysCount) lines end fault
 
+-- the first line at fault from the greatest size on
 abbrev pub IsFaultyFromMax : List (ℕ × List ℕ) → ℕ → Fault → Type 0
 IsFaultyFromMax lines end fault = IsFaultyFrom SaysMax IsFaultyFromWindow lines end fault
 
+-- the first line at fault from the stamp on
 abbrev pub IsFaultyFromStamp : List (ℕ × List ℕ) → ℕ → Fault → Type 0
 IsFaultyFromStamp lines end fault = IsFaultyFrom SaysStamp IsFaultyFromMax lines end fault
 
@@ -152,6 +158,7 @@ pub record Said : Type 0 where
   pub pictures : List Values
   pub events : List Event
 
+-- what a rehearsal that was read says
 abbrev pub said_by : {A : Type 0} → Rehearsal A → Said
 said_by r = record {
   heading = heading_of r.head;

@@ -114,9 +114,11 @@ handed_line h = line_text (HandedOut h.receiver h.timestamp (counts_of h.frame))
 abbrev pub receiver_lines : ℕ × State → List ℕ
 receiver_lines r = (line_text (Receiver r.0) ++ 10 ∷ []) ++ frame_lines r.1
 
+-- the lines of all frames that were handed out, in order
 abbrev pub handed_text : {A : Type 0} → List (Handed A) → List ℕ
 handed_text handed = flat_map handed_line handed
 
+-- the lines of all receivers, numbered from 0
 abbrev pub receivers_text : List State → List ℕ
 receivers_text receivers = flat_map receiver_lines (enumerate_from 0 receivers)
 

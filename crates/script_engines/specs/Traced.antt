@@ -32,10 +32,11 @@ abbrev pub answer_text : Option Line → List ℕ
 answer_text None = []
 answer_text (Some answer) = line_text answer ++ 10 ∷ []
 
--- a line for each run of numbers that did not come, where numbers are noted
+-- the line of a run of numbers that did not come
 abbrev pub absent_line : ℕ × ℕ → List ℕ
 absent_line run = line_text (Absent run.0 run.1) ++ 10 ∷ []
 
+-- such a line for each run, where numbers are noted
 abbrev pub absent_lines : Option Numbers → List ℕ
 absent_lines None = []
 absent_lines (Some numbers) = flat_map absent_line (missing_runs_of numbers)

@@ -62,7 +62,7 @@ fn decode_block(text: &[u8], octets: &mut [u8], at: usize) -> bool
     true
 }
 
-/// The values of 32 digits.
+/// The values of 32 digits; of an octet that is no digit 16 or more.
 #[inline(always)]
 fn digit_values(digits: u8x32) -> u8x32
     ensures { AreDigitValues 32 digits result }
@@ -74,7 +74,7 @@ fn digit_values(digits: u8x32) -> u8x32
     decimal.simd_lt(u8x32::splat(10)).select(decimal, letter)
 }
 
-/// Whether all of these are values of digits.
+/// Whether all of these are below 16, as values of digits are.
 #[inline(always)]
 fn are_values(values: u8x32) -> bool
     ensures is { IsTrue result → (k : ℕ) → k < 32 → slice_index values k < 16 }

@@ -33,14 +33,14 @@ pub(crate) struct OpenLine<'a> {
     ghost in_range: { payload_type ≤ 127 },
 }
 
-/// A line behind those two.
+/// A line of `trace` behind those two.
 #[derive(Clone, Copy)]
 pub(crate) enum TraceLine<'a> {
     /// `A HEX` or `B HEX`.
     Datagram(Path, &'a [u8]),
-    /// `slide TS`.
+    /// `slide TS`: the window moves on to this timestamp.
     Slide(u32),
-    /// `numbers FIRST COUNT`.
+    /// `numbers FIRST COUNT`: from now on the numbers of kept datagrams are noted.
     Numbers(u32, u32),
     /// `cell TS ROW COL COMP`.
     Cell(SamplePlace),
@@ -63,7 +63,8 @@ pub(crate) fn read_format_line(text: &[u8]) -> Option<FormatLine>
     read_format_fields(rest)
 }
 
-/// The six fields behind the word `format`.
+/// The six fields behind the word `format`. A depth that is none is at fault as an empty field is;
+/// other numbers that no format has are of the form, and `Format::new` refuses them.
 fn read_format_fields(text: &[u8]) -> Option<FormatLine>
     ensures is { IfSome result (λ line. AreFormat text.now line) }
     ensures none { IfNone result ((line : FormatLine) → AreFormat text.now line → ⊥) }
@@ -114,7 +115,7 @@ fn read_depth(text: &[u8]) -> Option<Depth>
     }
 }
 
-/// What a line `open` says; its window is text yet.
+/// What a line `open` says; its window is text yet, since reading that takes memory.
 pub(crate) fn read_open_line(text: &[u8]) -> Option<OpenLine<'_>>
     ensures is { IfSome result (λ line.
         IsOpenLine text.now line.payload_type line.ssrc line.window.now) }
@@ -141,7 +142,7 @@ fn read_opening(text: &[u8]) -> Option<OpenLine<'_>>
     })
 }
 
-/// A payload type: up to 127.
+/// A payload type: up to 127, as it has 7 bits (RFC 3550, 5.1).
 pub(crate) fn read_payload_type(text: &[u8]) -> Option<u8>
     ensures range { IfSome result (λ n. n ≤ 127) }
     ensures is { IfSome result (λ n. IsNumberOf text.now n) }

@@ -38,7 +38,7 @@ pub(crate) fn read_picture<A: Allocator + Copy>(
     Ok(Some(unpacked(alloc, format, octets.as_slice())?))
 }
 
-/// How many octets the pgroups of a picture take.
+/// How many octets the pgroups of a picture take: a text of digits has twice as many.
 fn packed_octets(format: Format) -> usize
     ensures agree { Agree format result (sample_count format) }
     ensures most { result ≤ 536870912 }

@@ -27,7 +27,7 @@ use run_outcome::{Fault, Form, after_word};
 use st_format::{Format, Picture};
 use std::alloc::Allocator;
 
-/// What the first lines of a rehearsal say.
+/// What the first five lines of a rehearsal say, and where.
 #[derive(Drop)]
 pub(crate) struct Head<A: Allocator> {
     pub format: Format,
@@ -37,13 +37,13 @@ pub(crate) struct Head<A: Allocator> {
     pub receivers: u8,
     /// The number of the line that says the greatest size of a packet.
     pub max_line: usize,
-    /// That of the line that says the window.
+    /// That of the line that says the window: it is told where a window is refused.
     pub window_line: usize,
     /// That of the line that says how many receivers there are.
     pub receivers_line: usize,
 }
 
-/// A rehearsal that was read.
+/// A rehearsal that was read, and the line of each thing by which a schedule may be refused.
 #[derive(Drop)]
 pub(crate) struct Rehearsal<A: Allocator> {
     pub head: Head<A>,
@@ -55,7 +55,7 @@ pub(crate) struct Rehearsal<A: Allocator> {
     pub event_lines: Vec<usize, A>,
 }
 
-/// How many pictures a schedule has at most.
+/// How many pictures a schedule has at most (own): the first one behind them is at fault.
 const MOST_PICTURES: usize = 10_000;
 
 impl<A: Allocator> Rehearsal<A> {
@@ -72,7 +72,7 @@ impl<A: Allocator> Rehearsal<A> {
     }
 }
 
-/// The number that stands at a place.
+/// The number that stands at a place: a schedule is refused only at one that there is.
 fn line_at(lines: &[usize], place: usize) -> usize {
     match lines.get(place) {
         Some(line) => *line,
@@ -104,7 +104,7 @@ pub(crate) fn read_rehearsal<A: Allocator + Copy>(
     Ok(rehearsal)
 }
 
-/// Reads the first five lines.
+/// Reads the first five lines, each of its form: whether a schedule can be played is tried later.
 fn read_head<A: Allocator + Copy>(alloc: A, lines: &mut Lines<'_>) -> Result<Head<A>, Fault>
     ensures failures { Accounts result [] }
     ensures range { IfOk result (λ head. head.stamp.payload_type ≤ 127) }
@@ -126,7 +126,7 @@ fn read_head<A: Allocator + Copy>(alloc: A, lines: &mut Lines<'_>) -> Result<Hea
     })
 }
 
-/// The stamp that the next line says.
+/// The stamp that the next line says; it is at fault where it isn't of the form.
 fn read_stamp(lines: &mut Lines<'_>) -> Result<Stamp, Fault>
     ensures failures { Accounts result [] }
     ensures range { IfOk result (λ stamp. stamp.payload_type ≤ 127) }
@@ -143,7 +143,7 @@ fn read_stamp(lines: &mut Lines<'_>) -> Result<Stamp, Fault>
     }
 }
 
-/// The greatest size of a packet, in octets, that the next line says.
+/// The greatest size of a packet, in octets, that the next line says: any number, tried by a plan.
 fn read_max(lines: &mut Lines<'_>) -> Result<u32, Fault>
     ensures failures { Accounts result [] }
     ensures says { IfOk result (λ octets. ReadsOne (λ text. IsMaxLine text octets)
@@ -159,7 +159,7 @@ fn read_max(lines: &mut Lines<'_>) -> Result<u32, Fault>
     }
 }
 
-/// The window that the next line says.
+/// The window that the next line says, tried by the schedule.
 fn read_window<A: Allocator + Copy>(alloc: A, lines: &mut Lines<'_>) -> Result<Vec<u32, A>, Fault>
     ensures failures { Accounts result [] }
     ensures says { IfOk result (λ window. ReadsOne (λ text. IsWindowLine text window.items)
@@ -175,7 +175,7 @@ fn read_window<A: Allocator + Copy>(alloc: A, lines: &mut Lines<'_>) -> Result<V
     }
 }
 
-/// How many receivers the next line says.
+/// How many receivers the next line says: up to 255, tried by the schedule.
 fn read_receiver_count(lines: &mut Lines<'_>) -> Result<u8, Fault>
     ensures failures { Accounts result [] }
     ensures says { IfOk result (λ count. ReadsOne (λ text. IsCountLine text count)
@@ -248,7 +248,7 @@ fn read_body_line<A: Allocator + Copy>(
     }
 }
 
-/// Adds the event of the line of a number.
+/// Adds the event of the line of a number, which is told where the event cannot happen.
 fn add_event<A: Allocator>(
     event: Event,
     number: usize,
@@ -269,7 +269,7 @@ fn add_event<A: Allocator>(
     }
 }
 
-/// Adds the picture of the digits of a line.
+/// Adds the picture of the digits of a line; the line is at fault where they aren't its pgroups.
 fn add_picture<A: Allocator + Copy>(
     alloc: A,
     number: usize,
@@ -291,7 +291,6 @@ fn add_picture<A: Allocator + Copy>(
     }
 }
 
-/// Adds the picture of the line of a number.
 fn keep_picture<A: Allocator>(
     picture: Picture<A>,
     number: usize,

@@ -13,15 +13,16 @@ use run_outcome::{Fault, Form, read_past};
 use st_format::{ByteSource, without_carriage_return};
 use std::alloc::Allocator;
 
-/// The greatest number of octets of a script (own).
+/// The greatest number of octets of a script (own): 16 MiB.
 pub(crate) const LIMIT: usize = 16_777_216;
 
-/// A script that was read.
+/// A script that was read whole, before its first line is followed: so no line takes memory for its
+/// text, and the limit is one test.
 #[derive(Drop)]
 pub(crate) struct Script<A: Allocator> {
     /// Its octets; of a script that passes the limit, the lines before the one in which it does.
     pub octets: Vec<u8, A>,
-    /// Whether it passes the limit.
+    /// Whether it passes the limit: then the line behind its last is at fault.
     pub is_cut: bool,
 }
 
@@ -42,7 +43,7 @@ where
     Ok(cut_at_limit(read_past(alloc, source, LIMIT)?))
 }
 
-/// The script of these octets.
+/// The script of these octets, which past the limit is cut at its last whole line.
 fn cut_at_limit<A: Allocator>(mut octets: Vec<u8, A>) -> Script<A>
     ensures limit { length result.octets.items ≤ LIMIT }
     ensures cut { IsCut octets.items result.octets.items result.is_cut }
@@ -61,7 +62,8 @@ fn cut_at_limit<A: Allocator>(mut octets: Vec<u8, A>) -> Script<A>
     }
 }
 
-/// How many octets the lines of a text have that end by LF.
+/// How many octets the lines of a text have that end by LF: of a script that is cut just these
+/// count.
 fn whole_lines(text: &[u8]) -> usize
     ensures { IsWholeLines text.now result }
 {
@@ -131,14 +133,14 @@ impl<'a> Lines<'a> {
         None
     }
 
-    /// The number of the line that was given last.
+    /// The number of the line that was given last, 0 before the first.
     pub fn last(&self) -> usize
         ensures { result ≡ self.now.passed }
     {
         self.passed
     }
 
-    /// The number of the line behind those that were given.
+    /// The number of the line behind those that were given: where one is missing, it is at fault.
     pub fn following(&self) -> usize
         ensures { result ≡ self.now.passed + 1 }
     {

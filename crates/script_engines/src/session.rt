@@ -29,7 +29,7 @@ pub(crate) struct Session<A: Allocator> {
     pub receiver: Receiver<A>,
     /// The frame that a slide exchanges for the one that leaves: made at the first slide.
     spare: Option<Frame<A>>,
-    /// The numbers of the datagrams that were kept since the line `numbers`.
+    /// The numbers of the datagrams that were kept since the line `numbers`; none before one.
     pub numbers: Option<SeqMap<A>>,
     ghost fits: { IfSome spare (λ r. r.format ≡ receiver.opening.format) } by { Prim.hlevel props },
 }
@@ -101,7 +101,7 @@ impl<A: Allocator> Session<A> {
         Ok(())
     }
 
-    /// What is known of a sample.
+    /// What is known of a sample; `Nowhere` where the window or the format hasn't its place.
     pub fn cell(&self, place: SamplePlace) -> Line
         ensures there { IsSamplePlace self.now.receiver place.timestamp (position_of place)
             → result ≡ cell_answer
@@ -157,7 +157,7 @@ impl<A: Allocator + Copy> Session<A> {
         })
     }
 
-    /// The frame that the slide before brought out, or, where there was none, a new one.
+    /// The frame that the slide before brought out, so that only the first one takes memory.
     fn spare_frame(&mut self, alloc: A) -> Result<Frame<A>, AllocError>
         ensures format { IfOk result
             (λ frame. frame.format ≡ self.old.receiver.opening.format) }
@@ -173,7 +173,7 @@ impl<A: Allocator + Copy> Session<A> {
     }
 }
 
-/// Notes a number, where numbers are noted.
+/// Notes the number of a datagram that was kept, once a line `numbers` was followed.
 fn note<A: Allocator>(numbers: &mut Option<SeqMap<A>>, number: u32)
     ensures { numbers.new ≡ with_number number numbers.old }
 {

@@ -239,7 +239,7 @@ fn answer_to<A: Allocator + Copy>(
     })
 }
 
-/// Prints the runs of numbers that did not come, where numbers are noted.
+/// Prints the runs of numbers that did not come; nothing without a line `numbers`.
 fn print_absent<A: Allocator + Copy, O: ByteSink>(
     alloc: A,
     numbers: &Option<SeqMap<A>>,

@@ -27,7 +27,7 @@ pub(crate) fn body_form(text: &[u8], has_events: bool) -> Form {
     }
 }
 
-/// The text before the first space.
+/// What stands before the first space: by it a line tells which form it was to have.
 fn first_word(text: &[u8]) -> &[u8] {
     match split_once(text, b' ') {
         Some((word, _)) => word,

@@ -21,10 +21,11 @@ IsFormatOf (Err fault) read = read ≡ Err (Refused fault)
 abbrev pub IsNoFormat : List ℕ → Type 0
 IsNoFormat text = (r : Result Format FormatFault) → IsFormatOf r (read_format text) → ⊥
 
--- a text says an address and a port, and no source; a text says none
+-- a text says an address and a port, and no source
 abbrev pub SaysLeg : List ℕ → Flow → Type 0
 SaysLeg text f = IsFlowText text f × IsSome f.address × (f.source ≡ None)
 
+-- a text says none such
 abbrev pub IsNoLeg : List ℕ → Type 0
 IsNoLeg text = (f : Flow) → SaysLeg text f → ⊥
 
@@ -35,15 +36,17 @@ SaysSecond None (Some f) = ⊥
 SaysSecond (Some text) None = ⊥
 SaysSecond (Some text) (Some f) = SaysLeg text.now f
 
+-- a leg is said, and by a text that says none such
 abbrev pub IsNoSecond : Option (Bor (List ℕ)) → Type 0
 IsNoSecond None = ⊥
 IsNoSecond (Some text) = IsNoLeg text.now
 
--- words say a stream; a word of them isn't of its form
+-- words say a stream
 abbrev pub SaysStream : WriteWords → AnnouncedStream → Type 0
 SaysStream w s =
     IsFormatOf s.format (read_format w.format.now) × SaysLeg w.a.now s.a × SaysSecond w.b s.b
     × (s.payload_type ≡ w.payload_type)
 
+-- a word of them isn't of its form
 abbrev pub IsNoStream : WriteWords → Type 0
 IsNoStream w = IsNoFormat w.format.now ⊎ (IsNoLeg w.a.now ⊎ IsNoSecond w.b)

@@ -29,15 +29,17 @@ connection_line (V4 a) =
     ++ lifetime_text (slice_index (ipv4_octets a) 0)
 connection_line (V6 a) = codes "c=IN IP6 " ++ ipv6_text (ipv6_segments a)
 
+-- the line of a leg's address, where it has one
 abbrev pub connection_lines : Option IpAddr → List (List ℕ)
 connection_lines None = []
 connection_lines (Some a) = connection_line a ∷ []
 
--- the first line of a section (RFC 8866, 5.14), and the line of its payload type (6.6)
+-- the first line of a section (RFC 8866, 5.14)
 abbrev pub media_line : ℕ → ℕ → List ℕ
 media_line payload_type port =
     codes "m=video " ++ decimal port ++ codes " RTP/AVP " ++ decimal payload_type
 
+-- the line of the payload type of a section (RFC 8866, 6.6)
 abbrev pub map_line : ℕ → List ℕ
 map_line payload_type = codes "a=rtpmap:" ++ decimal payload_type ++ codes " raw/90000"
 
@@ -63,11 +65,12 @@ sdp_lines payload_type parameters a (Some b) =
     session_lines ++ codes "a=group:DUP A B" ∷ (leg_lines payload_type parameters a (codes "A")
     ++ leg_lines payload_type parameters b (codes "B"))
 
--- the legs as a list, and their ports
+-- the legs as a list
 abbrev pub legs : Flow → Option Flow → List Flow
 legs a None = a ∷ []
 legs a (Some b) = a ∷ b ∷ []
 
+-- the ports of the legs
 abbrev pub ports : Flow → Option Flow → List ℕ
 ports a None = a.port ∷ []
 ports a (Some b) = a.port ∷ b.port ∷ []
@@ -80,6 +83,7 @@ told leg = record leg { source = None }
 abbrev pub IsTold : Flow → Type 0
 IsTold leg = IsFlow (told leg)
 
+-- the legs as their sections tell them
 abbrev pub told_legs : Flow → Option Flow → List Flow
 told_legs a b = map told (legs a b)
 

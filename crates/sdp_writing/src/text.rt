@@ -10,7 +10,7 @@ use flow::Flow;
 use std::alloc::{AllocError, Allocator};
 use std::net::{IpAddr, Ipv4Addr, Ipv6Addr};
 
-/// Puts a line and its end behind a text.
+/// Puts a line and its end, CR and LF (RFC 8866, 5), behind a text.
 pub(crate) fn add_line<A: Allocator>(text: &mut Vec<u8, A>, line: &[u8]) -> Result<(), AllocError>
     ensures { OnOk result (text.new.items ≡ text.old.items ++ ended line.now) }
 {
@@ -19,7 +19,7 @@ pub(crate) fn add_line<A: Allocator>(text: &mut Vec<u8, A>, line: &[u8]) -> Resu
     Ok(())
 }
 
-/// The time to live of an address that begins with this octet.
+/// `/64` where an address of IPv4 begins as a multicast one does (RFC 8866, 5.7), else nothing.
 fn lifetime(first: u8) -> &'static str
     ensures { result.now ≡ lifetime_text first }
 {
@@ -61,7 +61,8 @@ fn add_ipv4<A: Allocator + Copy>(
     add_line(text, line.as_bytes())
 }
 
-/// Puts the line of an address behind a text, where there is one.
+/// Puts the line of an address behind a text, where there is one, as `Display` spells it: so a text
+/// is a function of values, and not of words.
 fn add_connection<A: Allocator + Copy>(
     alloc: A,
     text: &mut Vec<u8, A>,

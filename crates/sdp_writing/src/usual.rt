@@ -9,7 +9,7 @@ use flow::Flow;
 use sdp_format::{Range, Sdp};
 use st_format::Format;
 
-/// The ports of the legs.
+/// The ports of the legs: one, or two.
 fn ports_of(a: Flow, b: Option<Flow>) -> ArrayVec<u16, 2>
     ensures { result.items ≡ ports a b }
 {

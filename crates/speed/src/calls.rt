@@ -138,7 +138,7 @@ impl Room {
     }
 }
 
-/// A call on a whole frame.
+/// A call on a whole frame, and what it makes, so that its letting go isn't timed.
 fn look(alloc: Global, call: Call, frame: &Frame) -> Result<Made, Fault> {
     match call {
         Call::Settle => {
@@ -151,7 +151,7 @@ fn look(alloc: Global, call: Call, frame: &Frame) -> Result<Made, Fault> {
     }
 }
 
-/// A receiver of one timestamp.
+/// A receiver of payload type 96, source 1 and timestamp 900.
 pub fn open(alloc: Global, format: Format) -> Result<Receiver, Fault> {
     Receiver::open(alloc, format, 96, Some(1), &[900])
         .ok()

@@ -30,7 +30,7 @@ const SHAPE: WipeShape = WipeShape {
 pub enum Way {
     /// A copy of its inputs' samples.
     Copy,
-    /// The call.
+    /// The job's call.
     Call,
     /// The formula in a plain loop.
     Plain,

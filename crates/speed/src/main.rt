@@ -106,7 +106,7 @@ fn measure(rt: &HostRuntime, case: Case, rounds: u32, prints: bool) -> Result<()
     measure_calls(rt, &first, &mut room, case, rounds, prints)
 }
 
-/// Measures the calls of a case on its stream and in its room.
+/// Measures each call of a case, against a copy of as many octets.
 fn measure_calls(
     rt: &HostRuntime,
     first: &Stream,
@@ -129,7 +129,7 @@ fn measure_calls(
     Ok(())
 }
 
-/// Prints a case, and the line of the copy of its octets.
+/// Prints what a case is, and how long a copy of as many octets takes.
 fn print_case(rt: &HostRuntime, case: Case, copied: u64, octets: usize) -> Result<(), Fault> {
     let (depth, width, height, size, _) = case;
     let bits = depth.bits();

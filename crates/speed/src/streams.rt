@@ -61,7 +61,7 @@ impl Stream {
         })
     }
 
-    /// All octets of the datagrams.
+    /// The octets of all datagrams in one list, for what is compared with a copy of them.
     pub fn octets(&self, alloc: Global) -> Result<Vec<u8>, Fault> {
         let mut octets = Vec::new(alloc);
         for datagram in self.datagrams.taken() {
@@ -104,7 +104,7 @@ fn set(picture: &mut Picture, place: (u32, u32, u8), value: u16, change: Change)
     }
 }
 
-/// Sends a picture by a plan into a sink.
+/// Sends each packet of a picture, by a plan of at most 9000 octets a packet.
 pub fn send_all<K: DatagramSink>(
     plan: &Plan,
     picture: &Picture,

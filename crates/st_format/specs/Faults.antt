@@ -7,20 +7,24 @@ use Rattle.st_format.specs.declared.format.FormatFault.TheVariants.{BadWidth, Ba
 use Rattle.st_format.specs.declared.picture.PictureFault.{PictureFault}
 use Rattle.st_format.specs.declared.picture.PictureFault.TheVariants.{NoMemory, ValueTooLarge}
 
+-- in the order in which they are tested
 abbrev pub format_fault_number : FormatFault → ℕ
 format_fault_number BadWidth = 1
 format_fault_number BadHeight = 2
 format_fault_number BadRate = 3
 
+-- of formats that there aren't
 abbrev pub format_fault_name : FormatFault → List ℕ
 format_fault_name BadWidth = codes "BadWidth"
 format_fault_name BadHeight = codes "BadHeight"
 format_fault_name BadRate = codes "BadRate"
 
+-- the numbers that refusals of a picture have
 abbrev pub picture_fault_number : PictureFault → ℕ
 picture_fault_number NoMemory = 4
 picture_fault_number ValueTooLarge = 5
 
+-- of refusals of a picture
 abbrev pub picture_fault_name : PictureFault → List ℕ
 picture_fault_name NoMemory = codes "NoMemory"
 picture_fault_name ValueTooLarge = codes "ValueTooLarge"
@@ -34,5 +38,6 @@ source_fault_name (Content number) = codes "Content"
 abbrev pub device_fault_name : List ℕ
 device_fault_name = codes "DeviceFault"
 
+-- of a sink of datagrams, which has but one
 abbrev pub sink_fault_name : List ℕ
 sink_fault_name = codes "SinkFault"

@@ -58,7 +58,7 @@ impl SinkFault {
     }
 }
 
-/// A source of datagrams failed.
+/// What failed at a call of a source of datagrams: its device, or what that carries.
 #[derive(Clone, Copy, Debug, PartialEq, Eq, Error)]
 pub enum SourceFault {
     /// The device failed. Why is its own matter.
@@ -109,7 +109,7 @@ pub trait ByteSource {
     /// empty buffer or one that failed, it is not said.
     ghost ended: { Self → Type 0 };
 
-    /// How often it has failed.
+    /// How many of its calls failed so far.
     ghost failures: { Self → ℕ };
 
     /// The octets to come that it holds already, first one first. None where it doesn't say so.
@@ -128,7 +128,8 @@ pub trait ByteSource {
     /// An `Err` is one failure more. It gives nothing: the octets still to give stay, and a later
     /// call may give them. What `buf` then holds is not said.
     ///
-    /// What a source tells of its octets is numbers below 256, as a call shows.
+    /// What a source tells of its octets is numbers below 256. Just a call shows it: a law of the
+    /// trait ranges over all views, also of values that there aren't.
     fn read(&mut self, buf: &mut [u8]) -> Result<usize, DeviceFault>
         ensures room { length buf.new ≡ length buf.old }
         ensures within { IfOk result (λ n. n ≤ length buf.new) }
@@ -158,7 +159,7 @@ pub trait ByteSource {
     /// no octet, and never fails.
     ///
     /// A source that lends octets passes as many of them. One that doesn't say what it holds passes
-    /// none, and stays as it is.
+    /// none, and stays as it is. So does this body, which is proved for every source.
     fn pass(&mut self, _count: usize) -> bool
         ensures within { IsTrue result → _count ≤ length (at_hand self.old) }
         ensures given { IsTrue result
@@ -188,7 +189,7 @@ pub trait ByteSink {
     /// All octets that its calls took so far, first one first.
     ghost took: { Self → List ℕ };
 
-    /// How often it has failed.
+    /// How many of its calls failed so far.
     ghost failures: { Self → ℕ };
 
     /// The references by which it reaches what it writes to, which stay. None where it owns that.
@@ -223,7 +224,7 @@ pub trait DatagramSink {
     /// All datagrams that its calls took so far, in order.
     ghost took: { Self → List (List ℕ) };
 
-    /// How often it has failed.
+    /// How many of its calls failed so far.
     ghost failures: { Self → ℕ };
 
     /// What becomes of the sink by a call that takes a datagram. Where a sink of octets lies below
@@ -267,13 +268,13 @@ pub trait DatagramSource {
     /// said.
     ghost ended: { Self → Type 0 };
 
-    /// How many datagrams it has delivered.
+    /// How many datagrams its calls gave so far.
     ghost delivered: { Self → ℕ };
 
-    /// How often it has failed.
+    /// How many of its calls failed so far.
     ghost failures: { Self → ℕ };
 
-    /// Its last fault, if it has failed.
+    /// The fault of its last call that failed; none before one.
     ghost last_fault: { Self → Option Fault };
 
     /// What the source of octets below it told when this source began to read it, which stays.

@@ -22,7 +22,7 @@ pub enum FormatTextFault {
     /// It isn't of the form `N` or `N/D`.
     #[error("a rate is N or N/D, as 60 or 60000/1001")]
     NotRate,
-    /// It is of the form, and there is no such format or rate.
+    /// It is of the form; a field says what no format or rate has.
     #[error("{0}")]
     Refused(FormatFault),
 }
@@ -84,7 +84,7 @@ impl fmt::Display for Format {
     }
 }
 
-/// The format that five words say.
+/// The format of five words parted by single spaces: the rate is all behind the fourth.
 #[tactic(auto, unfolding(crate::specs::Forms::read_format))]
 fn read_format(text: &[u8]) -> Result<Format, FormatTextFault>
     ensures { made_fields result ≡ read_format text.now }

@@ -4,7 +4,7 @@ ghost use Rattle.std.specs.Option.{SomeIff};
 ghost use Rattle.std.specs.Str.Parse.{digits_value};
 ghost use Rattle.st_format.specs.Words.{IsNumber, number};
 
-/// The value of the digits, one after another.
+/// The value of the digits, the first one the highest.
 fn value_of(text: &[u8]) -> Option<u32>
     ensures { SomeIff result (IsNumber text.now) (digits_value 10 text.now) }
 {

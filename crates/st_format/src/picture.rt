@@ -12,10 +12,10 @@ use std::alloc::{AllocError, Allocator, Global};
 use std::marker::Model;
 use thiserror::Error;
 
-/// Why there is no picture.
+/// Why a picture was not made.
 #[derive(Clone, Copy, Debug, PartialEq, Eq, Error)]
 pub enum PictureFault {
-    /// The memory was refused.
+    /// The allocator refused the memory for the samples. Tested last.
     #[error("the memory was refused")]
     NoMemory = 4,
     /// A value has more bits than a sample of the format.
@@ -98,7 +98,7 @@ impl<A: Allocator> Picture<A> {
         Picture { format, samples }
     }
 
-    /// The format that its samples are of.
+    /// The format that its samples are of, one for each of its positions.
     pub fn format(&self) -> Format
         ensures value { result ≡ self.now.format }
         ensures whole { IsPicture self.now }
@@ -106,7 +106,7 @@ impl<A: Allocator> Picture<A> {
         self.format
     }
 
-    /// The value at a row, a column and a component.
+    /// The value at a row, a column and a component (0 to 2: Y, Cb, Cr or R, G, B).
     pub fn get(&self, row: u32, column: u32, component: u8) -> u16
         requires { IsPosition (record { row = row; column = column; component = component })
             self.now.format }
@@ -117,7 +117,8 @@ impl<A: Allocator> Picture<A> {
         self.samples[self.format.sample_number(row, column, component)]
     }
 
-    /// Sets the value at a row, a column and a component.
+    /// Sets the value at a row, a column and a component (0 to 2: Y, Cb, Cr or R, G, B), and no
+    /// other.
     pub fn set(&mut self, row: u32, column: u32, component: u8, value: u16)
         requires place { IsPosition (record { row = row; column = column; component = component })
             self.old.format }
@@ -159,7 +160,7 @@ impl<A: Allocator> Picture<A> {
         })
     }
 
-    /// Whether two pictures have one format and the same values.
+    /// Whether two pictures have one format and the same values, whatever their allocators.
     pub fn same<B: Allocator>(&self, other: &Picture<B>) -> bool
         ensures { IsTrue result ↔ (self.now ≡ other.now) }
     {
@@ -167,14 +168,13 @@ impl<A: Allocator> Picture<A> {
     }
 }
 
-/// Whether two lists of samples are equal.
 fn same_samples(left: &[u16], right: &[u16]) -> bool
     ensures { IsTrue result ↔ (left.now ≡ right.now) }
 {
     left == right
 }
 
-/// The values of a picture of one colour.
+/// The values of a picture of one colour, in raster order; an `Err` where the memory was refused.
 fn filled_samples<A: Allocator>(
     alloc: A,
     format: Format,

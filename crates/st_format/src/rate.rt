@@ -42,7 +42,6 @@ impl Rate {
     }
 }
 
-/// The greatest number that divides both.
 fn common_divisor_of(n: u32, d: u32) -> u32
     requires { 0 < d }
     ensures value { result ≡ common_divisor n d }
@@ -52,7 +51,7 @@ fn common_divisor_of(n: u32, d: u32) -> u32
     euclid(n, d)
 }
 
-/// Euclid's algorithm.
+/// The greatest number that divides both, by Euclid's algorithm.
 fn euclid(n: u32, d: u32) -> u32
     ensures { IsGcd n d result }
 {

@@ -16,13 +16,13 @@ pub enum Sampling {
 /// How many bits a sample has (SMPTE ST 2110-20, depth).
 #[derive(Clone, Copy, Debug, PartialEq, Eq)]
 pub enum Depth {
-    /// 8 bits.
+    /// 8 bits: a sample is an octet.
     D8,
-    /// 10 bits.
+    /// 10 bits: four samples are five octets.
     D10,
-    /// 12 bits.
+    /// 12 bits: two samples are three octets.
     D12,
-    /// 16 bits.
+    /// 16 bits, whole numbers (SMPTE ST 2110-20, depth `16`, not `16f`).
     D16,
 }
 
@@ -30,16 +30,16 @@ pub enum Depth {
 /// (RFC 4175, 4.3; SMPTE ST 2110-20, pixel groups).
 #[derive(Clone, Copy, Debug, PartialEq, Eq)]
 pub struct Pgroup {
-    /// How many octets it takes.
+    /// How many octets it takes: at most 15.
     pub octets: usize,
-    /// How many columns it covers.
+    /// How many columns it covers: at most 4.
     pub pixels: u32,
-    /// How many samples it has.
+    /// How many samples it has, of all components: at most 12.
     pub samples: usize,
 }
 
 impl Depth {
-    /// How many bits a sample has.
+    /// How many bits a sample has: 8, 10, 12 or 16.
     pub fn bits(self) -> u32
         ensures { result ≡ bits_of self }
     {
@@ -69,7 +69,7 @@ impl Sampling {
         }
     }
 
-    /// The sampling whose word a text is. Any other text is none.
+    /// The sampling of a word, which is just that: case matters, and other samplings are none.
     #[tactic(auto, unfolding(crate::specs::Words::sampling_named))]
     pub fn of_word(text: &[u8]) -> Option<Sampling>
         ensures is { IfSome result (λ s. text.now ≡ sampling_text s) }
@@ -128,7 +128,7 @@ impl Sampling {
         }
     }
 
-    /// How many samples stand in these columns.
+    /// How many samples stand in the columns that repeat.
     pub(crate) fn run_samples(self) -> usize
         ensures value { result ≡ run_samples self }
         ensures limit { (0 < result) × (result ≤ 4) }
@@ -139,7 +139,8 @@ impl Sampling {
         }
     }
 
-    /// How many samples of these columns stand before that of a component of one of them.
+    /// How many samples of the columns that repeat are sent before that of a component of one of
+    /// them.
     #[tactic(auto, unfolding(crate::specs::Position::number_in_run))]
     pub(crate) fn number_in_run(self, column: u32, component: u8) -> usize
         requires { column < 2 }
@@ -171,7 +172,8 @@ impl Sampling {
         }
     }
 
-    /// Whether a pixel of this column has a sample of this component.
+    /// Whether a pixel of this column has a sample of this component: of 4:2:2 only even columns
+    /// have Cb and Cr.
     pub(crate) fn has_component(self, column: u32, component: u8) -> bool
         ensures { IsTrue result ↔ HasComponent self column component }
     {

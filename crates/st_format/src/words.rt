@@ -18,13 +18,13 @@ use thiserror::Error;
 /// Why a text is no word for a sampling, a depth or a path, or a number no depth.
 #[derive(Clone, Copy, Debug, PartialEq, Eq, Error)]
 pub enum WordFault {
-    /// No sampling has this word.
+    /// No sampling that there is here has this word.
     #[error("a sampling is YCbCr-4:2:2, YCbCr-4:4:4 or RGB")]
     UnknownSampling = 1,
     /// No depth has this word, or this number of bits.
     #[error("a depth is 8, 10, 12 or 16")]
     UnknownDepth,
-    /// No path has this word.
+    /// The text is neither `A` nor `B`.
     #[error("a path is A or B")]
     UnknownPath,
 }
@@ -39,7 +39,7 @@ impl WordFault {
         self as u8
     }
 
-    /// Its name, as in the source.
+    /// Its bare name, as the texts of the program have it.
     pub fn name(self) -> &'static str
         ensures { result.now ≡ word_fault_name self }
     {
@@ -144,7 +144,7 @@ impl TryFrom<u32> for Depth {
     }
 }
 
-/// `A` or `B`.
+/// The name that texts have for a path: `A` or `B`.
 impl fmt::Display for Path {
     ghost output = { λ p. Some (path_text p) };
 

@@ -6,7 +6,7 @@ use std::alloc::{AllocError, Global};
 /// Payload type 96, timestamp 900, source 1, extended number 1 (RFC 3550, 5.1).
 const HEAD: [u8; 14] = [0x80, 0xE0, 0, 1, 0, 0, 3, 0x84, 0, 0, 0, 1, 0, 0];
 
-/// Begins a datagram.
+/// Empties a datagram, and puts the head there that all of them have.
 pub fn begin(datagram: &mut Vec<u8>) -> Result<(), AllocError> {
     datagram.clear();
     datagram.extend_from_slice(&HEAD)

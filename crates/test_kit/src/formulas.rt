@@ -83,7 +83,7 @@ pub fn gained(value: u16, zero: u16, g: u32, bounds: (u16, u16)) -> u16 {
     clipped(floor(far, 4096).wrapping_add(zero), bounds.0, bounds.1)
 }
 
-/// `k / p` of the way from `a` to `b`.
+/// `k / p` of the way from `a` to `b`, rounded, over numbers of 128 bits.
 pub fn keyed(a: u16, b: u16, k: u16, p: u16) -> u16 {
     let (k, p) = (i128::from(k), i128::from(p));
     let from_a = i128::from(a).wrapping_mul(p.wrapping_sub(k));
@@ -91,7 +91,7 @@ pub fn keyed(a: u16, b: u16, k: u16, p: u16) -> u16 {
     clipped(nearest(from_a.wrapping_add(from_b), p), 0, u16::MAX)
 }
 
-/// `w / 256` of the way from `a` to `b`.
+/// `w / 256` of the way from `a` to `b`, rounded, over numbers of 128 bits.
 pub fn mixed(a: u16, b: u16, w: u16) -> u16 {
     keyed(a, b, w, 256)
 }

@@ -16,7 +16,7 @@ pub const ANOTHER: &[u8] =
 pub const LOWER: &[u8] =
     b"\x80\xE0\0\x02\0\0\x03\x84\0\0\0\x01\0\0\0\x08\0\x01\0\0\x80\x14\x80\x15\x80\x16\x80\x17";
 
-/// Each sampling with each depth.
+/// The twelve kinds of samples: each sampling at each depth.
 pub const KINDS: [(Sampling, Depth); 12] = [
     (Sampling::Ycc422, Depth::D8),
     (Sampling::Ycc422, Depth::D10),
@@ -37,7 +37,7 @@ pub fn small() -> Result<Format, FormatFault> {
     Format::new(Sampling::Ycc422, Depth::D8, 4, 2, 60, 1)
 }
 
-/// Counts of these numbers.
+/// Counts of these numbers, as a constant may have them.
 pub const fn counted(present: u64, missing: u64, contested: u64) -> Counts {
     Counts {
         present,

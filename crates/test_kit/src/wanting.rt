@@ -32,7 +32,7 @@ pub fn growths<C: Wanting>(global: Global, call: &C) -> Result<Option<u64>, Fail
     Ok(None)
 }
 
-/// Whether it is so, and the call takes so many growths at least.
+/// Whether it is so, and the call takes `least` growths or more, so that none went untried.
 pub fn grows<C: Wanting>(global: Global, call: &C, least: u64) -> Result<bool, Fail> {
     Ok(match growths(global, call)? {
         Some(taken) => least <= taken,

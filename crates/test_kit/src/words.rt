@@ -2,7 +2,7 @@
 use std::alloc::Global;
 use std::fmt::Display;
 
-/// Whether a fault displays in these words.
+/// Whether `Display` tells a fault in just these words.
 pub fn says<F: Display>(alloc: Global, fault: &F, words: &str) -> bool {
     match format!(in alloc; "{fault}") {
         Ok(text) => text.as_str() == words,

@@ -8,7 +8,7 @@ pub struct Generator {
 }
 
 impl Generator {
-    /// Begins at a seed.
+    /// Begins at a seed, by which all that is drawn is fixed.
     pub fn new(seed: u64) -> Generator {
         Generator { state: seed }
     }
@@ -24,12 +24,12 @@ impl Generator {
         ((self.state >> 33) % u64::from(limit.max(1))) as u32
     }
 
-    /// The same of a size.
+    /// The same for an index: a size below a limit.
     pub fn size(&mut self, limit: usize) -> usize {
         self.below(u32::try_from(limit).unwrap_or(u32::MAX)) as usize
     }
 
-    /// Whether one of so many draws is the first.
+    /// True once in so many draws, on the average.
     pub fn one_in(&mut self, draws: u32) -> bool {
         self.below(draws) == 0
     }
@@ -43,7 +43,7 @@ impl Generator {
         }
     }
 
-    /// One of these numbers; 0 where there is none.
+    /// One of these numbers, each as likely; 0 where there is none.
     pub fn pick(&mut self, numbers: &[u32]) -> u32 {
         let place = self.size(numbers.len());
         numbers.get(place).copied().unwrap_or(0)

@@ -56,7 +56,7 @@ pub const OF_TEXTS: [&str; 18] = [
     "17 LegsDiffer",
 ];
 
-/// How a script ends.
+/// How a script ends: at its end, by a fault, or not run at all.
 pub const OF_SCRIPTS: [&str; 15] = [
     "followed to the end",
     "script",

@@ -11,7 +11,7 @@ pub const MISSING: u32 = 0x10000;
 /// A cell to which two values came.
 pub const CONTESTED: u32 = 0x10001;
 
-/// The cells of a timestamp.
+/// What came for a timestamp: a value, `MISSING` or `CONTESTED` for each sample.
 #[derive(Drop)]
 pub struct Cells {
     timestamp: u32,
@@ -28,7 +28,7 @@ impl Cells {
         self.timestamp
     }
 
-    /// Offers a value to the cell of a number.
+    /// Offers a value to a sample: a second one that differs contests it for good.
     pub fn offer(&mut self, number: usize, value: u16) {
         if let Some(cell) = self.cells.get_mut(number) {
             if *cell == MISSING {
@@ -94,7 +94,7 @@ impl Cells {
     }
 }
 
-/// How many cells are one.
+/// How many cells hold this word.
 fn count_of(cells: &[u32], one: u32) -> usize {
     let mut count = 0usize;
     for cell in cells {

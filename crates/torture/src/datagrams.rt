@@ -80,7 +80,7 @@ impl Round {
     }
 }
 
-/// The refusal at a place, and its path.
+/// The number of the refusal that is kept at a place, and its path; none where none is.
 fn refusal(receiver: &Receiver, place: usize) -> Option<(Path, u8)> {
     if place < receiver.refusal_count() {
         let (path, refusal) = receiver.refusal_at(place);
@@ -90,7 +90,7 @@ fn refusal(receiver: &Receiver, place: usize) -> Option<(Path, u8)> {
     }
 }
 
-/// An answer by its number.
+/// The answer as the second reading has it, which knows refusals by their numbers.
 fn answer(taken: Result<Taken, Refusal>) -> Wanted {
     match taken {
         Ok(Taken::Kept(number)) => Wanted::Kept(number),
@@ -99,7 +99,7 @@ fn answer(taken: Result<Taken, Refusal>) -> Wanted {
     }
 }
 
-/// The place of an answer in the totals.
+/// The place of an answer in the totals: refusals stand at their numbers, 1 to 14.
 fn place_of(answer: Wanted) -> usize {
     match answer {
         Wanted::Kept(_) => 0,

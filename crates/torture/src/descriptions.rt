@@ -32,7 +32,7 @@ const PARTS: [(&[u8], &[u8]); 12] = [
 const LINE: &[u8] =
     b"a=fmtp:112 sampling=RGB; width=8; height=2; exactframerate=60; depth=16; colorimetry=";
 
-/// And behind that.
+/// What the line has behind its colorimetry.
 const REST: &[u8] = b"; PM=2110GPM; SSN=ST2110-20:2017";
 
 /// Colorimetries, in which the legs of a text may differ.
@@ -106,7 +106,7 @@ fn read(alloc: Global, text: &[u8]) -> Result<(u8, Vec<u8>), Fault> {
     }
 }
 
-/// The canonical line.
+/// The canonical line of what was read; a fault of this program where memory is wanted.
 fn line_of(alloc: Global, sdp: &Sdp) -> Result<Vec<u8>, Fault> {
     fmtp_text(alloc, sdp).ok().ok_or(Fault)
 }

@@ -48,7 +48,7 @@ impl<'a> Octets<'a> {
         front
     }
 
-    /// A number of up to four octets.
+    /// A number of up to four octets, the highest one first.
     fn number(&mut self, octets: usize) -> u32 {
         let mut number = 0u32;
         for octet in self.next(octets) {
@@ -78,7 +78,7 @@ impl<'a> Octets<'a> {
     }
 }
 
-/// The groups of a raster.
+/// How many groups a raster has, and what each of them has.
 #[derive(Clone, Copy)]
 struct Groups {
     count: usize,
@@ -126,12 +126,12 @@ pub fn is_width(width: u32, pixels: u32) -> bool {
     (2 <= width) & (width <= 8192) & (width % 2 == 0) & (width % pixels.max(1) == 0)
 }
 
-/// Whether a height is one (own).
+/// Whether there are so many rows: 1 to 8192 (own).
 pub fn is_height(height: u32) -> bool {
     1 <= height && height <= 8192
 }
 
-/// The groups of a format block.
+/// The format block of fourteen octets: refused where a field is none; else its groups.
 fn block(octets: &mut Octets<'_>) -> Groups {
     let mut block = Octets::new(octets.next(14));
     let (sampling, depth) = (block.number(1), block.number(1));
@@ -187,7 +187,7 @@ pub fn capture(octets: &[u8]) -> Result<Content<'_>, u8> {
     Ok(Content { text, entries })
 }
 
-/// A record.
+/// A record: a head of eleven octets, and those that it counts.
 fn next_entry<'a>(octets: &mut Octets<'a>) -> Entry<'a> {
     let mut head = Octets::new(octets.next(11));
     let path = head.number(1);
@@ -272,7 +272,7 @@ fn is_mixed(mask: u32, octets: &[u8], groups: Groups) -> bool {
     is_mixed
 }
 
-/// Whether so many bits from one on are 0.
+/// Whether each of so many bits from one on is 0, as those of contested samples are.
 fn are_clear(octets: &[u8], first: usize, bits: usize) -> bool {
     let mut are_clear = true;
     for bit in 0..bits {

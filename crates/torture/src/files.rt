@@ -14,17 +14,17 @@ use test_programs::{Fault, Generator};
 /// How often each answer came: faults 3 to 9 by their numbers, and 0 where there was none.
 pub type Totals = [u64; 10];
 
-/// A source of octets, in pieces.
+/// A source of octets, which gives seven a call.
 fn source(alloc: Global, octets: &[u8]) -> Result<MemorySource, Fault> {
     Ok(MemorySource::new(Vec::from_slice(alloc, octets)?, 7, 0))
 }
 
-/// Room for as many octets.
+/// A sink with room for as many octets, of which it takes 64 a call.
 fn sink(alloc: Global, octets: &[u8]) -> Result<MemorySink, Fault> {
     Ok(MemorySink::new(Vec::with_capacity(alloc, octets.len())?, 64, 0))
 }
 
-/// Whether a record is the one that is read.
+/// Whether a record is the one that the second reading found.
 fn is_entry(record: &Record, entry: &Entry<'_>) -> bool {
     let path = match record.path {
         Path::A => 0,

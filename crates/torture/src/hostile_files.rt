@@ -6,7 +6,7 @@ use crate::hostile::spoil;
 use crate::text::Text;
 use test_programs::Generator;
 
-/// Depths, in bits.
+/// The depths that there are; the field says others now and then.
 const DEPTHS: [u32; 4] = [8, 10, 12, 16];
 
 /// Rates, in lowest terms.
@@ -34,14 +34,14 @@ pub fn write(generator: &mut Generator, kind: u32, octets: &mut Text) {
     }
 }
 
-/// Puts octets of no order behind.
+/// Puts so many octets of no order behind.
 fn put_any(generator: &mut Generator, octets: &mut Text, count: u32) {
     for _ in 0..count {
         octets.put_octet(generator.below(256));
     }
 }
 
-/// Puts the front of a file of a version behind.
+/// Puts name and version behind; now and then the last digit is another.
 fn put_front(generator: &mut Generator, octets: &mut Text, name: &[u8], version: u32) {
     octets.put(name);
     octets.put_octet(48 + generator.number(version, 9) % 16);
@@ -76,7 +76,8 @@ fn side(generator: &mut Generator, sound: u32) -> u32 {
     }
 }
 
-/// A format block.
+/// Puts a format block behind, whose fields are now and then others, and answers what it was made
+/// for.
 fn write_block(generator: &mut Generator, octets: &mut Text) -> Block {
     let sampling = generator.below(3);
     let depth = generator.pick(&DEPTHS);
@@ -126,7 +127,7 @@ fn write_receiver(generator: &mut Generator, octets: &mut Text) {
     }
 }
 
-/// The groups of a timestamp.
+/// Puts groups behind, each of any state, now and then of none that there is.
 fn write_groups(generator: &mut Generator, octets: &mut Text, block: Block) {
     for _ in 0..block.groups.min(64) {
         let state = generator.below(3);

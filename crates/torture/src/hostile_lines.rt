@@ -110,7 +110,7 @@ impl Script {
         }
     }
 
-    /// Ends a line that was written.
+    /// Ends a line that was written, which then stands behind those before.
     pub fn end_line(&mut self) {
         self.text.is_short |= self.order.push(self.ends.len()).is_err();
         self.end_other();
@@ -121,7 +121,7 @@ impl Script {
         self.text.is_short |= self.ends.push(self.text.octets.len()).is_err();
     }
 
-    /// The line at a place.
+    /// The octets of the line that stands at a place of the order.
     fn line(&self, place: usize) -> &[u8] {
         let number = self.order.get(place).copied().unwrap_or(0);
         let begin = match number.checked_sub(1) {
@@ -197,7 +197,7 @@ impl Script {
     }
 }
 
-/// An end of a line.
+/// What a line ends by: mostly LF, and now and then something else.
 fn any_end(generator: &mut Generator) -> &'static [u8] {
     let place = match generator.below(64) {
         0 => 1,
@@ -228,7 +228,7 @@ fn turn_field(generator: &mut Generator, line: &[u8], text: &mut Text) {
     }
 }
 
-/// How many fields a line has.
+/// How many fields a line has, parted by single spaces.
 fn count_of(line: &[u8]) -> usize {
     let mut count = 1usize;
     for octet in line {
@@ -265,7 +265,6 @@ pub fn put_format(generator: &mut Generator, format: &Format, text: &mut Text) {
     text.put_number(b"/", u64::from(d));
 }
 
-/// The name of a sampling in scripts.
 fn name_of(sampling: Sampling) -> &'static [u8] {
     match sampling {
         Sampling::Ycc422 => b"YCbCr-4:2:2",

@@ -109,7 +109,7 @@ fn put_picture(generator: &mut Generator, format: &Format, text: &mut Text) {
     }
 }
 
-/// Puts a line of an event behind.
+/// Puts a line of any event behind, whose numbers are mostly sound.
 fn put_event(generator: &mut Generator, scene: &mut Scene, text: &mut Text) {
     let at = generator.below(scene.receivers);
     match generator.below(16) {

@@ -18,7 +18,7 @@ const DIGITS: [&[u8; 16]; 2] = [b"0123456789abcdef", b"0123456789ABCDEF"];
 #[derive(Drop)]
 struct Scene {
     opening: Opening,
-    /// How many of the timestamps the window has.
+    /// How many of the first `TIMESTAMPS` the window has.
     timestamps: usize,
     /// The last datagram.
     octets: Text,
@@ -41,7 +41,7 @@ impl Scene {
         })
     }
 
-    /// The first timestamps, of the window and so many more.
+    /// The timestamps of the window, and so many more behind them.
     fn window(&self, more: usize) -> &'static [u32] {
         let count = self.timestamps.wrapping_add(more);
         TIMESTAMPS.get(..count).unwrap_or(&[])
@@ -112,7 +112,6 @@ fn next_octets(generator: &mut Generator, scene: &mut Scene) {
     }
 }
 
-/// Sets an octet, where there is one.
 fn set(place: Option<&mut u8>, value: u8) {
     if let Some(octet) = place {
         *octet = value;

@@ -42,7 +42,7 @@ fn main(rt: HostRuntime) -> ExitCode {
     }
 }
 
-/// Whether all was answered as it is to be.
+/// Makes what the words ask for, or without words a few of each; true where all was answered alike.
 fn run(rt: &HostRuntime) -> Result<bool, Fault> {
     let mut words = env::args(rt)?;
     words.next();
@@ -67,7 +67,7 @@ fn give_few(rt: &HostRuntime) -> Result<bool, Fault> {
     Ok(inputs && texts)
 }
 
-/// Makes so many datagrams from a seed.
+/// Makes so many datagrams from a seed; true where each was answered as by the second reading.
 fn give_datagrams(rt: &HostRuntime, seed: u64, count: u64, prints: bool) -> Result<bool, Fault> {
     let mut generator = Generator::new(seed);
     let mut text = Text::new(rt.alloc());
@@ -81,7 +81,7 @@ fn give_datagrams(rt: &HostRuntime, seed: u64, count: u64, prints: bool) -> Resu
     print(rt, &OF_DATAGRAMS, &totals, prints)
 }
 
-/// Makes so many files from a seed.
+/// Makes so many files from a seed; true where each was answered as by the second reading.
 fn give_files(rt: &HostRuntime, seed: u64, count: u64, prints: bool) -> Result<bool, Fault> {
     let mut generator = Generator::new(seed);
     let mut text = Text::new(rt.alloc());
@@ -107,7 +107,7 @@ fn give_texts(rt: &HostRuntime, seed: u64, count: u64, prints: bool) -> Result<b
     print(rt, &OF_TEXTS, &totals, prints)
 }
 
-/// Makes so many scripts from a seed.
+/// Makes so many scripts from a seed; true where each was answered as by the second reading.
 fn give_scripts(rt: &HostRuntime, seed: u64, count: u64, prints: bool) -> Result<bool, Fault> {
     let mut generator = Generator::new(seed);
     let mut text = Text::new(rt.alloc());

@@ -35,7 +35,7 @@ impl Plain {
         Wanted::Outside
     }
 
-    /// The cells of a timestamp, where the window has it.
+    /// What came for a timestamp; none where the window hasn't it.
     pub fn frame(&self, timestamp: u32) -> Option<&Cells> {
         for cells in &self.frames {
             if cells.timestamp() == timestamp {

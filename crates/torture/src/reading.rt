@@ -38,7 +38,7 @@ struct Head {
     goes_on: bool,
 }
 
-/// Up to three.
+/// The headers of segments: up to three, and where the octets behind them begin.
 #[derive(Clone, Copy)]
 struct Heads {
     heads: [Option<Head>; 3],
@@ -113,7 +113,7 @@ fn read_heads(payload: &[u8]) -> Result<Heads, u8> {
     Err(8)
 }
 
-/// The refusal of a segment, where it is refused.
+/// The number of a segment's refusal; none where it is taken.
 fn refused(format: &Format, head: &Head) -> Option<u8> {
     let group = format.pgroup();
     if head.length == 0 {
@@ -189,7 +189,7 @@ pub fn offer(good: &Good<'_>, format: &Format, cells: &mut Cells) {
     }
 }
 
-/// The same of a segment.
+/// The same of one segment, sample by sample as they are spelled.
 fn offer_segment(octets: &[u8], head: &Head, format: &Format, cells: &mut Cells) {
     let bits = format.depth().bits();
     let by_pixel = match format.sampling() {

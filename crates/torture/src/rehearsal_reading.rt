@@ -47,7 +47,7 @@ pub fn follow(alloc: Global, text: &[u8], output: &mut Text) -> Result<(), Stop>
     played
 }
 
-/// The first five lines.
+/// What the first five lines say; each has just its form.
 fn read_front(lines: &mut Lines<'_>) -> Result<Front, Stop> {
     let format = read_format(lines)?;
     let base = read_stamp(lines)?;
@@ -65,7 +65,7 @@ fn read_front(lines: &mut Lines<'_>) -> Result<Front, Stop> {
     })
 }
 
-/// The number behind a word, up to one.
+/// The number of a line that has just a word and it, and is at most `most`.
 fn read_number(lines: &mut Lines<'_>, word: &[u8], most: u32) -> Result<u32, Stop> {
     let mut fields = lines.begun(word);
     let number = fields.number(most);
@@ -84,7 +84,7 @@ fn read_stamp(lines: &mut Lines<'_>) -> Result<u32, Stop> {
     Ok(base)
 }
 
-/// How many pictures there are; each has so many octets.
+/// How many lines of a picture come next, each of so many octets; the last one's are kept.
 fn read_pictures(lines: &mut Lines<'_>, size: usize, octets: &mut Text) -> Result<usize, Stop> {
     let mut count = 0usize;
     for _ in 0..lines.most {
@@ -115,7 +115,7 @@ fn read_events(front: Lines<'_>) -> Result<(), Stop> {
     Ok(())
 }
 
-/// An event.
+/// What a line of an event says; the fields tell whether it is one.
 fn read_event(fields: &mut Fields<'_>) -> Event {
     let kind = fields.place(&WORDS);
     let most = if kind == SLIDE { u32::MAX } else { 255 };

@@ -115,7 +115,7 @@ pub struct Stage {
     pub windows: Vec<u32>,
     /// Whether each group came: frame after frame, in the order of the windows.
     groups: Vec<bool>,
-    /// The timestamp of each picture.
+    /// The timestamps of the pictures, in the order in which they are sent.
     pub pictures: Vec<u32>,
     /// Where the datagrams of each picture begin and end.
     pub cuts: Vec<usize>,
@@ -147,7 +147,7 @@ impl Stage {
         }
     }
 
-    /// How many datagrams a picture has.
+    /// How many datagrams a picture has, as all have the same cuts.
     fn by_picture(&self) -> usize {
         self.cuts.len().saturating_sub(1).max(1)
     }
@@ -240,7 +240,7 @@ impl Stage {
         }
     }
 
-    /// Whether the group of a number came.
+    /// Whether the group of this number came, counted through all frames.
     fn came(&self, number: usize) -> bool {
         self.groups.get(number).copied().unwrap_or(false)
     }
@@ -271,7 +271,7 @@ impl Stage {
         true
     }
 
-    /// Puts the line of a frame behind a word.
+    /// Puts what is said of a frame behind a word: its timestamp, and how many samples came.
     fn put(&self, word: &[u8], frame: usize, output: &mut Text) {
         let first = frame.wrapping_mul(self.raster.count);
         let mut came = 0usize;

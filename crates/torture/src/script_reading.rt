@@ -118,7 +118,7 @@ fn open(alloc: Global, format: Format, lines: &mut Lines<'_>) -> Result<Session,
     Session::new(alloc, opening, window.timestamps()).ok_or(Stop::new(MEMORY))
 }
 
-/// An SSRC, or `any`.
+/// The source of a line `open`; none where it is `any`.
 fn source_of(fields: &mut Fields<'_>) -> Option<u32> {
     let mut any = *fields;
     if any.next() == b"any".as_slice() {
@@ -147,7 +147,7 @@ impl Session {
         })
     }
 
-    /// Follows a line behind the first two.
+    /// Follows a line behind the first two, by its word; any other stops the script.
     fn follow(&mut self, alloc: Global, line: Fields<'_>, output: &mut Text) -> Result<(), Stop> {
         let mut fields = line;
         match fields.place(&WORDS) {
@@ -159,7 +159,7 @@ impl Session {
         }
     }
 
-    /// A datagram.
+    /// Gives a datagram to the plain receiver, and prints what becomes of it.
     fn take(&mut self, line: Fields<'_>, output: &mut Text) -> Result<(), Stop> {
         let mut fields = line;
         fields.octets(DATAGRAM, &mut self.octets);
@@ -230,7 +230,7 @@ impl Session {
     }
 }
 
-/// Puts a refusal of a datagram.
+/// Prints why a datagram is refused, by its number and name.
 fn put_refusal(number: usize, output: &mut Text) {
     let name = OF_DATAGRAMS.get(number).copied().unwrap_or("");
     output.put(b"refused ");
@@ -260,7 +260,7 @@ pub fn put_counts(word: &[u8], timestamp: u32, counts: [usize; 3], output: &mut 
 }
 
 impl Noted {
-    /// Notes a number, where it is one of those that are noted.
+    /// Notes a number's place, where it is below the count.
     fn note(&mut self, number: u32, output: &mut Text) {
         let place = number.wrapping_sub(self.first);
         if place < self.count {

@@ -107,7 +107,7 @@ impl<'a> Fields<'a> {
         }
     }
 
-    /// A field.
+    /// The next field, empty where there is none: the line is wrong then.
     pub fn next(&mut self) -> &'a [u8] {
         match self.pieces.next() {
             Some(piece) => piece,
@@ -118,7 +118,7 @@ impl<'a> Fields<'a> {
         }
     }
 
-    /// A number up to one.
+    /// A field that is a number of at most `most`; any other makes the line wrong.
     pub fn number(&mut self, most: u32) -> u32 {
         match number(self.next()) {
             Some(number) if number <= most => number,
@@ -143,7 +143,7 @@ impl<'a> Fields<'a> {
         place
     }
 
-    /// The parts of a field.
+    /// The fields of which this one field is made.
     pub fn parts(&mut self, separator: u8) -> Fields<'a> {
         Fields::new(self.next(), separator, self.line)
     }

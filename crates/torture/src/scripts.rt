@@ -106,14 +106,13 @@ fn follows(
     Ok(is_so && prints && tells)
 }
 
-/// Adds one to the total at a place, where there is one.
 fn count(totals: &mut [u64], place: usize) {
     if let Some(total) = totals.get_mut(place) {
         *total = total.wrapping_add(1);
     }
 }
 
-/// Counts the lines of output by their kinds.
+/// Counts the lines of output by what they begin with.
 fn count_lines(output: &[u8], kinds: &mut Kinds) {
     let mut lines = Pieces::new(output, b'\n');
     for _ in 0..=output.len() {

@@ -45,7 +45,7 @@ impl Stop {
         Stop { place, number: 0 }
     }
 
-    /// At the line of a number.
+    /// At the line of this number, counted from 1.
     pub fn script(number: usize) -> Stop {
         Stop {
             place: SCRIPT,
@@ -53,7 +53,7 @@ impl Stop {
         }
     }
 
-    /// At the event of a number.
+    /// At the event of this number, counted from 0, which isn't admitted.
     pub fn event(number: usize) -> Stop {
         Stop {
             place: EVENT,

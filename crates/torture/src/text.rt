@@ -40,7 +40,7 @@ impl Text {
         self.put(&((number % 65536) as u16).to_be_bytes());
     }
 
-    /// Puts the 32 bits of a number behind.
+    /// Puts a number of 32 bits behind, the highest octet first.
     pub fn put_long(&mut self, number: u32) {
         self.put(&number.to_be_bytes());
     }

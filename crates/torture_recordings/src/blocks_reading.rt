@@ -158,7 +158,7 @@ fn enter<'a>(
     Ok(())
 }
 
-/// The value of the first option of a code, if there is one.
+/// The value of the first option of this code; none where the list ends without one.
 fn option(octets: &[u8], code: u64, order: Order) -> Result<Option<&[u8]>, u8> {
     let mut at = 0usize;
     for _ in octets.iter() {
@@ -208,7 +208,7 @@ fn offset(value: Option<&[u8]>, order: Order) -> Option<i64> {
     }
 }
 
-/// The interface that a body describes.
+/// The interface that a description block's body tells, or the number of its fault.
 fn described(body: &[u8], order: Order) -> Result<Interface, u8> {
     let options = body.get(8..).ok_or(BAD_BLOCK)?;
     let per_second = units(option(options, 9, order)?).ok_or(BAD_INTERFACE)?;
@@ -229,7 +229,7 @@ fn time(units: u64, interface: &Interface) -> Option<u64> {
     u64::try_from(since.wrapping_add(offset)).ok()
 }
 
-/// The interface of a number.
+/// The interface of this number in a section, or the fault of there being none.
 fn interface_of(section: &Section, number: u64) -> Result<Interface, u8> {
     let place = usize::try_from(number).unwrap_or(usize::MAX);
     section.interfaces.get(place).copied().ok_or(BAD_INTERFACE)

@@ -34,14 +34,14 @@ impl Totals {
     }
 }
 
-/// Counts an answer.
 fn count(totals: &mut [u64], number: u8) {
     if let Some(total) = totals.get_mut(usize::from(number)) {
         *total = total.wrapping_add(1);
     }
 }
 
-/// Whether a datagram is the one that is wanted, or the reason.
+/// Whether a packet was read as the second reading has it: as its datagram, or for its reason as
+/// none.
 fn is_said(found: &Result<DatagramView<'_>, NoDatagram>, wanted: &Result<Said<'_>, u8>) -> bool {
     match (found, wanted) {
         (Ok(view), Ok(said)) => {

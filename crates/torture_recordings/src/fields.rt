@@ -4,7 +4,7 @@ use test_programs::Generator;
 
 /// Numbers of a field: mostly a sound one, and else at a bound or beside it.
 pub trait Fields {
-    /// Either order.
+    /// Big-endian or little-endian, each as often.
     fn order(&mut self) -> Order;
 
     /// A number that once in 128 draws is a bound, beside `sound`, or any up to `most`, and else

@@ -9,7 +9,7 @@ const LINKS: [u32; 16] = [
     1, 1, 1, 1, 1, 0, 101, 108, 113, 113, 228, 229, 276, 276, 105, 147,
 ];
 
-/// How many tags there are.
+/// How many tags of a VLAN stand before a packet, each number as often as it stands here.
 const TAGS: [u32; 10] = [0, 0, 0, 0, 0, 1, 1, 2, 2, 3];
 
 /// Families of addresses: of IPv4, and of IPv6 in the BSDs and macOS; the last one is Linux's.
@@ -37,7 +37,7 @@ const PAYLOADS: [u32; 6] = [0, 1, 8, 12, 20, 33];
 
 const BEHIND: [u32; 8] = [0, 0, 0, 0, 0, 1, 4, 18];
 
-/// A link layer.
+/// A link layer that is read, or now and then any number.
 pub fn link(generator: &mut Generator) -> u32 {
     if generator.one_in(64) {
         generator.below(65536)
@@ -87,7 +87,7 @@ fn put_link(generator: &mut Generator, link: u32, is_sixth: bool, text: &mut Tex
     }
 }
 
-/// Puts a family of addresses behind.
+/// Puts the four octets of a null or loopback header behind.
 fn put_family(generator: &mut Generator, is_sixth: bool, order: Order, text: &mut Text) {
     let family = if is_sixth {
         generator.pick(&FAMILIES)
@@ -97,7 +97,7 @@ fn put_family(generator: &mut Generator, is_sixth: bool, order: Order, text: &mu
     text.put_long(generator.near(family, u32::MAX), order);
 }
 
-/// Puts tags and a type behind.
+/// Puts the tags of a VLAN behind, if any, and the type of what follows them.
 fn put_type(generator: &mut Generator, is_sixth: bool, text: &mut Text) {
     for _ in 0..generator.pick(&TAGS) {
         text.put_word(generator.pick(&[0x8100, 0x88a8]), Order::Big);
@@ -106,7 +106,7 @@ fn put_type(generator: &mut Generator, is_sixth: bool, text: &mut Text) {
     put_last_type(generator, is_sixth, text);
 }
 
-/// Puts the type of a packet behind.
+/// Puts the Ethernet type of IPv4 or IPv6 behind, and now and then another.
 fn put_last_type(generator: &mut Generator, is_sixth: bool, text: &mut Text) {
     let kind = if is_sixth { 0x86dd } else { 0x0800 };
     text.put_word(generator.one_of(24, 65536, kind), Order::Big);

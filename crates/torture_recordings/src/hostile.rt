@@ -28,7 +28,7 @@ const EXTREMES: [u32; 14] = [
     0x1a2b_3c4d,
 ];
 
-/// Octets at bounds.
+/// Octets that a field is turned into: the least, the greatest, and those at the middle.
 const OCTETS: [u32; 5] = [0, 1, 127, 128, 255];
 
 /// What noise begins with.

@@ -6,7 +6,7 @@ use crate::numbers::Order;
 use crate::text::Text;
 use test_programs::Generator;
 
-/// How many sections there are.
+/// How many sections a file has, each number as often as it stands here.
 const SECTIONS: [u32; 8] = [1, 1, 1, 1, 1, 2, 2, 3];
 
 /// How many interfaces a section has before its packets.
@@ -24,7 +24,7 @@ const SNAPS: [u32; 6] = [0, 0, 65535, 65535, 262_144, 40];
 /// Units of time: powers of ten, and with the highest bit set of two.
 const UNITS: [u32; 16] = [6, 6, 6, 6, 9, 9, 9, 9, 9, 9, 0, 3, 19, 0x80, 0x94, 0xbf];
 
-/// The first 32 bits of times.
+/// The high 32 bits of times, the low ones being any.
 const TIMES: [u32; 8] = [
     0,
     0,
@@ -36,7 +36,7 @@ const TIMES: [u32; 8] = [
     0x1700_0000,
 ];
 
-/// The first 32 bits of offsets.
+/// The high 32 bits of offsets of times: 0, or all set where the offset is below 0.
 const OFFSETS: [u32; 4] = [0, 0, 0, u32::MAX];
 
 /// The links of a section's first interfaces, and how many interfaces it has.
@@ -54,7 +54,7 @@ pub fn put_blocks(generator: &mut Generator, text: &mut Text) {
     }
 }
 
-/// Puts a section behind.
+/// Puts a section, with its interfaces and packets, behind the text.
 fn put_section(generator: &mut Generator, text: &mut Text) {
     let mut section = Section {
         order: generator.order(),
@@ -128,7 +128,7 @@ fn put_section_head(generator: &mut Generator, order: Order, text: &mut Text) {
     end(generator, place, order, text);
 }
 
-/// Puts an option of a code behind, with so many octets of no order.
+/// Puts an option of a code behind, with so many octets of no order, filled up to whole words.
 fn put_option(generator: &mut Generator, code: u32, count: u32, order: Order, text: &mut Text) {
     let place = text.length();
     text.put_word(generator.near(code, 65535), order);
@@ -137,7 +137,7 @@ fn put_option(generator: &mut Generator, code: u32, count: u32, order: Order, te
     fill(place, text);
 }
 
-/// Puts the unit of time behind.
+/// Puts the option of the unit of time behind (`if_tsresol`), now and then of another length.
 fn put_unit(generator: &mut Generator, order: Order, text: &mut Text) {
     let count = if generator.one_in(32) {
         generator.below(5)
@@ -150,7 +150,7 @@ fn put_unit(generator: &mut Generator, order: Order, text: &mut Text) {
     text.set(place, &[(generator.one_of(24, 256, unit) % 256) as u8]);
 }
 
-/// Puts the offset of times behind.
+/// Puts the option of the offset of times behind (`if_tsoffset`), now and then of another length.
 fn put_offset(generator: &mut Generator, order: Order, text: &mut Text) {
     let count = if generator.one_in(32) {
         generator.below(12)
@@ -186,7 +186,7 @@ fn put_options(generator: &mut Generator, order: Order, text: &mut Text) {
     }
 }
 
-/// Puts an interface behind, maybe with options.
+/// Puts the description of an interface behind, and counts it among the section's.
 fn put_interface(
     generator: &mut Generator,
     section: &mut Section,
@@ -234,7 +234,7 @@ fn put_stamped(generator: &mut Generator, block: usize, order: Order, link: u32,
     end(generator, block, order, text);
 }
 
-/// Puts an enhanced packet behind.
+/// Puts an enhanced packet block behind, of an interface of the section.
 fn put_enhanced(generator: &mut Generator, section: &Section, text: &mut Text) {
     text.note();
     let place = begin(6, section.order, text);
@@ -243,7 +243,7 @@ fn put_enhanced(generator: &mut Generator, section: &Section, text: &mut Text) {
     put_stamped(generator, place, section.order, link, text);
 }
 
-/// Puts an obsolete packet behind.
+/// Puts an obsolete packet block behind, of an interface of the section.
 fn put_obsolete(generator: &mut Generator, section: &Section, text: &mut Text) {
     text.note();
     let place = begin(2, section.order, text);
@@ -253,7 +253,7 @@ fn put_obsolete(generator: &mut Generator, section: &Section, text: &mut Text) {
     put_stamped(generator, place, section.order, link, text);
 }
 
-/// Puts a simple packet behind.
+/// Puts a simple packet block behind: of the first interface, and without a time.
 fn put_simple(generator: &mut Generator, section: &Section, text: &mut Text) {
     text.note();
     let place = begin(3, section.order, text);

@@ -29,7 +29,7 @@ pub fn put_pcap(generator: &mut Generator, text: &mut Text) {
     }
 }
 
-/// Puts a record behind.
+/// Puts a record behind the text, whose numbers may be off.
 fn put_record(generator: &mut Generator, link: u32, order: Order, text: &mut Text) {
     text.note();
     let seconds = generator.below(1_800_000_000);

@@ -33,7 +33,7 @@ fn main(rt: HostRuntime) -> ExitCode {
     }
 }
 
-/// Whether all was answered as it is to be.
+/// Makes what the words ask for, or without words a few of each; true where all was answered alike.
 fn run(rt: &HostRuntime) -> Result<bool, Fault> {
     let mut words = env::args(rt)?;
     words.next();

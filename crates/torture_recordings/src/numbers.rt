@@ -14,7 +14,7 @@ pub fn octet(octets: &[u8], at: usize) -> u64 {
     u64::from(octets.get(at).copied().unwrap_or(0))
 }
 
-/// The number of so many octets from a place on.
+/// The number that so many octets from a place on say in an order.
 fn number(octets: &[u8], at: usize, count: usize, order: Order) -> u64 {
     let mut number = 0u64;
     for place in 0..count {

@@ -3,7 +3,7 @@ use crate::numbers::Order;
 use std::alloc::Global;
 use test_programs::Generator;
 
-/// How many places are noted.
+/// How many places of records or blocks are noted; of those behind none is.
 const PLACES: usize = 16;
 
 /// Octets, of which some are missing where memory was refused, and where the first records or
@@ -86,7 +86,7 @@ impl Text {
         }
     }
 
-    /// Puts the 32 bits of a number behind.
+    /// Puts a number of 32 bits behind, in an order.
     pub fn put_long(&mut self, number: u32, order: Order) {
         match order {
             Order::Big => self.put(&number.to_be_bytes()),

@@ -74,6 +74,22 @@ pub use Rattle.path_merge.specs.Sliding
 pub use Rattle.path_merge.specs.Stays
 pub use Rattle.path_merge.specs.Took
 pub use Rattle.path_merge.specs.Unfit
+pub use Rattle.following.specs.Acts
+pub use Rattle.following.specs.Admission
+pub use Rattle.following.specs.Follower
+pub use Rattle.following.specs.Following
+pub use Rattle.following.specs.Memory as FollowingMemory
+pub use Rattle.following.specs.Names
+pub use Rattle.following.specs.Pictures
+pub use Rattle.following.specs.Serial
+pub use Rattle.following.specs.Since
+pub use Rattle.following.specs.Spare
+pub use Rattle.following.specs.Standing
+pub use Rattle.following.specs.Stream
+pub use Rattle.following.specs.Taking
+pub use Rattle.following.specs.Tally
+pub use Rattle.following.specs.Times
+pub use Rattle.following.specs.Turned
 pub use Rattle.media_file.specs.Blocks
 pub use Rattle.media_file.specs.Capture
 pub use Rattle.media_file.specs.CaptureFaults

@@ -44,8 +44,8 @@ pub mod formats {
     };
 }
 
-/// SDP texts: what one announces, where it is at fault, and the fmtp line of what was read; and texts
-/// that are written of a stream.
+/// SDP texts: what one announces, where it is at fault, and the fmtp line of what was read; and
+/// texts that are written of a stream.
 pub mod describe {
     pub use sdp_format::{
         FlowsFault, Located, Place, Range, Sdp, SdpFault, fmtp_text, read_flows, read_located,
@@ -67,6 +67,16 @@ pub mod receive {
     pub use payload_header::PayloadFault;
     pub use rtp_header::RtpFault;
     pub use st_format::Path;
+}
+
+/// Receivers whose window follows a stream of which no timestamp is known before: frames, oldest
+/// first, one by one or from a source into a sink.
+pub mod follow {
+    pub use following::{
+        FollowFault, FollowObserver, FollowTally, Followed, Follower, FrameFault, FrameSink,
+        FrameSinkFault, MOST_FRAMES, MemoryFrames, Shown, StreamFault, TEN_SECONDS, TurnTaken,
+        Unobserved, finish, follow, follow_eagerly, hand_out, take_turn,
+    };
 }
 
 /// Which packet numbers came, and the runs of those that did not.
@@ -105,7 +115,8 @@ pub mod files {
 }
 
 /// Recordings of other tools, as pcap and pcapng: their packets, as datagrams of UDP, and the flows
-/// of the two paths; and a reader that gives the datagrams of these, or of a capture, to a receiver.
+/// of the two paths; and a reader that gives the datagrams of these, or of a capture, to a
+/// receiver.
 pub mod recordings {
     pub use flow::{Flow, Flows, read_flow};
     pub use pcap_file::{

@@ -90,7 +90,7 @@ fn picture_file(
     Ok(file)
 }
 
-/// The capture of pictures.
+/// The capture that `send` makes of pictures, in packets of 1400 octets, payload type 96.
 fn send(
     alloc: Global,
     pictures: &mut [MemorySource],

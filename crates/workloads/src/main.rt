@@ -26,7 +26,7 @@ use std::process::ExitCode;
 /// The columns and rows of a picture.
 const FULL: Size = (1920, 1080);
 
-/// Those of a small input.
+/// The columns and rows of a picture of a small input, by which a job is tried.
 const SMALL: Size = (48, 12);
 
 /// The jobs, each with how many rounds of it are run.

@@ -8,7 +8,7 @@ use st_format::ByteSink;
 use st_format::memory::{MemorySink, MemorySource};
 use std::alloc::Global;
 
-/// A source of these octets, in pieces of at most so many.
+/// A source of these octets, which gives at most `piece` a call, and no fewer than one.
 pub fn source(octets: Vec<u8>, piece: usize) -> MemorySource {
     MemorySource::new(octets, piece.max(1), 0)
 }

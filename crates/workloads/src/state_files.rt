@@ -107,7 +107,7 @@ fn put_frame(
     Ok(end)
 }
 
-/// Puts missing groups.
+/// Puts so many missing groups, an octet 0 for each, and answers where they end.
 fn put_missing(file: &mut [u8], at: usize, count: usize) -> Result<usize, Fault>
     ensures { length file.new ≡ length file.old }
 {

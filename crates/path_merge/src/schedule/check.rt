@@ -11,10 +11,10 @@ use crate::window::check_window;
 use st_format::{Format, Picture};
 use std::alloc::Allocator;
 
-/// The most pictures of one sender.
+/// The most pictures of one sender (own).
 const MOST_PICTURES: usize = 10_000;
 
-/// The most receivers.
+/// The most receivers of a schedule (own).
 const MOST_RECEIVERS: u8 = 8;
 
 /// Whether a schedule can be played, its events aside, or the first fault: of its window, its
@@ -57,7 +57,7 @@ fn check_rest<C: Allocator>(
     Ok(())
 }
 
-/// Whether all pictures are of a format.
+/// Whether all pictures are of a format, which is the plan's.
 fn are_of_format<C: Allocator>(format: Format, pictures: &[Picture<C>]) -> bool
     ensures all { IsTrue result → All (λ p. p.format ≡ format) pictures.now }
     ensures other { IsFalse result → All (λ p. p.format ≡ format) pictures.now → ⊥ }

@@ -14,7 +14,7 @@ use packet_plan::{Plan, Stamp};
 use st_format::Format;
 use std::alloc::Allocator;
 
-/// The stage before the first event.
+/// The stage before the first event. `NoMemory` where the memory was refused.
 pub fn open<A: Allocator + Copy, B: Allocator>(
     alloc: A,
     plan: &Plan<B>,
@@ -47,7 +47,7 @@ pub fn open<A: Allocator + Copy, B: Allocator>(
     })
 }
 
-/// Receivers that have taken nothing, opened alike.
+/// Receivers that have taken nothing, opened alike: with the sender's type, source and format.
 fn open_receivers<A: Allocator + Copy>(
     alloc: A,
     format: Format,
@@ -86,7 +86,7 @@ fn open_receivers<A: Allocator + Copy>(
     Ok(receivers)
 }
 
-/// Room for each datagram of a plan.
+/// Room for each datagram of a plan: its greatest size.
 fn room<A: Allocator, B: Allocator>(alloc: A, plan: &Plan<B>) -> Result<Vec<u8, A>, PlayFault>
     ensures room { IfOk result (λ buf. EachHasRoom plan.now (length buf.items)) }
     ensures memory { OnErr result (result ≡ Err PlayFault.NoMemory) }

@@ -78,9 +78,9 @@ impl PlayFault {
 /// Why an event was not followed.
 #[derive(Drop)]
 pub enum Stop {
-    /// The memory was refused.
+    /// The allocator refused memory: for a datagram, a frame, or the list of either.
     NoMemory,
-    /// It is not admitted.
+    /// It is not admitted after the events before it.
     Unfit,
 }
 

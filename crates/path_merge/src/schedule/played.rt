@@ -7,11 +7,11 @@ use std::alloc::{Allocator, Global};
 /// A frame that a receiver handed out.
 #[derive(Drop)]
 pub struct Handed<A: Allocator = Global> {
-    /// The receiver.
+    /// The number of the receiver, from 0.
     pub receiver: u8,
     /// The timestamp that left its window, in 90 kHz ticks.
     pub timestamp: u32,
-    /// Its frame.
+    /// What it held of that timestamp.
     pub frame: Frame<A>,
 }
 

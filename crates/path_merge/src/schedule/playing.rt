@@ -91,7 +91,7 @@ pub fn play<A: Allocator + Copy, B: Allocator, C: Allocator>(
     Ok(Played { handed, receivers })
 }
 
-/// Follows the events one by one.
+/// Follows the events up to the first that is not admitted, whose place is told.
 fn follow_all<A: Allocator + Copy, B: Allocator, C: Allocator>(
     alloc: A,
     plan: &Plan<B>,

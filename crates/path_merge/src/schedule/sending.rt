@@ -18,7 +18,7 @@ pub struct Next {
     pub first: u32,
 }
 
-/// Makes the next datagram, where one is left.
+/// Makes the next datagram. `Unfit` where none is left, `NoMemory` where the memory was refused.
 pub fn next_datagram<A: Allocator, B: Allocator, C: Allocator>(
     alloc: A,
     plan: &Plan<B>,
@@ -75,7 +75,7 @@ fn datagram_of<A: Allocator, B: Allocator, C: Allocator>(
     Ok(Vec::from_slice(alloc, &buf[..length])?)
 }
 
-/// Moves on by one packet, of so many in each picture.
+/// Moves on by one packet, of so many in each picture: packets are numbered through all pictures.
 fn move_on(next: &mut Next, count: u32)
     requires index { next.old.index < count }
     requires picture { next.old.picture < 10000 }

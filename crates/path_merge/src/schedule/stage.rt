@@ -16,16 +16,16 @@ use packet_plan::{Plan, Stamp};
 use st_format::Picture;
 use std::alloc::Allocator;
 
-/// What is kept while a schedule is played.
+/// What is kept while a schedule is played: the sender, what it sent, and the receivers.
 #[derive(Drop)]
 pub struct Stage<A: Allocator> {
     pub receivers: Vec<Receiver<A>, A>,
-    /// What was handed out, in order.
+    /// The frames that left windows, in the order of the events.
     pub handed: Vec<Handed<A>, A>,
     /// The datagrams that were sent, in order.
     pub sent: Vec<Vec<u8, A>, A>,
     pub next: Next,
-    /// Room for a datagram.
+    /// Room for a datagram of the plan's greatest size.
     pub buf: Vec<u8, A>,
 }
 
@@ -62,7 +62,7 @@ pub fn follow<A: Allocator + Copy, B: Allocator, C: Allocator>(
     }
 }
 
-/// Makes the next datagram.
+/// Makes the next datagram and keeps it, so that it may arrive at any later event.
 fn send<A: Allocator, B: Allocator, C: Allocator>(
     alloc: A,
     plan: &Plan<B>,
@@ -91,7 +91,7 @@ fn send<A: Allocator, B: Allocator, C: Allocator>(
     Ok(())
 }
 
-/// A receiver's window moves on, and its first frame is handed out.
+/// A receiver's window moves on, and its first frame is kept as handed out.
 fn hand_out<A: Allocator + Copy>(
     alloc: A,
     stage: &mut Stage<A>,

@@ -13,7 +13,7 @@ use frame_assembly::Frame;
 use st_format::Path;
 use std::alloc::Allocator;
 
-/// A receiver takes a datagram of those sent.
+/// A receiver takes a datagram of those sent; `Unfit` where there is no such one.
 pub fn arrive<A: Allocator>(
     receivers: &mut [Receiver<A>],
     sent: &[Vec<u8, A>],
@@ -43,7 +43,8 @@ fn take<A: Allocator>(receiver: &mut Receiver<A>, path: Path, octets: &[u8])
     let _ = receiver.take(path, octets);
 }
 
-/// A receiver's window moves on, and hands out its first frame.
+/// A receiver's window moves on, and hands out its first frame. `Unfit` where the window has the
+/// timestamp or there is no such receiver, `NoMemory` where the memory was refused.
 pub fn slide<A: Allocator + Copy>(
     alloc: A,
     receivers: &mut [Receiver<A>],
@@ -61,7 +62,6 @@ pub fn slide<A: Allocator + Copy>(
     slide_one(alloc, &mut receivers[place], at, next)
 }
 
-/// The same, of the receiver of this number.
 fn slide_one<A: Allocator + Copy>(
     alloc: A,
     receiver: &mut Receiver<A>,
@@ -82,7 +82,8 @@ fn slide_one<A: Allocator + Copy>(
     }
 }
 
-/// A receiver is merged into another.
+/// A receiver is merged into another; `Unfit` where there aren't two such, or they were opened
+/// unlike.
 pub fn merge<A: Allocator>(receivers: &mut [Receiver<A>], into: u8, from: u8) -> Result<(), Stop>
     ensures merged { OnOk result (MergesInto into from receivers.old receivers.new) }
     ensures unfit { OnErr result ((state other : State) →
@@ -96,7 +97,7 @@ pub fn merge<A: Allocator>(receivers: &mut [Receiver<A>], into: u8, from: u8) ->
     merge_two(receivers, into, from)
 }
 
-/// The same, of two different places.
+/// The same, of two different places, which are lent apart.
 fn merge_two<A: Allocator>(
     receivers: &mut [Receiver<A>],
     into: usize,

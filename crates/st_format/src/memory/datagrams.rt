@@ -58,7 +58,7 @@ impl<A: Allocator> MemoryDatagrams<A> {
         }
     }
 
-    /// The datagrams that it took, in order.
+    /// The datagrams that it took, in order: the slots that are used.
     pub fn taken(&self) -> &[Vec<u8, A>]
         ensures tells { ⟦<MemoryDatagrams<A> as DatagramSink>⟧.taken self.now
             ≡ Some (map octets_of result.now) }
@@ -66,7 +66,8 @@ impl<A: Allocator> MemoryDatagrams<A> {
         &self.slots[..self.used]
     }
 
-    /// How often it has failed.
+    /// How many calls failed: the one that was named, and each for whose datagram there was no
+    /// room.
     pub fn failures(&self) -> u64
         ensures tells { result ≡ ⟦<MemoryDatagrams<A> as DatagramSink>⟧.failures self.now }
     {
@@ -74,7 +75,7 @@ impl<A: Allocator> MemoryDatagrams<A> {
     }
 }
 
-/// Puts octets into a slot in place of what it holds.
+/// Puts octets into a slot in place of what it holds; one by one, so that no slot grows.
 fn refill<A: Allocator>(slot: &mut Vec<u8, A>, octets: &[u8])
     requires { length octets.now ≤ vec_capacity slot.old }
     ensures octets { octets_of slot.new ≡ octets.now }

@@ -13,7 +13,7 @@ use std::marker::Model;
 #[derive(Drop)]
 pub struct MemorySink<A: Allocator = Global> {
     octets: Vec<u8, A>,
-    // How many it held at first.
+    // How many it held at first: these no call of it took.
     begun: usize,
     room: usize,
     piece: usize,
@@ -69,14 +69,14 @@ impl<A: Allocator> MemorySink<A> {
         }
     }
 
-    /// The octets that it holds.
+    /// The octets that it holds: those it began with, and behind them those that its calls took.
     pub fn held(&self) -> &[u8]
         ensures tells { ⟦<MemorySink<A> as ByteSink>⟧.held self.now ≡ Some result.now }
     {
         &self.octets
     }
 
-    /// How often it has failed.
+    /// How many calls failed: the one that was named, and each that had octets for a full sink.
     pub fn failures(&self) -> u64
         ensures tells { result ≡ ⟦<MemorySink<A> as ByteSink>⟧.failures self.now }
     {
@@ -91,7 +91,7 @@ impl<A: Allocator> ByteSink for MemorySink<A> {
 
     ghost took = { λ s. s.took };
 
-    /// Takes as many octets as the piece and the room allow.
+    /// Takes as many octets as the piece and the room allow; an `Err` where it is full.
     fn write(&mut self, octets: &[u8]) -> Result<usize, DeviceFault>
         ensures within { IfOk result (λ n. n ≤ length octets.now) }
         ensures some { IfOk result (λ n. 0 < length octets.now → 0 < n) }

@@ -64,7 +64,7 @@ impl<A: Allocator> MemorySource<A> {
         }
     }
 
-    /// The octets still to give.
+    /// The octets still to give, first one first.
     pub fn to_give(&self) -> &[u8]
         ensures tells { ⟦<MemorySource<A> as ByteSource>⟧.to_give self.now ≡ Some result.now }
     {
@@ -83,7 +83,7 @@ impl<A: Allocator> MemorySource<A> {
         &rest[..self.piece.min(rest.len())]
     }
 
-    /// How often it has failed.
+    /// How many calls failed: the one that was named, once it came.
     pub fn failures(&self) -> u64
         ensures tells { result ≡ ⟦<MemorySource<A> as ByteSource>⟧.failures self.now }
     {

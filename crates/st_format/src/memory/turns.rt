@@ -18,7 +18,7 @@ pub enum MemoryTurn<A: Allocator = Global> {
 }
 
 /// Gives the turns of a vector, and fails at one call if it is told to. A datagram of more than
-/// 65,535 octets fails too, and stays the next.
+/// 65,535 octets fails too when its turn comes, and stays the next: so any vector is one of turns.
 #[derive(Drop)]
 pub struct MemoryTurns<A: Allocator = Global> {
     turns: Vec<MemoryTurn<A>, A>,
@@ -78,7 +78,7 @@ impl<A: Allocator> MemoryTurns<A> {
         }
     }
 
-    /// The turns to come.
+    /// The turns to come, first one first.
     pub fn turns(&self) -> &[MemoryTurn<A>]
         ensures tells { ⟦<MemoryTurns<A> as DatagramSource>⟧.turns self.now
             ≡ Some (map due_of result.now) }
@@ -86,14 +86,14 @@ impl<A: Allocator> MemoryTurns<A> {
         &self.turns[self.at..]
     }
 
-    /// How many datagrams it has delivered.
+    /// How many datagrams it has delivered, from its making on.
     pub fn delivered(&self) -> u64
         ensures tells { result ≡ ⟦<MemoryTurns<A> as DatagramSource>⟧.delivered self.now }
     {
         self.delivered
     }
 
-    /// How often it has failed.
+    /// How many calls failed: the one that was named, and each at a datagram of too many octets.
     pub fn failures(&self) -> u64
         ensures tells { result ≡ ⟦<MemoryTurns<A> as DatagramSource>⟧.failures self.now }
     {
@@ -149,7 +149,7 @@ impl<A: Allocator> MemoryTurns<A> {
         }
     }
 
-    // One failure more.
+    // One failure more, which leaves the turns to come.
     fn fail(&mut self) -> Result<Turn, SourceFault>
         ensures fault { result ≡ Err SourceFault.Device }
         ensures counted { self.new.failures ≡ min (self.old.failures + 1) (2 ^ 64 - 1) }

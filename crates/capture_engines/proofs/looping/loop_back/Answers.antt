@@ -12,6 +12,7 @@ use Rattle.st_format.specs.History.{IsRead}
 use Rattle.capture_engines.specs.Looping.{Came, Link, Loops, Prints, loop_stamp}
 use Rattle.capture_engines.proofs.Accounting.{accounts_last, blamed_second}
 use Rattle.capture_engines.proofs.LoopRefusals.{plan_refused}
+use Rattle.capture_engines.proofs.Quiet.{never_refused}
 use Rattle.capture_engines.proofs.looping.loop_back.Goals as goal
 
 pub returns-in_err-plan-clause-refusal : goal.returns-in_err-plan-clause-refusal
@@ -120,3 +121,7 @@ returns-clause-failures g c =
     (g.O.ByteSink.failures c.print_passed.new.output))
     c.in_ok-picture.ensures.failures c.in_ok-passed.ensures.failures
     c.print_passed.ensures.failures
+
+pub returns-clause-quiet : goal.returns-clause-quiet
+returns-clause-quiet g c =
+    never_refused _ c.print_passed.result c.print_passed.ensures.unrefused

@@ -9,6 +9,7 @@ use Rattle.std.proofs.lemmas.Result.{err_from_is_err_and}
 use Rattle.recording_engines.specs.Files.{AllOpened}
 use Rattle.recording_engines.specs.Imported.{AsksFlows}
 use Rattle.recording_engines.proofs.Blames.{blames_files, blames_joined, blames_output}
+use Rattle.recording_engines.proofs.Quiet.{if_refused, never_refused}
 use Rattle.recording_engines.proofs.FileFaults.{failed_one}
 use Rattle.recording_engines.proofs.Endings.{has_imported, has_stopped, imports, opened_fresh}
 use Rattle.recording_engines.proofs.Endings.{opened_ready, taken_of}
@@ -185,3 +186,15 @@ returns-in_err-print-clause-failures g c =
     (blames_output c.in_err-print.field-0.0 _ _ _ _ _ _ _ _ c.in_ok-said.ensures.failures
     (joined.0 ∙ c.in_ok-open_all.ensures.failures)
     (joined.1 ∙ c.in_ok-write_front.ensures.counted) c.in_err-print.ensures.failures)
+
+pub returns-in_err-open_all-clause-quiet : goal.returns-in_err-open_all-clause-quiet
+returns-in_err-open_all-clause-quiet g c =
+    let p = err_from_is_err_and c.from_residual-in_err-open_all.result
+    c.from_residual-in_err-open_all.ensures.1 in
+    rw (p.1, p.2) (if_refused c.in_err-open_all.field-0.0 refl)
+
+pub returns-in_err-print-clause-quiet : goal.returns-in_err-print-clause-quiet
+returns-in_err-print-clause-quiet g c =
+    let p = err_from_is_err_and c.from_residual-in_err-print.result
+    c.from_residual-in_err-print.ensures.1 in
+    rw (p.1, p.2) (never_refused c.in_err-print.field-0.0 _ c.in_err-print.ensures.unrefused)

@@ -3,6 +3,7 @@ use Rattle.std.specs.Prelude.{IfErr, IsTrue}
 use Rattle.std.specs.List.{zip}
 use Rattle.std.specs.Option.{option_copied}
 use Rattle.command_end.proofs.Outcomes.{vec_back}
+use Rattle.command_end.proofs.Quiet.{refused_both}
 use Rattle.devices.specs.Passed.{FileRead, file_ended, file_gave, file_took}
 use Rattle.devices.specs.declared.file_source.FileSource.{FileSource}
 use Rattle.recording_engines.specs.Files.{ended_by, gave_by}
@@ -45,10 +46,12 @@ returns-clause-refusal c =
     ⊎ (r ≡ OutputIsInput Import) × IsTrue c.args.self.now.is_input)))
     (sym c.settle.ensures.took)
     (rw c.as_mut_slice.ensures.value at c.import-outcome.ensures.refusal) in
-    subst (λ (ss : List (ImportFile _ FileSource)). IfErr c.import-outcome.result (λ f. OfRefusal f (λ r.
-    IsImportRefusal (option_copied c.args.self.now.wanted.a)
+    let said =
+    subst (λ (ss : List (ImportFile _ FileSource)). IfErr c.import-outcome.result
+    (λ f. OfRefusal f (λ r. IsImportRefusal (option_copied c.args.self.now.wanted.a)
     (option_copied c.args.self.now.wanted.b) (FileRead sdp sdp')
     (GivesText 65535 (file_gave sdp) (file_gave sdp') (file_ended sdp'))
     (WasRead (gave_by file_gave) (ended_by file_ended)) (zip items ss)
     (file_took c.args.self.now.out) (file_took c.settle.new.self) r
-    ⊎ (r ≡ OutputIsInput Import) × IsTrue c.args.self.now.is_input))) (sym back) settled
+    ⊎ (r ≡ OutputIsInput Import) × IsTrue c.args.self.now.is_input))) (sym back) settled in
+    refused_both _ _ c.import-outcome.result said c.import-outcome.ensures.quiet

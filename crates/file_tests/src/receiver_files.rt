@@ -1,0 +1,141 @@
+//! Receivers' files, written and read.
+use crate::checks::met;
+use capture_file::FileFault;
+use path_merge::Receiver;
+use receiver_file::{load_receiver, save_receiver};
+use st_format::memory::{MemorySink, MemorySource};
+use st_format::{Depth, Format, Sampling};
+use std::alloc::{AllocError, Allocator, Global};
+use std::process::Abort;
+use std::test::Fail;
+use test_kit::datagrams::{opened, takes_octets};
+use test_kit::small_format::{ANOTHER, UPPER, counted, counts, small};
+
+/// The file of the receiver of *contested*'s two datagrams.
+pub const FILE: &[u8] =
+    b"S20RCV01\0\x08\0\x04\0\x02\0\0\0\x3C\0\0\0\x01\x60\0\0\0\0\0\x01\0\0\x03\x84\
+    \x02\0\x02\x80\0\x80\x11\x01\x80\x12\x80\x13\0\0";
+
+/// Whether a receiver's file has just these octets.
+fn saves<A: Allocator>(alloc: Global, receiver: &Receiver<A>, file: &[u8]) -> bool {
+    match Vec::with_capacity(alloc, 4096) {
+        Ok(room) => {
+            let mut sink = MemorySink::new(room, 7, 0);
+            save_receiver(&mut sink, receiver).is_ok() && sink.held() == file
+        }
+        Err(_) => false,
+    }
+}
+
+/// Whether a receiver of F1, payload type 96, any source and window [900] that takes two datagrams
+/// is saved as the file.
+fn saves_both(alloc: Global, format: Format, first: &[u8], second: &[u8]) -> bool {
+    match opened(alloc, format) {
+        Ok(mut receiver) => {
+            takes_octets(&mut receiver, first)
+                && takes_octets(&mut receiver, second)
+                && saves(alloc, &receiver, FILE)
+        }
+        Err(_) => false,
+    }
+}
+
+/// What octets are read as, of which a call gives at most `piece`.
+fn load<A: Allocator + Copy>(
+    alloc: A,
+    global: Global,
+    octets: &[u8],
+    piece: usize,
+) -> Result<Result<Receiver<A>, FileFault>, AllocError> {
+    let octets = Vec::from_slice(global, octets)?;
+    let mut source = MemorySource::new(octets, piece.max(1), 0);
+    Ok(load_receiver(alloc, &mut source))
+}
+
+#[test]
+fn contested_state_file(rt: HostRuntime) -> Result<(), Fail> {
+    let format = small()?;
+    met(
+        &rt,
+        FILE.len() == 47 && saves_both(rt.alloc(), format, UPPER, ANOTHER),
+    );
+    met(&rt, saves_both(rt.alloc(), format, ANOTHER, UPPER));
+    Ok(())
+}
+
+/// Whether the file is read in such pieces, and written the same again.
+fn comes_again(alloc: Global, piece: usize) -> bool {
+    match load(alloc, alloc, FILE, piece) {
+        Ok(Ok(receiver)) => is_contested(&receiver) && saves(alloc, &receiver, FILE),
+        _ => false,
+    }
+}
+
+#[test]
+fn state_file_again(rt: HostRuntime) {
+    for piece in [1usize, 3, 4096] {
+        met(&rt, comes_again(rt.alloc(), piece));
+    }
+}
+
+/// Whether a receiver is the file's: *contested*'s, which keeps no refusal.
+fn is_contested<A: Allocator>(receiver: &Receiver<A>) -> bool {
+    counts(receiver, 900) == Some(counted(7, 8, 1)) && receiver.refusal_count() == 0
+}
+
+/// Whether the file is read as its receiver over an allocator, or `None` where memory is wanted.
+pub fn is_loaded<A: Allocator + Copy>(global: Global, alloc: A) -> Result<Option<bool>, Fail> {
+    match load(alloc, global, FILE, 3)? {
+        Ok(receiver) => Ok(Some(is_contested(&receiver) && saves(global, &receiver, FILE))),
+        Err(FileFault::NoMemory) => Ok(None),
+        Err(_) => Ok(Some(false)),
+    }
+}
+
+/// Whether the file of a receiver of source 7 says its depth, and is read and written again.
+fn tells_depth(alloc: Global, file: &[u8], bits: u8) -> bool {
+    match load(alloc, alloc, file, 3) {
+        Ok(Ok(again)) => {
+            file.len() > 9
+                && file[9] == bits
+                && again.ssrc() == Some(7)
+                && saves(alloc, &again, file)
+        }
+        _ => false,
+    }
+}
+
+/// The same of the file that a receiver is saved as.
+fn saved_tells_depth(alloc: Global, receiver: &Receiver, bits: u8) -> bool {
+    match Vec::with_capacity(alloc, 4096) {
+        Ok(room) => {
+            let mut sink = MemorySink::new(room, 7, 0);
+            save_receiver(&mut sink, receiver).is_ok() && tells_depth(alloc, sink.held(), bits)
+        }
+        Err(_) => false,
+    }
+}
+
+/// The same of a receiver of a format that took nothing.
+fn says_depth(alloc: Global, format: Format, bits: u8) -> bool {
+    match Receiver::open(alloc, format, 96, Some(7), &[900, 901]) {
+        Ok(receiver) => saved_tells_depth(alloc, &receiver, bits),
+        Err(_) => false,
+    }
+}
+
+const DEPTHS: [(Depth, u8); 4] = [
+    (Depth::D8, 8),
+    (Depth::D10, 10),
+    (Depth::D12, 12),
+    (Depth::D16, 16),
+];
+
+#[test]
+fn state_file_of_each_depth(rt: HostRuntime) -> Result<(), Fail> {
+    for (depth, bits) in &DEPTHS {
+        let format = Format::new(Sampling::Ycc422, *depth, 4, 2, 60, 1)?;
+        met(&rt, says_depth(rt.alloc(), format, *bits));
+    }
+    Ok(())
+}

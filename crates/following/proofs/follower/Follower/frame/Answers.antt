@@ -1,0 +1,47 @@
+use Rattle.std.proofs.Common.{List, ℕ, Option, Some, ap, sym, ◌∙◌, subst, arith, ◌≡◌, ◌<◌, length}
+use Rattle.std.specs.Prelude.{slice_get}
+use Rattle.st_format.specs.Member.{IsMember}
+use Rattle.st_format.specs.Raster.{Raster}
+use Rattle.path_merge.specs.Frames.{frame_at}
+use Rattle.path_merge.proofs.Windows.{below_get, frame_found, frame_none, get_some}
+use Rattle.path_merge.proofs.Windows.{not_member}
+use Rattle.following.specs.Follower.{Following}
+use Rattle.following.proofs.Rising.{different, rising_in}
+use Rattle.following.proofs.follower.Follower.frame.Goals as goal
+
+abbrev some_raster : Raster → Option Raster
+some_raster r = Some r
+
+pub returns-in-None-clause-frame : goal.returns-in-None-clause-frame
+returns-in-None-clause-frame g c =
+    let out =
+    subst (λ (w : List ℕ). IsMember c.args.timestamp w → ⊥) c.as_slice.ensures.value
+    (not_member c.args.timestamp c.as_slice.result.now c.in-None.ensures.none) in
+    sym (frame_none c.args.timestamp c.self.inside.window.items c.self.inside.frames.items out)
+    ∙ ap (λ (s : Following). frame_at s.opening.window s.frames c.args.timestamp) c.self.view_is
+
+pub index-requires : goal.index-requires
+index-requires g c =
+    let at =
+    subst (λ (w : List ℕ). slice_get w c.in-Some.place
+    ≡ Some c.args.timestamp) c.as_slice.ensures.value c.in-Some.ensures.found in
+    let lt : c.in-Some.place < length c.self.inside.window.items =
+    below_get c.args.timestamp c.in-Some.place c.self.inside.window.items at in
+    omega (arith, lt, c.self.invariant.0.one_each)
+
+pub returns-in-Some-clause-frame : goal.returns-in-Some-clause-frame
+returns-in-Some-clause-frame g c =
+    let at =
+    subst (λ (w : List ℕ). slice_get w c.in-Some.place
+    ≡ Some c.args.timestamp) c.as_slice.ensures.value c.in-Some.ensures.found in
+    let lt : c.in-Some.place < length c.self.inside.window.items =
+    below_get c.args.timestamp c.in-Some.place c.self.inside.window.items at in
+    ap (λ (r : Raster). some_raster r) c.index.ensures
+    ∙ sym
+    (get_some c.in-Some.place c.self.inside.frames.items c.index.result.now
+    (omega (arith, lt, c.self.invariant.0.one_each)))
+    ∙ sym
+    (frame_found c.args.timestamp c.in-Some.place c.self.inside.window.items
+    c.self.inside.frames.items (different c.self.inside.window.items (rising_in c.self.inside.gone c.self.inside.window.items c.self.invariant.0.rising)) at
+    c.self.invariant.0.one_each)
+    ∙ ap (λ (s : Following). frame_at s.opening.window s.frames c.args.timestamp) c.self.view_is

@@ -1,0 +1,7 @@
+use Rattle.std.proofs.Common.{◌≡◌, ◌+◌, drop}
+use Rattle.following.specs.Standing.{place_in}
+use Rattle.following.proofs.standing.place_of.Given as goal
+
+abbrev pub invariant-loop-place : goal.invariant-loop-place
+invariant-loop-place l =
+    place_in l.timestamp l.window ≡ l.place + place_in l.timestamp (drop l.place l.window)

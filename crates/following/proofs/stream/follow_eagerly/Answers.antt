@@ -1,0 +1,23 @@
+use Rattle.path_merge.specs.Took.{datagrams_since}
+use Rattle.following.specs.Stream.{not_shown}
+use Rattle.following.proofs.Driving.{turns_told}
+use Rattle.following.proofs.Turning.{early_turned}
+use Rattle.following.proofs.stream.follow_eagerly.Goals as goal
+
+pub returns-clause-stream : goal.returns-clause-stream
+returns-clause-stream g c o timed =
+    let came = g.S.DatagramSource.came in
+    let shown = g.K.FrameSink.shown in
+    early_turned c.args.follower.now c.take_turns.new.follower o timed
+    (datagrams_since (came c.args.source.now) (came c.take_turns.new.source))
+    (shown c.args.sink.now) (shown c.take_turns.new.sink)
+    (not_shown c.take_turns.result c.take_turns.new.frame) c.facts.ensures.size.some
+    c.take_turns.ensures.shown c.take_turns.ensures.state
+
+pub returns-clause-turns : goal.returns-clause-turns
+returns-clause-turns g c =
+    let came = g.S.DatagramSource.came in
+    let turns = g.S.DatagramSource.turns in
+    turns_told c.args.limit c.take_turns.result (turns c.args.source.now)
+    (turns c.take_turns.new.source) (came c.args.source.now) (came c.take_turns.new.source)
+    c.take_turns.ensures.took

@@ -1,0 +1,16 @@
+pub mod Serial
+pub mod Standing
+pub mod Admission
+pub mod Follower
+pub mod Spare
+pub mod Names
+pub mod Following
+pub mod Times
+pub mod Since
+pub mod Acts
+pub mod Pictures
+pub mod Taking
+pub mod Turned
+pub mod Stream
+pub mod Tally
+pub mod Memory

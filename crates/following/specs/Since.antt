@@ -1,0 +1,17 @@
+-- What came since a frame came in.
+use Rattle.std.specs.Prelude.{◌≡◌, ℕ, List, [], Option, None, Some}
+use Rattle.st_format.specs.Raster.{Raster}
+use Rattle.path_merge.specs.Frames.{frame_at}
+use Rattle.path_merge.specs.Opening.{Opening}
+use Rattle.following.specs.Follower.{Following}
+use Rattle.following.specs.Times.{frame_of}
+
+abbrev pub IsFrameOf : Option Raster → Opening → List (List ℕ) → ℕ → Type 0
+IsFrameOf None o datagrams timestamp = datagrams ≡ []
+IsFrameOf (Some r) o datagrams timestamp = r ≡ frame_of o datagrams timestamp
+
+-- A timestamp's frame is the Frames of these datagrams; where it isn't in, there are none. So it is
+-- of those that were taken since it came in.
+abbrev pub CameSince : Following → ℕ → List (List ℕ) → Type 0
+CameSince s timestamp datagrams =
+    IsFrameOf (frame_at s.opening.window s.frames timestamp) s.opening datagrams timestamp

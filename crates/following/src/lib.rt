@@ -1,0 +1,27 @@
+//! A receiver whose window follows the stream, for recordings and live streams whose timestamps
+//! aren't known beforehand: it begins with no frame, brings one in where a new timestamp comes, and
+//! hands them out oldest first.
+#![tactic(auto)]
+
+mod admitting;
+mod answer;
+mod fault;
+mod follower;
+pub mod laws;
+mod memory;
+mod missing;
+mod places;
+mod sink;
+mod standing;
+mod stream;
+mod tally;
+mod turn;
+
+pub use answer::Followed;
+pub use fault::{FollowFault, FrameFault, StreamFault};
+pub use follower::{Follower, MOST_FRAMES, TEN_SECONDS};
+pub use memory::{MemoryFrames, Shown};
+pub use sink::{FollowObserver, FrameSink, FrameSinkFault, Unobserved};
+pub use stream::{finish, follow, follow_eagerly};
+pub use tally::FollowTally;
+pub use turn::{TurnTaken, hand_out, take_turn};

@@ -1,0 +1,480 @@
+//! Two redundant paths (SMPTE ST 2022-7): receivers that are merged, windows that slide, and
+//! refusals that are kept, as tables of steps.
+ghost use Rattle.std.specs.Prelude.{◌≡◌, ◌↔◌, IsTrue};
+
+use crate::checks::{met, none_fails};
+use frame_assembly::{Counts, Frame};
+use path_merge::{OpenFault, OpenedUnlike, Receiver, Refusal, SlideFault, Taken};
+use refusing::Refusing;
+use rtp_header::RtpFault;
+use st_format::{Depth, Format, Path, Sampling};
+use std::alloc::{Allocator, Global};
+use std::mem;
+use std::process::Abort;
+use std::test::Fail;
+use test_kit::small_format::{ANOTHER, LOWER, UPPER, counts, small};
+
+/// The upper row with version 1.
+pub const OTHER_VERSION: &[u8] =
+    b"\x40\xE0\0\x01\0\0\x03\x84\0\0\0\x01\0\0\0\x08\0\0\0\0\x80\x10\x80\x11\x80\x12\x80\x13";
+
+/// The upper row at timestamp 901.
+const LATER: &[u8] =
+    b"\x80\xE0\0\x01\0\0\x03\x85\0\0\0\x01\0\0\0\x08\0\0\0\0\x80\x10\x80\x11\x80\x12\x80\x13";
+
+/// At timestamp 2400, two segments that disagree about one sample of the first two pixels.
+const DISAGREE: &[u8] = b"\x80\xE0\0\x01\0\0\x09\x60\0\0\0\x01\0\0\0\x04\0\0\x80\0\0\x04\0\0\0\0\
+    \x80\x10\x80\x11\x80\x20\x80\x11";
+
+/// The same at timestamp 900.
+const DISAGREE_FIRST: &[u8] = b"\x80\xE0\0\x01\0\0\x03\x84\0\0\0\x01\0\0\0\x04\0\0\x80\0\0\x04\0\0\
+    \0\0\x80\x10\x80\x11\x80\x20\x80\x11";
+
+const FIRST: Result<Taken, Refusal> = Ok(Taken::Kept(1));
+
+const SECOND: Result<Taken, Refusal> = Ok(Taken::Kept(2));
+
+const OUTSIDE: Result<Taken, Refusal> = Ok(Taken::Outside);
+
+const SHORT: Refusal = Refusal::Header(RtpFault::ShortHeader);
+
+const VERSION: Refusal = Refusal::Header(RtpFault::BadVersion);
+
+const NONE: Counts = Counts {
+    present: 0,
+    missing: 16,
+    contested: 0,
+};
+
+const HALF: Counts = Counts {
+    present: 8,
+    missing: 8,
+    contested: 0,
+};
+
+const WHOLE: Counts = Counts {
+    present: 16,
+    missing: 0,
+    contested: 0,
+};
+
+const DIFFERING: Counts = Counts {
+    present: 15,
+    missing: 0,
+    contested: 1,
+};
+
+/// What is done with the nearer one of two receivers, and what comes of it.
+enum Step {
+    /// It takes a datagram by a path, and answers so.
+    Take(Path, &'static [u8], Result<Taken, Refusal>),
+    /// The farther one, which was opened alike, is merged into it.
+    Merge,
+    /// Its window moves on to a timestamp.
+    Slide(u32, Result<u32, SlideFault>),
+    /// Its window doesn't move on for a frame of another format.
+    SlideUnlike(u32),
+    /// The frame that slid out is exchanged for the one at a place; or there is no such place.
+    Exchange(usize, bool),
+    /// The other one is the nearer one now.
+    Swap,
+    /// Its frame of a timestamp, where it has one.
+    Has(u32, Option<Counts>),
+    /// The frame that slid out.
+    Out(Counts),
+    Window(&'static [u32]),
+    /// It keeps so many refusals.
+    Refusals(usize),
+    /// The refusal at a place, where it keeps so many.
+    Refused(usize, Option<(Path, Refusal)>),
+}
+
+/// Two receivers of F1, payload type 96 and any source, and frames to slide out, the second of RGB.
+#[derive(Drop)]
+struct Pair<A: Allocator = Global> {
+    near: Receiver<A>,
+    far: Receiver<A>,
+    out: Frame<A>,
+    unlike: Frame<A>,
+}
+
+impl<A: Allocator + Copy> Pair<A> {
+    /// Receivers of F1, and frames of F1 and of RGB.
+    fn open(alloc: A, window: &[u32]) -> Result<Pair<A>, Fail> {
+        let unlike = Format::new(Sampling::Rgb, Depth::D8, 4, 2, 60, 1)?;
+        Ok(Pair::of(alloc, small()?, unlike, window)?)
+    }
+
+    /// Receivers and a frame of a format, and a frame of another.
+    fn of(alloc: A, format: Format, unlike: Format, window: &[u32]) -> Result<Pair<A>, OpenFault> {
+        Ok(Pair {
+            near: Receiver::open(alloc, format, 96, None, window)?,
+            far: Receiver::open(alloc, format, 96, None, window)?,
+            out: Frame::new(alloc, format)?,
+            unlike: Frame::new(alloc, unlike)?,
+        })
+    }
+}
+
+impl<A: Allocator> Pair<A> {
+    /// Whether a step does what it says.
+    fn follows(&mut self, step: &Step) -> bool {
+        match step {
+            Step::Take(path, octets, answer) => self.near.take(*path, *octets) == *answer,
+            Step::Merge => self.near.merge(&self.far) == Ok(()),
+            Step::Slide(next, answer) => self.near.slide(*next, &mut self.out) == *answer,
+            Step::SlideUnlike(next) => {
+                self.near.slide(*next, &mut self.unlike) == Err(SlideFault::OtherFormat)
+            }
+            Step::Exchange(place, is_one) => {
+                exchanged(&mut self.near, *place, &mut self.out) == *is_one
+            }
+            Step::Swap => {
+                mem::swap(&mut self.near, &mut self.far);
+                true
+            }
+            _ => self.shows(step),
+        }
+    }
+
+    /// Where a step only looks.
+    fn shows(&self, step: &Step) -> bool {
+        match step {
+            Step::Has(timestamp, wanted) => counts(&self.near, *timestamp) == *wanted,
+            Step::Out(wanted) => self.out.counts() == *wanted,
+            Step::Window(window) => self.near.window() == *window,
+            Step::Refusals(count) => self.near.refusal_count() == *count,
+            Step::Refused(place, wanted) => refusal(&self.near, *place) == *wanted,
+            _ => false,
+        }
+    }
+
+    /// Whether each step does what it says.
+    fn follows_all(&mut self, steps: &[Step]) -> bool {
+        self.fails_at(steps).is_none()
+    }
+
+    /// The place of the first step that isn't followed.
+    fn fails_at(&mut self, steps: &[Step]) -> Option<u64> {
+        let mut place = 0u64;
+        for step in steps {
+            if !self.follows(step) {
+                return Some(place);
+            }
+            place = place.wrapping_add(1);
+        }
+        None
+    }
+}
+
+/// Exchanges a frame of a receiver, where there is such a place and the formats are one.
+fn exchanged<A: Allocator>(receiver: &mut Receiver<A>, place: usize, frame: &mut Frame<A>) -> bool {
+    let can_be = place < receiver.window().len() && receiver.format().same(&frame.format());
+    if can_be {
+        receiver.set_frame(place, frame);
+    }
+    can_be
+}
+
+/// A refusal that is kept, or `None` where there are not so many.
+fn refusal<A: Allocator>(receiver: &Receiver<A>, place: usize) -> Option<(Path, Refusal)> {
+    if place < receiver.refusal_count() {
+        Some(receiver.refusal_at(place))
+    } else {
+        None
+    }
+}
+
+/// Two receivers of a window follow each of these steps.
+fn follow(rt: &(impl Abort + AllocGlobal), window: &[u32], steps: &[Step]) -> Result<(), Fail> {
+    let mut pair = Pair::open(rt.alloc(), window)?;
+    none_fails(rt, pair.fails_at(steps));
+    Ok(())
+}
+
+/// *merge-two-halves*: the second one's refusal stays its own.
+const MERGE: [Step; 13] = [
+    Step::Take(Path::A, UPPER, FIRST),
+    Step::Swap,
+    Step::Take(Path::B, LOWER, SECOND),
+    Step::Take(Path::B, b"", Err(SHORT)),
+    Step::Swap,
+    Step::Merge,
+    Step::Has(900, Some(WHOLE)),
+    Step::Refusals(0),
+    Step::Merge,
+    Step::Has(900, Some(WHOLE)),
+    Step::Swap,
+    Step::Has(900, Some(HALF)),
+    Step::Refusals(1),
+];
+
+#[test]
+fn merge_two_halves(rt: HostRuntime) -> Result<(), Fail> {
+    follow(&rt, &[900], &MERGE)
+}
+
+/// *outside-and-slide*, and a frame of another format.
+const SLIDE: [Step; 10] = [
+    Step::Take(Path::A, LATER, OUTSIDE),
+    Step::Take(Path::A, UPPER, FIRST),
+    Step::Slide(900, Err(SlideFault::InWindow)),
+    Step::SlideUnlike(2400),
+    Step::Slide(2400, Ok(900)),
+    Step::Out(HALF),
+    Step::Take(Path::A, UPPER, OUTSIDE),
+    Step::Window(&[2400]),
+    Step::Has(2400, Some(NONE)),
+    Step::Has(900, None),
+];
+
+#[test]
+fn outside_and_slide(rt: HostRuntime) -> Result<(), Fail> {
+    follow(&rt, &[900], &SLIDE)
+}
+
+/// Whether receivers and frames over an allocator follow *outside-and-slide*, or `None` where
+/// memory is wanted for them.
+pub fn is_slid<A: Allocator + Copy>(alloc: A) -> Result<Option<bool>, Fail> {
+    let unlike = Format::new(Sampling::Rgb, Depth::D8, 4, 2, 60, 1)?;
+    match Pair::of(alloc, small()?, unlike, &[900]) {
+        Ok(mut pair) => Ok(Some(pair.follows_all(&SLIDE))),
+        Err(OpenFault::NoMemory) => Ok(None),
+        Err(_) => Ok(Some(false)),
+    }
+}
+
+/// *slide*: the other frames of a window stay when it slides.
+const SLIDE_OF_THREE: [Step; 8] = [
+    Step::Take(Path::A, UPPER, FIRST),
+    Step::Slide(3900, Ok(1)),
+    Step::Window(&[900, 2400, 3900]),
+    Step::Out(NONE),
+    Step::Has(900, Some(HALF)),
+    Step::Slide(5400, Ok(900)),
+    Step::Out(HALF),
+    Step::Has(5400, Some(NONE)),
+];
+
+#[test]
+fn slide_of_three(rt: HostRuntime) -> Result<(), Fail> {
+    follow(&rt, &[1, 900, 2400], &SLIDE_OF_THREE)
+}
+
+const EXCHANGES: [Step; 7] = [
+    Step::Take(Path::A, UPPER, FIRST),
+    Step::Exchange(1, true),
+    Step::Out(HALF),
+    Step::Has(900, Some(NONE)),
+    Step::Exchange(0, true),
+    Step::Has(1, Some(HALF)),
+    Step::Exchange(2, false),
+];
+
+#[test]
+fn set_frames(rt: HostRuntime) -> Result<(), Fail> {
+    follow(&rt, &[1, 900], &EXCHANGES)
+}
+
+/// A merge of what differs, a slide, and a datagram that disagrees with itself.
+const WITHOUT_MEMORY: [Step; 17] = [
+    Step::Take(Path::A, UPPER, FIRST),
+    Step::Take(Path::B, UPPER, FIRST),
+    Step::Take(Path::A, UPPER, FIRST),
+    Step::Has(900, Some(HALF)),
+    Step::Swap,
+    Step::Take(Path::B, ANOTHER, FIRST),
+    Step::Take(Path::B, LOWER, SECOND),
+    Step::Swap,
+    Step::Merge,
+    Step::Has(900, Some(DIFFERING)),
+    Step::Take(Path::A, b"", Err(SHORT)),
+    Step::Slide(900, Err(SlideFault::InWindow)),
+    Step::Slide(2400, Ok(900)),
+    Step::Out(DIFFERING),
+    Step::Take(Path::B, DISAGREE, FIRST),
+    Step::Has(
+        2400,
+        Some(Counts {
+            present: 3,
+            missing: 12,
+            contested: 1,
+        }),
+    ),
+    Step::Refusals(1),
+];
+
+/// *both-paths-and-a-repeat*.
+const BOTH_PATHS: [Step; 4] = [
+    Step::Take(Path::A, UPPER, FIRST),
+    Step::Take(Path::B, UPPER, FIRST),
+    Step::Take(Path::A, UPPER, FIRST),
+    Step::Has(900, Some(HALF)),
+];
+
+/// *contested*: the first datagram once more changes nothing.
+const CONTESTED: [Step; 5] = [
+    Step::Take(Path::A, UPPER, FIRST),
+    Step::Take(Path::A, ANOTHER, FIRST),
+    Step::Has(900, Some(HALF_CONTESTED)),
+    Step::Take(Path::A, UPPER, FIRST),
+    Step::Has(900, Some(HALF_CONTESTED)),
+];
+
+const HALF_CONTESTED: Counts = Counts {
+    present: 7,
+    missing: 8,
+    contested: 1,
+};
+
+/// *segments-that-disagree*: two segments of one datagram differ.
+const SEGMENTS: [Step; 2] = [
+    Step::Take(Path::A, DISAGREE_FIRST, FIRST),
+    Step::Has(
+        900,
+        Some(Counts {
+            present: 3,
+            missing: 12,
+            contested: 1,
+        }),
+    ),
+];
+
+/// Whether receivers and frames that are made follow steps, where the next growth is refused, and
+/// whether none is asked for.
+fn follows_without_growth(refusing: &Refusing<Global>, steps: &[Step]) -> Result<bool, Fail> {
+    refusing.refuse(0);
+    let mut pair = Pair::open(refusing, &[900])?;
+    refusing.refuse(1);
+    Ok(pair.follows_all(steps) && !refusing.was_met())
+}
+
+/// With two receivers and frames made, `take`, `merge` and `slide` ask for no memory.
+#[test]
+fn no_growth(rt: HostRuntime) -> Result<(), Fail> {
+    let refusing = Refusing::new(rt.alloc(), 0);
+    for steps in [
+        BOTH_PATHS.as_slice(),
+        CONTESTED.as_slice(),
+        SEGMENTS.as_slice(),
+        SLIDE.as_slice(),
+        MERGE.as_slice(),
+        WITHOUT_MEMORY.as_slice(),
+    ] {
+        met(&rt, follows_without_growth(&refusing, steps)?);
+    }
+    Ok(())
+}
+
+/// A receiver that refused nothing yet refuses an empty datagram, by A.
+const REFUSES: [Step; 3] = [
+    Step::Refused(0, None),
+    Step::Take(Path::A, b"", Err(SHORT)),
+    Step::Refused(0, Some((Path::A, SHORT))),
+];
+
+/// One more, by B; what is kept isn't among them.
+const REFUSES_MORE: [Step; 2] = [
+    Step::Take(Path::B, OTHER_VERSION, Err(VERSION)),
+    Step::Take(Path::A, UPPER, FIRST),
+];
+
+/// The last 64 are by B.
+const KEEPS: [Step; 3] = [
+    Step::Refused(0, Some((Path::B, VERSION))),
+    Step::Refused(63, Some((Path::B, VERSION))),
+    Step::Has(900, Some(HALF)),
+];
+
+/// Refuses one datagram more, and tells whether so many refusals are kept then.
+fn keeps(pair: &mut Pair, count: usize) -> bool {
+    pair.follows_all(&REFUSES_MORE) && pair.near.refusal_count() == count
+}
+
+/// Refuses 64 datagrams more, of which the last is the first that is kept in place of another.
+fn keeps_each(pair: &mut Pair) -> bool {
+    let mut is_kept = true;
+    for before in 1..65usize {
+        is_kept &= keeps(pair, (before + 1).min(64));
+    }
+    is_kept
+}
+
+/// The last 64 refusals stay, each with its path.
+fn keeps_refusals(pair: &mut Pair) -> bool {
+    pair.follows_all(&REFUSES) && keeps_each(pair) && pair.follows_all(&KEEPS)
+}
+
+#[test]
+fn last_refusals(rt: HostRuntime) -> Result<(), Fail> {
+    let mut pair = Pair::open(rt.alloc(), &[900])?;
+    met(&rt, keeps_refusals(&mut pair));
+    Ok(())
+}
+
+/// Payload type, source, width and window, of which one is otherwise than 96, any, 4 and [900,
+/// 2400].
+const OTHERWISE: [(u8, Option<u32>, u32, &[u32]); 6] = [
+    (96, None, 4, &[900, 2401]),
+    (96, None, 4, &[2400, 900]),
+    (96, None, 4, &[900]),
+    (96, Some(1), 4, &[900, 2400]),
+    (97, None, 4, &[900, 2400]),
+    (96, None, 6, &[900, 2400]),
+];
+
+/// Whether receivers that were opened otherwise aren't merged into this one.
+fn merges_none(alloc: Global, left: &mut Receiver) -> Result<bool, Fail> {
+    for (payload_type, source, width, window) in &OTHERWISE {
+        let format = Format::new(Sampling::Ycc422, Depth::D8, *width, 2, 60, 1)?;
+        let payload_type = (*payload_type).min(127);
+        let other = Receiver::open(alloc, format, payload_type, *source, *window)?;
+        if left.merge(&other) != Err(OpenedUnlike) {
+            return Ok(false);
+        }
+    }
+    Ok(OpenedUnlike.number() == 1 && counts(left, 900) == Some(NONE))
+}
+
+#[test]
+fn opened_unlike(rt: HostRuntime) -> Result<(), Fail> {
+    let mut left = Receiver::open(rt.alloc(), small()?, 96, None, &[900, 2400])?;
+    met(&rt, merges_none(rt.alloc(), &mut left)?);
+    Ok(())
+}
+
+/// *bad-windows*: none, 17 timestamps, and one that stands twice.
+const BAD_WINDOWS: [(&[u32], OpenFault); 4] = [
+    (&[], OpenFault::BadWindow),
+    (
+        &[1, 2, 3, 4, 5, 6, 7, 8, 9, 10, 11, 12, 13, 14, 15, 16, 17],
+        OpenFault::BadWindow,
+    ),
+    (&[900, 900], OpenFault::DoubleTimestamp),
+    (&[1, 2, 3, 1], OpenFault::DoubleTimestamp),
+];
+
+/// Whether a receiver is opened with none of these windows.
+fn opens_none(alloc: Global) -> Result<bool, Fail> {
+    for (window, fault) in &BAD_WINDOWS {
+        if Receiver::open(alloc, small()?, 96, None, *window).err() != Some(*fault) {
+            return Ok(false);
+        }
+    }
+    Ok(true)
+}
+
+/// 16 timestamps are taken.
+const SIXTEEN: [u32; 16] = [1, 2, 3, 4, 5, 6, 7, 8, 9, 10, 11, 12, 13, 14, 15, 16];
+
+const OPENED: [Step; 3] = [
+    Step::Window(&SIXTEEN),
+    Step::Has(16, Some(NONE)),
+    Step::Has(17, None),
+];
+
+#[test]
+fn bad_windows(rt: HostRuntime) -> Result<(), Fail> {
+    met(&rt, opens_none(rt.alloc())?);
+    follow(&rt, &SIXTEEN, &OPENED)
+}
