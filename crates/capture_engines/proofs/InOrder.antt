@@ -1,7 +1,7 @@
 -- Files that are taken one after the other.
 use Rattle.std.proofs.Common.{◌≡◌, ℕ, ◌+◌, List, [], ◌∷◌, ◌++◌, length, Option, None, Some, Result}
 use Rattle.std.proofs.Common.{refl, sym, ap, subst, ◌∙◌, arith, append_assoc}
-use Rattle.std.proofs.Common.{zero, suc, ◌≤◌, ◌<◌, append-nil, drop, get_or, set, take}
+use Rattle.std.proofs.Common.{zero, suc, ◌≤◌, append-nil, drop, take}
 use Rattle.std.proofs.lemmas.List.{take_all}
 use Rattle.capture_engines.specs.Sent.{FirstIs}
 use Rattle.capture_engines.proofs.OneOf.{zip_drop}

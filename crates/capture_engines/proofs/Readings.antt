@@ -26,7 +26,7 @@ use Rattle.capture_engines.specs.Stopping.{IsReadingStop}
 use Rattle.capture_engines.specs.declared.intake.Intake.{Intake}
 use Rattle.capture_engines.specs.declared.receiving.Asked.{Asked}
 use Rattle.capture_engines.specs.Files.{fault_by, file_datagrams, flows_in, octets_of}
-use Rattle.capture_engines.specs.Taking.{FileGoes, Holding, RecordsGo, Stands, TakesRecords}
+use Rattle.capture_engines.specs.Taking.{FileGoes, Holding, RecordsGo, TakesRecords}
 use Rattle.capture_engines.specs.Taking.{said_behind, said_by}
 use Rattle.capture_engines.specs.declared.way.Way.{Way}
 

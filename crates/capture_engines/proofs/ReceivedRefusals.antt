@@ -1,14 +1,13 @@
 -- Which refusal ends a run of `receive`.
 use Rattle.std.proofs.Common.{◌≡◌, ℕ, zero, suc, ◌≤◌, ◌⊎◌, inl, inr, List, [], ◌∷◌, ◌++◌, length}
-use Rattle.std.proofs.Common.{Option, None, Some, Result, Ok, Err, refl, sym, ap, subst, ◌∙◌, arith}
+use Rattle.std.proofs.Common.{Option, None, Result, Ok, Err, refl, sym, ap, subst, ◌∙◌, arith}
 use Rattle.std.proofs.Common.{Bool, cond, drop, true, false, append-nil}
-use Rattle.std.specs.Prelude.{IfErr, IsErr, IsSome, OnOk}
+use Rattle.std.specs.Prelude.{IfErr, IsSome}
 use Rattle.flow.specs.declared.flows.Flows.{Flows}
 use Rattle.media_file.specs.Fronts.{front_at}
 use Rattle.media_file.specs.Records.{Entry, records_text}
 use Rattle.media_file.specs.declared.fault.FileFault.{FileFault}
 use Rattle.media_file.specs.declared.fault.FileFault.TheVariants as file
-use Rattle.pcap_file.specs.declared.fault.RecordingFault.{RecordingFault}
 use Rattle.pcap_file.specs.declared.fault.RecordingFault.TheVariants as recording
 use Rattle.recording_reader.specs.FileReader.{FileReader, HasGivenFile, HasGivenRecords, IsKnownBy}
 use Rattle.recording_reader.specs.Files.{AreFirst, HasFirstRecords, HasWrongPart, HaveFileRecords}
@@ -17,10 +16,9 @@ use Rattle.recording_reader.specs.Files.{text_of_file}
 use Rattle.recording_reader.specs.declared.fault.ReadingFault.{ReadingFault}
 use Rattle.recording_reader.specs.declared.fault.ReadingFault.TheVariants.{Capture, Recording}
 use Rattle.recording_reader.specs.declared.way.Standing.{Standing}
-use Rattle.recording_reader.specs.declared.way.Standing.TheVariants.{Reads, Ended, Failed}
-use Rattle.run_outcome.specs.LowerFaults.{capture_fault}
+use Rattle.recording_reader.specs.declared.way.Standing.TheVariants.{Reads, Failed}
 use Rattle.run_outcome.specs.Refusing.{OfRefusal}
-use Rattle.run_outcome.proofs.Refusals.{if_err_map, of_refusal_map}
+use Rattle.run_outcome.proofs.Refusals.{of_refusal_map}
 use Rattle.run_outcome.specs.declared.fault.Fault.{Fault}
 use Rattle.run_outcome.specs.declared.refusal.Refusal.{Refusal}
 use Rattle.run_outcome.specs.declared.refusal.Refusal.TheVariants as why
@@ -28,9 +26,8 @@ use Rattle.recording_reader.specs.Kinds.{is_recording}
 use Rattle.st_format.specs.History.{IsRead, since}
 use Rattle.capture_engines.specs.Files.{HasFileText, fault_by, first_way, flows_in, other_ways}
 use Rattle.capture_engines.specs.Files.{way_at}
-use Rattle.capture_engines.specs.Received.{FirstFileRefuses, HasCaptureFault, HasManyRecords}
-use Rattle.capture_engines.specs.Received.{IsCaptureBy, IsFileOpenedRefusal, IsFilesRefusal}
-use Rattle.capture_engines.specs.Received.{IsFrontRefusal}
+use Rattle.capture_engines.specs.Received.{FirstFileRefuses, HasCaptureFault, IsCaptureBy}
+use Rattle.capture_engines.specs.Received.{IsFileOpenedRefusal, IsFilesRefusal, IsFrontRefusal}
 use Rattle.capture_engines.specs.Received.{IsTakeRefusal, OneFileIs, StopsFile}
 use Rattle.capture_engines.specs.Sent.{FirstIs}
 use Rattle.capture_engines.specs.Stopping.{IsReadingStop}

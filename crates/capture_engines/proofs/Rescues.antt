@@ -1,9 +1,9 @@
 -- Files that are taken up to a fault.
-use Rattle.std.proofs.Common.{◌≡◌, ℕ, zero, suc, ◌⊎◌, inl, inr, List, [], ◌∷◌, ◌++◌, Option}
+use Rattle.std.proofs.Common.{◌≡◌, ℕ, zero, suc, inl, inr, List, [], ◌∷◌, ◌++◌, Option}
 use Rattle.std.proofs.Common.{None, Some, refl, sym, ap, subst, ◌∙◌, append-nil, drop, length}
 use Rattle.std.proofs.Common.{take, Bool}
 use Rattle.std.specs.List.{zip}
-use Rattle.std.specs.Prelude.{IfErr, MatchOption, OnErr, OnOk, Result, Ok, Err, ⊤}
+use Rattle.std.specs.Prelude.{IfErr, MatchOption, OnOk, Result, Ok, Err, ⊤}
 use Rattle.flow.specs.declared.flows.Flows.{Flows}
 use Rattle.media_file.specs.StateFile.{state_text}
 use Rattle.receiver_file.specs.Saved.{kept_of}

@@ -1,16 +1,16 @@
 -- What was taken of one file.
-use Rattle.std.proofs.Common.{◌≡◌, ◌⊎◌, inl, inr, ℕ, ◌+◌, List, [], ◌∷◌, ◌++◌, length, map}
-use Rattle.std.proofs.Common.{Option, None, Some, Result, Ok, Err, refl, sym, ap, subst, ◌∙◌, arith}
+use Rattle.std.proofs.Common.{◌≡◌, ℕ, ◌+◌, List, [], ◌∷◌, ◌++◌, length, map}
+use Rattle.std.proofs.Common.{Option, None, Some, Result, refl, sym, ap, subst, ◌∙◌, arith}
 use Rattle.std.proofs.Common.{append-nil, append_assoc, length-append}
 use Rattle.std.proofs.lemmas.List.{map-append}
-use Rattle.std.specs.Prelude.{IsErr, OnOk, option_to_list}
+use Rattle.std.specs.Prelude.{option_to_list}
 use Rattle.media_file.specs.Records.{Entry}
 use Rattle.path_merge.specs.Answers.{taken_at}
 use Rattle.path_merge.specs.Frames.{Holds}
 use Rattle.path_merge.specs.Opening.{Opening}
 use Rattle.path_merge.specs.declared.answer.Refusal.{Refusal}
 use Rattle.path_merge.specs.declared.answer.Taken.{Taken as Answer}
-use Rattle.recording_reader.specs.FileReader.{FileReader, FindsOne, octets_at_hand, record_seen}
+use Rattle.recording_reader.specs.FileReader.{FileReader, FindsOne, record_seen}
 use Rattle.recording_reader.specs.declared.room.RecordView.{RecordView}
 use Rattle.capture_engines.specs.Files.{octets_of}
 use Rattle.capture_engines.specs.Tallied.{Tallies, TalliesMore, fitting}

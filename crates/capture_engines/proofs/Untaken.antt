@@ -1,7 +1,7 @@
 -- What begins as a recording is no capture.
-use Rattle.std.proofs.Common.{◌≡◌, ◌≢◌, ◌∙◌, ℕ, ◌+◌, ◌<◌, ◌≤◌, ◌⊎◌, inl, inr, List, [], ◌∷◌, ◌++◌}
-use Rattle.std.proofs.Common.{length, take, drop, Bool, true, false, cond, Option, None, Some, Result}
-use Rattle.std.proofs.Common.{Ok, Err, refl, sym, ap, subst, arith, append_assoc, append-nil}
+use Rattle.std.proofs.Common.{◌≡◌, ◌≢◌, ◌∙◌, ℕ, ◌<◌, ◌≤◌, ◌⊎◌, inl, inr, List, [], ◌∷◌, ◌++◌}
+use Rattle.std.proofs.Common.{length, take, drop, Bool, true, false, cond, None, Result}
+use Rattle.std.proofs.Common.{Err, refl, sym, ap, subst, arith, append_assoc, append-nil}
 use Rattle.std.proofs.Common.{length-append}
 use Rattle.recording_reader.specs.Opening.{HasGivenFour}
 use Rattle.st_format.specs.History.{IsRead, since}
@@ -9,8 +9,6 @@ use Rattle.st_format.proofs.Histories.{since_is}
 use Rattle.std.proofs.lemmas.Bool.{cases_lt}
 use Rattle.std.proofs.lemmas.List.{length-drop, length-take-le, take-append-drop}
 use Rattle.media_file.specs.Fronts.{capture_name, front_at, kind_at, text_by}
-use Rattle.media_file.specs.KindFaults.{HasOtherName}
-use Rattle.media_file.specs.Records.{Entry}
 use Rattle.media_file.specs.declared.fault.FileFault.{FileFault}
 use Rattle.media_file.specs.declared.fault.FileFault.TheVariants.{BadName, Truncated}
 use Rattle.media_file.specs.declared.front.Version.{Version}
