@@ -49,7 +49,8 @@ pub fn record_of<'a>(
     match packet_datagram(&packet.head, octets) {
         Ok(datagram) => {
             let port = datagram.destination_port;
-            match flows.path_of(datagram.source, datagram.destination, port) {
+            let interface = &packet.head.interface;
+            match flows.path_of(interface, datagram.source, datagram.destination, port) {
                 Some(path) => Ok(RecordView {
                     path,
                     octets: datagram.payload,
