@@ -6,6 +6,7 @@ use crate::datagram_reading::{self, Said};
 use crate::hostile::write;
 use crate::reading::{self, Reading, Recorded};
 use crate::text::Text;
+use interface_name::InterfaceName;
 use pcap_file::{DatagramView, NoDatagram, Packet, next_packet, open_recording, packet_datagram};
 use st_format::memory::MemorySource;
 use std::alloc::Global;
@@ -73,6 +74,7 @@ fn is_recorded(packet: &Packet, buf: &[u8], wanted: &Recorded<'_>, totals: &mut 
         && head.time == wanted.time
         && u64::from(head.link) == wanted.link
         && u64::from(head.original) == wanted.original
+        && head.interface == wanted.name.and_then(InterfaceName::read)
         && is_said(&found, &said)
 }
 

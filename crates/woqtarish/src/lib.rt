@@ -108,6 +108,7 @@ pub mod files {
 /// of the two paths; and a reader that gives the datagrams of these, or of a capture, to a receiver.
 pub mod recordings {
     pub use flow::{Flow, Flows, read_flow};
+    pub use interface_name::InterfaceName;
     pub use pcap_file::{
         ByteOrder, DatagramView, Envelope, Envelope6, HEADS, HEADS6, INTERFACES, Interface,
         IpVersion, Layout, Link, LinkView, NoDatagram, PCAP_HEAD, Packet, PacketHead, PacketView,
