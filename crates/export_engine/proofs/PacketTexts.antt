@@ -1,7 +1,7 @@
 -- The texts of packets, and the texts of flows.
 use Rattle.std.proofs.Common.{◌≡◌, ℕ, ◌≤◌, ◌++◌, List, length, take, drop, sym, ap, ◌∙◌, arith}
-use Rattle.std.proofs.Common.{Option, Some, None, refl, subst}
-use Rattle.std.specs.Prelude.{MatchOption}
+use Rattle.std.proofs.Common.{Option, Some, None, refl, subst, true, false}
+use Rattle.std.specs.Prelude.{MatchOption, is_some}
 use Rattle.std.proofs.lemmas.List.{length-append, length-drop, take-append-le, take_all}
 use Rattle.std.specs.declared.net.ip_addr.IpAddr.{IpAddr}
 use Rattle.media_file.specs.Records.{Entry}
@@ -76,11 +76,19 @@ no_envelope text f found none e is =
     clash : {x : IpAddr} → None ≡ Some x → ⊥
     clash same = cc
 
--- the flow that was found names an interface
+-- the flow that was found names an interface, or it names none
 pub no_interface : (text : List ℕ) (f : Flow) → Finds IsFlowText text (Some f)
-    → (f.interface ≡ None → ⊥) → (e : IpEnvelope) → IsEnvelopeText text e → ⊥
+    → is_some f.interface ≡ true → (e : IpEnvelope) → IsEnvelopeText text e → ⊥
 no_interface text f found named e is =
-    named (ap (λ (g : Flow). g.interface) (the_flow text f found e is))
+    clash (subst (λ (n : Option InterfaceName). is_some n ≡ true)
+    (ap (λ (g : Flow). g.interface) (the_flow text f found e is)) named)
+  where
+    clash : false ≡ true → ⊥
+    clash same = cc
+
+pub anywhere : (n : Option InterfaceName) → is_some n ≡ false → n ≡ None
+anywhere None e = refl
+anywhere (Some n) e = absurd cc
 
 -- what is made of the flow that was found
 abbrev IsMade : List ℕ → Option IpEnvelope → Type 0
@@ -89,7 +97,7 @@ IsMade text r = MatchOption r ((e : IpEnvelope) → IsEnvelopeText text e → �
 pub envelope_found : (text : List ℕ) (f : Flow) (a : IpAddr) (r : Option IpEnvelope)
     → Finds IsFlowText text (Some f) → f.interface ≡ None → f.address ≡ Some a
     → r ≡ envelope_from f.source a f.port → IsMade text r
-envelope_found text f a None found anywhere named is = λ e h.
+envelope_found text f a None found unnamed named is = λ e h.
     let same = the_flow text f found e h in
     let at : a ≡ h.address =
     inner a h.address (sym named ∙ ap (λ (g : Flow). g.address) same) in
@@ -101,7 +109,7 @@ envelope_found text f a None found anywhere named is = λ e h.
   where
     clash : {x : IpEnvelope} → None ≡ Some x → ⊥
     clash same = cc
-envelope_found text f a (Some e) found anywhere named is = record {
+envelope_found text f a (Some e) found unnamed named is = record {
   source = f.source;
   address = a;
   port = f.port;
@@ -109,6 +117,6 @@ envelope_found text f a (Some e) found anywhere named is = record {
       subst (λ (o : Option IpAddr). IsSourceText text f.source (o, f.port)) named
       (subst
       (λ (n : Option InterfaceName). IsInterfaceText text n (f.source, (f.address, f.port)))
-      anywhere ((found f).1 refl));
+      unnamed ((found f).1 refl));
   envelope = sym is;
 }

@@ -210,7 +210,8 @@ fn offset(value: Option<&[u8]>, order: Order) -> Option<i64> {
 }
 
 /// The text that an option says: up to the first zero.
-fn text(value: &[u8]) -> &[u8] {
+fn text(value: Option<&[u8]>) -> Option<&[u8]> {
+    let value = value?;
     let mut end = 0usize;
     for octet in value {
         if *octet == 0 {
@@ -218,7 +219,7 @@ fn text(value: &[u8]) -> &[u8] {
         }
         end = end.wrapping_add(1);
     }
-    value.get(..end).unwrap_or(value)
+    value.get(..end)
 }
 
 /// The interface that a body describes.
@@ -232,7 +233,7 @@ fn described(body: &[u8], order: Order) -> Result<Interface<'_>, u8> {
         snap: long(body, 4, order),
         per_second,
         offset,
-        name: name.map(text),
+        name: text(name),
     })
 }
 

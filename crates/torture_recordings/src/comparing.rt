@@ -56,6 +56,11 @@ fn is_said(found: &Result<DatagramView<'_>, NoDatagram>, wanted: &Result<Said<'_
     }
 }
 
+/// The name that a text is, where there is a text.
+fn name_of(text: Option<&[u8]>) -> Option<InterfaceName> {
+    InterfaceName::read(text?)
+}
+
 /// Whether a packet, its octets in a buffer, is the one that is wanted, and its datagram too.
 fn is_recorded(packet: &Packet, buf: &[u8], wanted: &Recorded<'_>, totals: &mut Totals) -> bool {
     let head = &packet.head;
@@ -74,7 +79,7 @@ fn is_recorded(packet: &Packet, buf: &[u8], wanted: &Recorded<'_>, totals: &mut 
         && head.time == wanted.time
         && u64::from(head.link) == wanted.link
         && u64::from(head.original) == wanted.original
-        && head.interface == wanted.name.and_then(InterfaceName::read)
+        && head.interface == name_of(wanted.name)
         && is_said(&found, &said)
 }
 
