@@ -8,14 +8,14 @@
 //! - All of a sender's pictures, in order, with nothing missing: `sender_pictures`; where some
 //!   datagrams were lost, what is there is the sender's: `sender_cells`.
 //! - Where none was late or too far ahead, nothing was lost, also where frames went early:
-//!   `none_lost`.
+//!   `none_lost`. A tally of the answers tells whether any was: `none_tallied`.
 //! - Whatever comes, strays and late ones too: what is handed out is of those that were neither
 //!   late nor too far ahead, `kept_alone`, and each frame is of some datagrams, `each_frame`.
 //! - A frame that goes early is complete: `early`.
 //! - Turn by turn is as at once: `in_turns`.
 //! - What is handed out rises, whatever comes: `rising`.
 ghost use Rattle.std.specs.Prelude.{◌≡◌, ◌↔◌, ◌⊎◌, ◌++◌, ◌^◌, ◌<◌, ℕ, Bool, IsTrue, List, None};
-ghost use Rattle.std.specs.Prelude.{false, map};
+ghost use Rattle.std.specs.Prelude.{false, fold, map, Result};
 ghost use Rattle.st_format.specs.declared.cell.Cell.TheVariants.{Contested};
 ghost use Rattle.st_format.specs.Position.{IsPosition, Position};
 ghost use Rattle.st_format.specs.Raster.{cell_at};
@@ -27,6 +27,11 @@ ghost use Rattle.st_format.specs.Picture.{Values};
 ghost use Rattle.packet_plan.specs.Sender.{Sender};
 ghost use Rattle.following.specs.Pictures.{BroughtAll, BroughtSome, IsOfSome, IsSendersSample};
 ghost use Rattle.following.specs.Pictures.{ShowsSender, pictures_from, times_from};
+ghost use Rattle.path_merge.specs.declared.answer.Refusal.{Refusal};
+ghost use Rattle.following.specs.declared.answer.Followed.{Followed};
+ghost use Rattle.following.specs.declared.tally.FollowTally.{FollowTally};
+ghost use Rattle.following.specs.Stream.{NoneDropped};
+ghost use Rattle.following.specs.Tally.{tally_after};
 ghost use Rattle.following.specs.Acts.{Act, AreNearby, NoneLost, handed_by, taken_of};
 ghost use Rattle.following.specs.Serial.{ahead_of};
 ghost use Rattle.following.specs.Follower.{Following, opened};
@@ -98,6 +103,14 @@ pub fn none_lost()
         AreNearby size (times_of o (taken_of acts)) → NoneLost (opened o size ahead) acts →
         handed_by (opened o size ahead) acts
         ≡ map (handed_at o (taken_of acts)) (in_order (times_of o (taken_of acts))) }
+{}
+
+/// Where a tally that was told answers has counted none late and none too far ahead, no answer was
+/// `Late` or `Far`: so the clause `stream` of `follow_eagerly` holds of what came.
+pub fn none_tallied()
+    ensures { (tally : FollowTally) (answers : List (Result Followed Refusal)) →
+        (fold tally_after tally answers).late ≡ 0 → (fold tally_after tally answers).far ≡ 0 →
+        NoneDropped answers }
 {}
 
 /// Whatever comes, strays, late ones and repeats among it, and whether frames go early or not: what

@@ -1,11 +1,12 @@
 //! A sink of frames in memory.
-ghost use Rattle.std.specs.Prelude.{◌≡◌, ◌++◌, ◌∷◌, [], map, OnErr, OnOk};
+ghost use Rattle.std.specs.Prelude.{◌≡◌, ◌-◌, ◌++◌, ◌∷◌, [], map, IsErr, OnErr, OnOk};
 ghost use Rattle.st_format.specs.Device.{CountsFaults};
 ghost use Rattle.following.specs.Memory.{shown_of};
 
 use crate::sink::{FrameSink, FrameSinkFault};
 use frame_assembly::Frame;
 use std::alloc::{Allocator, Global};
+use std::marker::Model;
 
 /// A frame that was shown, with its timestamp in 90 kHz ticks.
 #[derive(Drop)]
@@ -24,12 +25,26 @@ pub struct MemoryFrames<A: Allocator + Copy = Global> {
     failures: u64,
 }
 
+impl<A: Allocator + Copy> Model for MemoryFrames<A> {
+    ghost use Rattle.std.specs.Prelude.{map};
+    ghost use Rattle.following.specs.Memory.{Frames, shown_of};
+
+    ghost Value = { Frames };
+
+    ghost view = { λ k. record {
+      shown = map shown_of k.frames.items;
+      fails_in = k.fails_in;
+      failures = k.failures;
+    } };
+}
+
 impl<A: Allocator + Copy> MemoryFrames<A> {
     /// A sink that was shown nothing. The call `fails_in` fails, counted from 1; 0 means that none
     /// does.
     pub fn new(alloc: A, fails_in: u64) -> MemoryFrames<A>
         ensures none { ⟦<MemoryFrames<A> as FrameSink>⟧.shown result ≡ [] }
         ensures unfailed { ⟦<MemoryFrames<A> as FrameSink>⟧.failures result ≡ 0 }
+        ensures value { result ≡ record { shown = []; fails_in = fails_in; failures = 0 } }
     {
         MemoryFrames {
             alloc,
@@ -48,11 +63,10 @@ impl<A: Allocator + Copy> MemoryFrames<A> {
 
     /// Keeps a copy of a frame.
     fn keep<B: Allocator>(&mut self, timestamp: u32, frame: &Frame<B>) -> Result<(), FrameSinkFault>
-        ensures kept { OnOk result (map shown_of self.new.frames.items
-            ≡ map shown_of self.old.frames.items
-            ++ record { timestamp = timestamp; frame = frame.now } ∷ []) }
-        ensures left { OnErr result
-            (map shown_of self.new.frames.items ≡ map shown_of self.old.frames.items) }
+        ensures kept { OnOk result (self.new.shown
+            ≡ self.old.shown ++ record { timestamp = timestamp; frame = frame.now } ∷ []) }
+        ensures left { OnErr result (self.new.shown ≡ self.old.shown) }
+        ensures fails_in { self.new.fails_in ≡ self.old.fails_in }
         ensures failures { self.new.failures ≡ self.old.failures }
     {
         let Ok(frame) = frame.try_copy(self.alloc) else {
@@ -66,15 +80,20 @@ impl<A: Allocator + Copy> MemoryFrames<A> {
 }
 
 impl<A: Allocator + Copy> FrameSink for MemoryFrames<A> {
-    ghost shown = { λ k. map shown_of k.frames.items };
+    ghost shown = { λ k. k.shown };
 
     ghost failures = { λ k. k.failures };
 
-    fn show<B: Allocator>(
-        &mut self,
-        timestamp: u32,
-        frame: &Frame<B>,
-    ) -> Result<(), FrameSinkFault> {
+    fn show<B: Allocator>(&mut self, timestamp: u32, frame: &Frame<B>) -> Result<(), FrameSinkFault>
+        ensures shown { OnOk result (self.new.shown
+            ≡ self.old.shown ++ record { timestamp = timestamp; frame = frame.now } ∷ []) }
+        ensures kept { OnErr result (self.new.shown ≡ self.old.shown) }
+        ensures counted { CountsFaults self.old.failures self.new.failures result }
+
+        // It fails at the call named; else only where memory is refused.
+        ensures when { self.old.fails_in ≡ 1 → IsErr result }
+        ensures next { self.new.fails_in ≡ self.old.fails_in - 1 }
+    {
         let fails = self.fails_in == 1;
         self.fails_in = self.fails_in.saturating_sub(1);
         if !fails && self.keep(timestamp, frame).is_ok() {
