@@ -74,6 +74,20 @@ pub use Rattle.path_merge.specs.Sliding
 pub use Rattle.path_merge.specs.Stays
 pub use Rattle.path_merge.specs.Took
 pub use Rattle.path_merge.specs.Unfit
+pub use Rattle.following.specs.Acts as FollowerActs
+pub use Rattle.following.specs.Follower
+pub use Rattle.following.specs.Following
+pub use Rattle.following.specs.Memory as FollowerMemory
+pub use Rattle.following.specs.Names as FollowerNames
+pub use Rattle.following.specs.Pictures as FollowerPictures
+pub use Rattle.following.specs.Serial
+pub use Rattle.following.specs.Since
+pub use Rattle.following.specs.Standing as FollowerStanding
+pub use Rattle.following.specs.Stream as FollowerStream
+pub use Rattle.following.specs.Taking
+pub use Rattle.following.specs.Tally as FollowerTally
+pub use Rattle.following.specs.Times
+pub use Rattle.following.specs.Turned
 pub use Rattle.media_file.specs.Blocks
 pub use Rattle.media_file.specs.Capture
 pub use Rattle.media_file.specs.CaptureFaults

@@ -69,6 +69,16 @@ pub mod receive {
     pub use st_format::Path;
 }
 
+/// Streams that are followed: a receiver whose window goes with the timestamps that come, from a
+/// source into a sink of frames.
+pub mod streams {
+    pub use following::{
+        FollowFault, FollowObserver, FollowTally, Followed, Follower, FrameFault, FrameSink,
+        FrameSinkFault, MOST_FRAMES, MemoryFrames, Shown, StreamFault, TEN_SECONDS, TurnTaken,
+        Unobserved, finish, follow, follow_eagerly, hand_out, take_turn,
+    };
+}
+
 /// Which packet numbers came, and the runs of those that did not.
 pub mod numbers {
     pub use path_merge::{MAX_COUNT, Noted, SeqMap, SeqMapFault};
@@ -150,6 +160,7 @@ pub mod devices {
 pub mod laws {
     pub use capture_file::laws as files;
     pub use flow::laws as flows;
+    pub use following::laws as streams;
     pub use frame_report::laws as report;
     pub use packet_plan::laws as send;
     pub use path_merge::{laws as receive, number_laws as numbers};
