@@ -16,4 +16,8 @@ pub mod Coming
 pub mod Rescues
 pub mod TypedTexts
 pub mod Said
+pub mod Untaken
+pub mod Readings
+pub mod Ways
+pub mod Blaming
 pub mod Quiet

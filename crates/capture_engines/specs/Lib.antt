@@ -1,3 +1,6 @@
+pub mod Files
+pub mod Seen
+pub mod Stopping
 pub mod Migrating
 pub mod MigrateRefused
 pub mod Tallied

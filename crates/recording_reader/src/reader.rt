@@ -4,8 +4,8 @@ ghost use Rattle.std.specs.Prelude.{IfErr, IfOk, IfSome, IsSome, OnErr, OnOk, Ma
 ghost use Rattle.std.specs.Prelude.{length, take};
 ghost use Rattle.std.specs.Option.{option_map};
 ghost use Rattle.recording_reader.specs.FileReader.{CountsDeviceAt, Finds, FindsFault};
-ghost use Rattle.recording_reader.specs.FileReader.{HasGivenFile, IsExact, IsNewFileReader};
-ghost use Rattle.recording_reader.specs.FileReader.{IsSameFile};
+ghost use Rattle.recording_reader.specs.FileReader.{HasGivenFile, HasGivenRecords, IsExact};
+ghost use Rattle.recording_reader.specs.FileReader.{IsNewFileReader, IsSameFile};
 ghost use Rattle.recording_reader.specs.FileReader.{TellsNext, TellsTurn, fault_of, last_fault_of};
 ghost use Rattle.recording_reader.specs.FileReader.{octets_at_hand, record_seen};
 ghost use Rattle.recording_reader.specs.Files.{CountsReading, HaveFileRecords, datagrams_of};
@@ -316,6 +316,8 @@ impl<A: Allocator, S: ByteSource> DatagramReader<A, S> {
         ensures of_capture { self.now.is_recording ≡ false → HaveFileRecords self.now.flows
             (since self.now.before.gave (S.gave self.now.source)) self.now.records
             self.now.left_out }
+        // Those octets begin with its front and the text of its records.
+        ensures parts { self.now.is_recording ≡ false → HasGivenRecords S.gave S.ended self.now }
         // A recording is read by flows.
         ensures by_flows { self.now.is_recording ≡ true → IsSome self.now.flows }
         ensures grown { GrewFrom self.now.before.gave (S.gave self.now.source) }

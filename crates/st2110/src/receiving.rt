@@ -1,12 +1,11 @@
 //! `receive`, and what it tells where little or nothing was kept.
 use crate::importing::tell_left_out;
 use crate::run_made;
-use capture_engines::{Reception, Tally, refusal_at};
+use capture_engines::{Reception, Seen, Tally, refusal_at};
 use capture_runs::{Files, ReceiveCommand};
 use command_end::run_command;
 use command_line::ReceiveWords;
 use devices::Stream;
-use recorded_capture::Seen;
 use recording_counts::LeftOut;
 use recording_runs::FlowsCommand;
 use std::alloc::AllocError;
@@ -52,8 +51,8 @@ fn recordings<'a>(
     files: &Files<'_>,
 ) -> Result<Vec<&'a str>, AllocError> {
     let mut recordings = Vec::new(rt.alloc());
-    for (name, capture) in names.iter().zip(files.captures.iter()) {
-        if capture.seen().is_recording() {
+    for (name, seen) in names.iter().zip(files.seen.iter()) {
+        if seen.is_recording() {
             recordings.push(*name)?;
         }
     }

@@ -1,4 +1,4 @@
--- What is counted of the records of captures.
+-- What is counted of the records of files.
 use Rattle.std.specs.Prelude.{◌≡◌, ℕ, List, ◌∷◌, [], ◌++◌}
 use Rattle.std.specs.List.{count_by}
 use Rattle.st_format.specs.declared.path.Path.{Path}

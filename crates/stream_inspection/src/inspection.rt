@@ -1,5 +1,5 @@
-//! What is counted of captures.
-ghost use Rattle.std.specs.Prelude.{◌≡◌, ◌∷◌, [], OnOk};
+//! What is counted of files.
+ghost use Rattle.std.specs.Prelude.{◌≡◌, ◌∷◌, [], OnOk, option_to_list};
 ghost use Rattle.stream_inspection.specs.Inspected.{IsInspected, Notes, NotesPacket, entry};
 ghost use Rattle.stream_inspection.specs.Arrivals.{arrival};
 ghost use Rattle.stream_inspection.specs.declared.target.Target.{Target as TargetValue};
@@ -11,10 +11,11 @@ use crate::target::Target;
 use capture_engines::Tally;
 use path_merge::Observer;
 use recording_counts::{Packet, TimestampTable};
-use st_format::Path;
+use recording_reader::DatagramReader;
+use st_format::{ByteSource, Path};
 use std::alloc::{AllocError, Allocator};
 
-/// What is counted of the datagrams of captures.
+/// What is counted of the datagrams of files.
 #[derive(Drop)]
 pub struct Inspection<A: Allocator> {
     /// The streams of RTP.
@@ -40,6 +41,25 @@ impl<A: Allocator + Copy> Inspection<A> {
             probes: ProbeTable::new(alloc),
             tally: Tally::new(),
             controls: 0,
+        }
+    }
+
+    /// Notes the datagram that a reader has at hand, where it has one.
+    ///
+    /// # Errors
+    ///
+    /// That memory was wanted.
+    pub(crate) fn note_at_hand<B: Allocator, S: ByteSource>(
+        &mut self,
+        target: &Target,
+        reader: &DatagramReader<B, S>,
+    ) -> Result<(), AllocError>
+        ensures { OnOk result (Notes target.now (option_to_list reader.now.at_hand) self.old
+            self.new) }
+    {
+        match reader.record() {
+            Some(record) => self.note(target, record.path, record.moment, record.octets),
+            None => Ok(()),
         }
     }
 
