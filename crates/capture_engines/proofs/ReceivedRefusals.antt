@@ -27,11 +27,13 @@ use Rattle.st_format.specs.History.{IsRead, since}
 use Rattle.capture_engines.specs.Files.{HasFileText, fault_by, first_way, flows_in, other_ways}
 use Rattle.capture_engines.specs.Files.{way_at}
 use Rattle.capture_engines.specs.Received.{FirstFileRefuses, HasCaptureFault}
-use Rattle.capture_engines.specs.Received.{IsFileOpenedRefusal, IsFilesRefusal, IsFrontRefusal}
+use Rattle.capture_engines.specs.Received.{IsCaptureBy, IsFileOpenedRefusal, IsFilesRefusal}
+use Rattle.capture_engines.specs.Received.{IsFrontRefusal}
 use Rattle.capture_engines.specs.Received.{IsTakeRefusal, OneFileIs, StopsFile}
 use Rattle.capture_engines.specs.Sent.{FirstIs}
 use Rattle.capture_engines.specs.Stopping.{IsReadingStop}
 use Rattle.capture_engines.specs.declared.way.Way.{Way}
+use Rattle.capture_engines.specs.declared.way.Way.TheVariants as way
 
 -- ---- a file
 
@@ -77,6 +79,12 @@ capture_wrong octets f (inr (x, front, wrong)) = inr (
   },
 )
 
+-- what begins as no recording is a capture, however it is taken
+pub plain_by : (w : Way) (octets : List ℕ) → is_recording octets ≡ false → IsCaptureBy w octets
+plain_by way.Capture octets kind = tt
+plain_by (way.Flows flows) octets kind = kind
+plain_by (way.Refused r) octets kind = kind
+
 -- its fault stops it
 fault_stops : {S : Type 0} (gave : S → List ℕ) (ended : S → Type 0) (r : FileReader S)
     (w : Way) (g : ReadingFault) → r.flows ≡ flows_in w
@@ -88,7 +96,10 @@ fault_stops : {S : Type 0} (gave : S → List ℕ) (ended : S → Type 0) (r : F
 fault_stops gave ended r w (Capture file.NoMemory) by kind given known = tt
 fault_stops gave ended r w (Capture file.Device) by kind given known = tt
 fault_stops gave ended r w (Capture f) by kind given known =
-    inl (λ octets read. capture_wrong octets f (known octets read).1.1)
+    inl (
+      λ octets read. capture_wrong octets f (known octets read).1.1,
+      λ octets read. plain_by w octets (known octets read).1.0,
+    )
 fault_stops gave ended r w (Recording recording.Device) by kind given known = tt
 fault_stops gave ended r w (Recording f) by kind given known =
     inr (inl (
@@ -134,7 +145,10 @@ module _ {S : Type 0} (gave : S → List ℕ) (ended : S → Type 0) (r : FileRe
       by_kind : (b : Bool) → r.is_recording ≡ b
           → StopsFile w told (why.Capture file.TooManyRecords)
       by_kind false kind =
-          inl (λ octets read. capture_many octets r.text r.records count (parts kind octets read))
+          inl (
+            λ octets read. capture_many octets r.text r.records count (parts kind octets read),
+            λ octets read. plain_by w octets ((given octets read).kind ∙ kind),
+          )
       by_kind true kind =
           inr (inr (inl (
             refl,

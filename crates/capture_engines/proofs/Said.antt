@@ -95,7 +95,7 @@ no_flows is = cc
 -- what stops a file that is taken as a capture
 capture_stops : (told : List ℕ → Type 0) (r : Refusal) → StopsFile way.Capture told r
     → IsCaptureRefusal told r
-capture_stops told r (inl capture) = capture
+capture_stops told r (inl capture) = capture.0
 capture_stops told (why.Recording f) (inr (inl is)) = absurd (no_flows is.0)
 capture_stops told r (inr (inl is)) = absurd is
 capture_stops told r (inr (inr (inl is))) = absurd (no_flows is.1)

@@ -24,8 +24,11 @@ use Rattle.media_file.specs.declared.fault.FileFault.TheVariants as file
 use Rattle.pcap_file.specs.declared.fault.RecordingFault.TheVariants as recording
 use Rattle.run_outcome.specs.Refusing.{OfRefusal}
 use Rattle.capture_engines.specs.Files.{fault_by, flows_in}
-use Rattle.capture_engines.specs.Received.{StopsFile}
+use Rattle.run_outcome.specs.declared.refusal.Refusal.{Refusal}
+use Rattle.capture_engines.specs.Received.{IsCaptureBy, StopsFile}
 use Rattle.capture_engines.specs.declared.way.Way.{Way}
+use Rattle.capture_engines.specs.declared.way.Way.TheVariants as way
+use Rattle.capture_engines.proofs.ReceivedRefusals.{plain_by}
 use Rattle.st_format.specs.Reading.{◌>>=◌}
 
 -- its first octet is no capture's
@@ -159,12 +162,23 @@ short_refused before old new more ended g grown short over octets q =
 
 -- ---- what stops a file before its records
 
+-- without flows, and where it isn't refused, it is taken as a capture
+pub plain_alone : (w : Way) (octets : List ℕ) → flows_in w ≡ None
+    → ((r : Refusal) → w ≡ way.Refused r → ⊥) → IsCaptureBy w octets
+plain_alone way.Capture octets none taken = tt
+plain_alone (way.Flows flows) octets none taken = absurd cc
+plain_alone (way.Refused r) octets none taken = absurd (taken r refl)
+
 pub front_stops : (w : Way) (told : List ℕ → Type 0) (g : ReadingFault)
     → ((octets : List ℕ) → told octets → IfFile g (IsFrontFault g octets))
     → IsByFlows (flows_in w) (Reading g) → OfRefusal (fault_by g) (StopsFile w told)
 front_stops w told (Capture file.NoMemory) known by = tt
 front_stops w told (Capture file.Device) known by = tt
-front_stops w told (Capture f) known by = inl (λ octets read. inl (known octets read).1)
+front_stops w told (Capture f) known by =
+    inl (
+      λ octets read. inl (known octets read).1,
+      λ octets read. plain_by w octets (known octets read).0,
+    )
 front_stops w told (Recording recording.Device) known by = tt
 front_stops w told (Recording f) known by =
     inr (inl (by, λ octets read. ((known octets read).0, (known octets read).2)))

@@ -1,7 +1,7 @@
 -- Which refusal ends a run of `receive` (own). What was read is told by a predicate: it holds of
 -- any octets that begin with it, and of no others where the source has ended.
 use Rattle.std.specs.Prelude.{◌≡◌, ℕ, ◌⊎◌, List, [], ◌∷◌, ◌++◌, length, MatchOption, IsSome}
-use Rattle.std.specs.Prelude.{Option, None, Some, Result, Ok, Err, true}
+use Rattle.std.specs.Prelude.{Option, None, Some, Result, Ok, Err, true, false, ⊤}
 use Rattle.flow.specs.declared.flows.Flows.{Flows}
 use Rattle.media_file.specs.Fronts.{front_at}
 use Rattle.media_file.specs.Reading.{fault_at}
@@ -95,6 +95,17 @@ IsCaptureRefusal told (refusal.Capture f) =
     (octets : List ℕ) → told octets → HasCaptureFault octets f
 IsCaptureRefusal told r = ⊥
 
+-- a file that is taken so is a capture: it begins as no recording, or is taken as a capture whatever
+-- it begins with
+abbrev pub IsCaptureBy : Way → List ℕ → Type 0
+IsCaptureBy way.Capture octets = ⊤
+IsCaptureBy w octets = is_recording octets ≡ false
+
+-- so of a file that is taken so
+abbrev pub IsPlainRefusal : Way → (List ℕ → Type 0) → Refusal → Type 0
+IsPlainRefusal w told r = IsCaptureRefusal told r
+    × ((octets : List ℕ) → told octets → IsCaptureBy w octets)
+
 -- that of a recording which is taken by flows: its first fault
 abbrev pub IsRecordingRefusal : Option Flows → (List ℕ → Type 0) → Refusal → Type 0
 IsRecordingRefusal flows told (refusal.Recording f) = IsSome flows
@@ -121,7 +132,7 @@ IsUntakenRefusal w told r = ⊥
 
 -- what stops a file that is taken so
 abbrev pub StopsFile : Way → (List ℕ → Type 0) → Refusal → Type 0
-StopsFile w told r = IsCaptureRefusal told r ⊎ IsRecordingRefusal (flows_in w) told r
+StopsFile w told r = IsPlainRefusal w told r ⊎ IsRecordingRefusal (flows_in w) told r
     ⊎ IsManyRefusal (flows_in w) told r ⊎ IsUntakenRefusal w told r
 
 -- The refusals of a file: what stops it; and of opening by it, where no receiver is open yet.

@@ -5,7 +5,7 @@ use Rattle.run_outcome.specs.declared.fault.Fault.{Fault}
 use Rattle.run_outcome.proofs.Refusals.{of_refusal_map}
 use Rattle.st_format.specs.History.{IsRead}
 use Rattle.capture_engines.specs.Received.{StopsFile}
-use Rattle.capture_engines.proofs.Untaken.{front_stops}
+use Rattle.capture_engines.proofs.Untaken.{front_stops, plain_alone}
 use Rattle.capture_engines.proofs.way.unopened.Goals as goal
 
 pub returns-in-Reading-clause-refusal : goal.returns-in-Reading-clause-refusal
@@ -24,7 +24,11 @@ returns-in_default g c =
     record {
       refusal = λ before stops by.
           let known = rw c.in-NoFlows.is at stops in
-          of_refusal_map read.result (λ r is. inl is)
+          of_refusal_map read.result
+          (λ r is. inl (
+            is,
+            λ octets _. plain_alone c.args.way octets known.1 c.in_default.not-Refused,
+          ))
           (read.ensures.refusal before known.0 known.2);
       failures = λ failed counted.
           subst (λ (n : ℕ). Blames (counts n (told.failures read.new.source) ∷ []) read.result)
