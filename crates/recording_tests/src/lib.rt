@@ -26,6 +26,8 @@ mod import;
 #[cfg(test)]
 mod inspect;
 #[cfg(test)]
+mod interfaces;
+#[cfg(test)]
 mod numbers;
 #[cfg(test)]
 mod paced;

@@ -30,6 +30,7 @@ pub use Rattle.payload_header.specs.Payload
 pub use Rattle.payload_header.specs.Reading as PayloadReading
 pub use Rattle.payload_header.specs.View
 pub use Rattle.payload_header.specs.Writing
+pub use Rattle.interface_name.specs.Name as InterfaceNames
 pub use Rattle.flow.specs.Flow
 pub use Rattle.flow.specs.FlowText
 pub use Rattle.sdp_format.specs.Back

@@ -119,6 +119,7 @@ pub mod files {
 /// receiver.
 pub mod recordings {
     pub use flow::{Flow, Flows, read_flow};
+    pub use interface_name::InterfaceName;
     pub use pcap_file::{
         ByteOrder, DatagramView, Envelope, Envelope6, HEADS, HEADS6, INTERFACES, Interface,
         IpVersion, Layout, Link, LinkView, NoDatagram, PCAP_HEAD, Packet, PacketHead, PacketView,
