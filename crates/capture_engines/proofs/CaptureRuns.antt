@@ -3,9 +3,9 @@ use Rattle.std.proofs.Common.{◌≡◌, ℕ, List, ◌++◌, length, Result, Er
 use Rattle.std.proofs.Common.{append-nil}
 use Rattle.std.specs.Prelude.{IsErrOf, ◌↔◌}
 use Rattle.st_format.specs.History.{IsRead, since}
-use Rattle.path_merge.specs.Opening.{AreDifferent, IsWindowSize}
-use Rattle.path_merge.specs.declared.fault.OpenFault.{OpenFault}
-use Rattle.path_merge.specs.declared.fault.OpenFault.TheVariants as open_fault
+use Rattle.path_receiver.specs.Opening.{AreDifferent, IsWindowSize}
+use Rattle.path_receiver.specs.declared.fault.OpenFault.{OpenFault}
+use Rattle.path_receiver.specs.declared.fault.OpenFault.TheVariants as open_fault
 use Rattle.run_outcome.specs.LowerFaults.{of_open}
 use Rattle.run_outcome.specs.Refusing.{OfRefusal}
 use Rattle.run_outcome.specs.declared.fault.Fault.{Fault}

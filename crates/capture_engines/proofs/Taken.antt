@@ -5,11 +5,11 @@ use Rattle.std.proofs.Common.{append-nil, append_assoc, length-append}
 use Rattle.std.proofs.lemmas.List.{map-append}
 use Rattle.std.specs.Prelude.{option_to_list}
 use Rattle.media_file.specs.Records.{Entry}
-use Rattle.path_merge.specs.Answers.{taken_at}
-use Rattle.path_merge.specs.Frames.{Holds}
-use Rattle.path_merge.specs.Opening.{Opening}
-use Rattle.path_merge.specs.declared.answer.Refusal.{Refusal}
-use Rattle.path_merge.specs.declared.answer.Taken.{Taken as Answer}
+use Rattle.path_receiver.specs.Answers.{taken_at}
+use Rattle.path_receiver.specs.Frames.{Holds}
+use Rattle.path_receiver.specs.Opening.{Opening}
+use Rattle.path_receiver.specs.declared.answer.Refusal.{Refusal}
+use Rattle.path_receiver.specs.declared.answer.Taken.{Taken as Answer}
 use Rattle.recording_reader.specs.FileReader.{FileReader, FindsOne, record_seen}
 use Rattle.recording_reader.specs.declared.room.RecordView.{RecordView}
 use Rattle.capture_engines.specs.Files.{octets_of}

@@ -7,11 +7,11 @@ use Rattle.std.proofs.lemmas.List.{get_or-set_other, get_or-set_same, length-set
 use Rattle.std.proofs.lemmas.List.Sums.{sum_by-append}
 use Rattle.std.proofs.Common.{append_assoc, append-nil}
 use Rattle.std.specs.List.{AllByRecursion, count_by, fold}
-use Rattle.path_merge.specs.Answers.{refusal_number}
-use Rattle.path_merge.specs.declared.answer.Refusal.{Refusal}
-use Rattle.path_merge.specs.declared.answer.Refusal.TheVariants as why
-use Rattle.path_merge.specs.declared.answer.Taken.{Taken}
-use Rattle.path_merge.specs.declared.answer.Taken.TheVariants.{Kept, Outside}
+use Rattle.path_receiver.specs.Answers.{refusal_number}
+use Rattle.path_receiver.specs.declared.answer.Refusal.{Refusal}
+use Rattle.path_receiver.specs.declared.answer.Refusal.TheVariants as why
+use Rattle.path_receiver.specs.declared.answer.Taken.{Taken}
+use Rattle.path_receiver.specs.declared.answer.Taken.TheVariants.{Kept, Outside}
 use Rattle.payload_header.specs.Faults.{payload_fault_number}
 use Rattle.payload_header.specs.declared.payload.PayloadFault.{PayloadFault}
 use Rattle.payload_header.specs.declared.payload.PayloadFault.TheVariants as payload

@@ -1,8 +1,8 @@
 -- What `receive` counts of the datagrams that it was given (own).
 use Rattle.std.specs.Prelude.{◌≡◌, ◌^◌, ◌-◌, ℕ, List, Option, Some, Result, length, map, min}
 use Rattle.flow.specs.declared.flows.Flows.{Flows}
-use Rattle.path_merge.specs.Answers.{taken_at}
-use Rattle.path_merge.specs.Opening.{Opening}
+use Rattle.path_receiver.specs.Answers.{taken_at}
+use Rattle.path_receiver.specs.Opening.{Opening}
 use Rattle.run_outcome.specs.Sources.{IsSourceText}
 use Rattle.run_outcome.specs.Timestamps.{AreTimestamps}
 use Rattle.run_outcome.specs.declared.refusal.Refusal.{Refusal}

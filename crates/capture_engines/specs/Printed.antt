@@ -2,12 +2,12 @@
 use Rattle.std.specs.Prelude.{ℕ, zero, suc, List, [], ◌∷◌, ◌++◌, Bool, true, false, Result, length}
 use Rattle.std.specs.Prelude.{map, slice_index}
 use Rattle.std.specs.List.{count_by, flat_map}
-use Rattle.path_merge.specs.Answers.{taken_at}
-use Rattle.path_merge.specs.Frames.{State}
-use Rattle.path_merge.specs.declared.answer.Refusal.{Refusal}
-use Rattle.path_merge.specs.declared.answer.Refusal.TheVariants.{Header, WrongPayloadType}
-use Rattle.path_merge.specs.declared.answer.Refusal.TheVariants.{WrongSource, Payload}
-use Rattle.path_merge.specs.declared.answer.Taken.{Taken}
+use Rattle.path_receiver.specs.Answers.{taken_at}
+use Rattle.path_receiver.specs.Frames.{State}
+use Rattle.path_receiver.specs.declared.answer.Refusal.{Refusal}
+use Rattle.path_receiver.specs.declared.answer.Refusal.TheVariants.{Header, WrongPayloadType}
+use Rattle.path_receiver.specs.declared.answer.Refusal.TheVariants.{WrongSource, Payload}
+use Rattle.path_receiver.specs.declared.answer.Taken.{Taken}
 use Rattle.payload_header.specs.declared.payload.PayloadFault.TheVariants as payload
 use Rattle.rtp_header.specs.declared.header.RtpFault.TheVariants as rtp
 use Rattle.run_outcome.specs.Line.{line_text}

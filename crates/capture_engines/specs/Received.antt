@@ -8,9 +8,9 @@ use Rattle.media_file.specs.Reading.{fault_at}
 use Rattle.media_file.specs.Records.{AllFit, Entry, records_text}
 use Rattle.media_file.specs.declared.fault.FileFault.{FileFault}
 use Rattle.media_file.specs.declared.fault.FileFault.TheVariants.{TooManyRecords}
-use Rattle.path_merge.specs.Opening.{AreDifferent, IsWindowSize}
-use Rattle.path_merge.specs.declared.fault.OpenFault.{OpenFault}
-use Rattle.path_merge.specs.declared.fault.OpenFault.TheVariants as open_fault
+use Rattle.path_receiver.specs.Opening.{AreDifferent, IsWindowSize}
+use Rattle.path_receiver.specs.declared.fault.OpenFault.{OpenFault}
+use Rattle.path_receiver.specs.declared.fault.OpenFault.TheVariants as open_fault
 use Rattle.recording_reader.specs.Files.{AreFirst, IsFileFault, records_of_file}
 use Rattle.recording_reader.specs.Kinds.{is_recording}
 use Rattle.recording_reader.specs.declared.fault.ReadingFault.TheVariants.{Recording}

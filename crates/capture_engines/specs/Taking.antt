@@ -13,9 +13,9 @@ use Rattle.run_outcome.specs.declared.refusal.Refusal.{Refusal}
 use Rattle.capture_engines.specs.Files.{capture_datagrams, file_datagrams, files_datagrams}
 use Rattle.capture_engines.specs.declared.way.Way.{Way}
 use Rattle.media_file.specs.StateFile.{state_text}
-use Rattle.path_merge.specs.Answers.{taken_at}
-use Rattle.path_merge.specs.Frames.{Holds, State}
-use Rattle.path_merge.specs.Opening.{Opening}
+use Rattle.path_receiver.specs.Answers.{taken_at}
+use Rattle.path_receiver.specs.Frames.{Holds, State}
+use Rattle.path_receiver.specs.Opening.{Opening}
 use Rattle.receiver_file.specs.Saved.{kept_of}
 use Rattle.run_outcome.specs.Sources.{IsSourceText}
 use Rattle.run_outcome.specs.Timestamps.{AreTimestamps}

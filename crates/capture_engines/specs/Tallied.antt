@@ -2,10 +2,10 @@
 use Rattle.std.specs.Prelude.{◌≡◌, ℕ, ◌+◌, ◌-◌, ◌^◌, ◌==◌, Bool, true, false, min, List, []}
 use Rattle.std.specs.Prelude.{◌∷◌, ◌++◌, length, Result, Ok, Err, slice_index, slice_set}
 use Rattle.std.specs.List.{count_by}
-use Rattle.path_merge.specs.Answers.{refusal_number}
-use Rattle.path_merge.specs.declared.answer.Refusal.{Refusal}
-use Rattle.path_merge.specs.declared.answer.Taken.{Taken}
-use Rattle.path_merge.specs.declared.answer.Taken.TheVariants.{Kept, Outside}
+use Rattle.path_receiver.specs.Answers.{refusal_number}
+use Rattle.path_receiver.specs.declared.answer.Refusal.{Refusal}
+use Rattle.path_receiver.specs.declared.answer.Taken.{Taken}
+use Rattle.path_receiver.specs.declared.answer.Taken.TheVariants.{Kept, Outside}
 use Rattle.capture_engines.specs.declared.tally.Tally.{Tally}
 
 -- one more, but at most 2^64 - 1

@@ -24,7 +24,7 @@ use crate::reception::Reception;
 use crate::seen::Seen;
 use crate::tally::Tally;
 use flow::Flows;
-use path_merge::Receiver;
+use path_receiver::Receiver;
 use receiver_file::save_receiver;
 use run_outcome::{Fault, Line, Refusal, of_state, print, print_frames, room};
 use st_format::{ByteSink, ByteSource};

@@ -1,9 +1,9 @@
 //! Counts of what a receiver answered.
 ghost use Rattle.std.specs.Prelude.{◌≡◌, ◌+◌, ◌<◌, [], Err};
-ghost use Rattle.path_merge.specs.Answers.{refusal_number};
+ghost use Rattle.path_receiver.specs.Answers.{refusal_number};
 ghost use Rattle.capture_engines.specs.Tallied.{Tallies, TalliesMore, tally_after};
 
-use path_merge::{Observer, Refusal, Taken};
+use path_receiver::{Observer, Refusal, Taken};
 use payload_header::PayloadFault;
 use rtp_header::RtpFault;
 

@@ -9,13 +9,13 @@ use Rattle.std.proofs.lemmas.List.Concat.{flat_map-append}
 use Rattle.st_format.specs.Member.{IsMember}
 use Rattle.st_format.specs.Offer.{Offer}
 use Rattle.st_format.specs.Raster.{Raster, blank, joined_rasters, raster_of}
-use Rattle.path_merge.specs.declared.answer.Refusal.{Refusal}
-use Rattle.path_merge.specs.Frames.{frame_at, frames_of, joined_frames}
-use Rattle.path_merge.specs.Grammar.{Datagram}
-use Rattle.path_merge.specs.Offers.{offers, offers_of}
-use Rattle.path_merge.specs.Opening.{AreDifferent, Opening}
-use Rattle.path_merge.specs.Sliding.{with_window}
-use Rattle.path_merge.proofs.Windows.{frame_none}
+use Rattle.path_receiver.specs.declared.answer.Refusal.{Refusal}
+use Rattle.path_receiver.specs.Frames.{frame_at, frames_of, joined_frames}
+use Rattle.path_receiver.specs.Grammar.{Datagram}
+use Rattle.path_receiver.specs.Offers.{offers, offers_of}
+use Rattle.path_receiver.specs.Opening.{AreDifferent, Opening}
+use Rattle.path_receiver.specs.Sliding.{with_window}
+use Rattle.path_receiver.proofs.Windows.{frame_none}
 use Rattle.following.specs.declared.standing.Standing.{Standing}
 use Rattle.following.specs.declared.standing.Standing.TheVariants.{Beyond, Inside, New, Waits}
 use Rattle.following.specs.declared.standing.Standing.TheVariants.{Nowhere}

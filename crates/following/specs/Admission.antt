@@ -1,7 +1,7 @@
 -- What is kept of a datagram that is not refused (own).
 use Rattle.std.specs.Prelude.{◌+◌, ◌*◌}
 use Rattle.payload_header.specs.View.{segments_of}
-use Rattle.path_merge.specs.Grammar.{Datagram}
+use Rattle.path_receiver.specs.Grammar.{Datagram}
 use Rattle.following.specs.declared.admitting.Admitted.{Admitted}
 
 -- its number: RFC 4175, 4.1

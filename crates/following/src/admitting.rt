@@ -1,10 +1,10 @@
 //! Which datagrams are for a follower: those that are for a receiver.
 ghost use Rattle.std.specs.Prelude.{◌≡◌, ◌+◌, ◌*◌, IfOk};
-ghost use Rattle.path_merge.specs.Admission.{datagram_walk};
+ghost use Rattle.path_receiver.specs.Admission.{datagram_walk};
 ghost use Rattle.following.specs.Admission.{datagram_of};
 ghost use Rattle.st_format.specs.Reading.{Gives};
 
-use path_merge::Refusal;
+use path_receiver::Refusal;
 use payload_header::{PayloadView, read_payload};
 use rtp_header::{RtpView, read_rtp};
 use st_format::Format;
@@ -18,7 +18,7 @@ pub struct Admitted<'a> {
 
 /// What a datagram says to a follower of this format, payload type and pinned source, or the first
 /// refusal.
-#[tactic(auto, unfolding(path_merge::specs::Admission::datagram_walk))]
+#[tactic(auto, unfolding(path_receiver::specs::Admission::datagram_walk))]
 pub fn admit<'a>(
     format: &Format,
     payload_type: u8,

@@ -4,9 +4,9 @@ use Rattle.std.proofs.Common.{refl, sym, ap, ◌∙◌, subst}
 use Rattle.st_format.specs.History.{since}
 use Rattle.st_format.specs.Member.{SameDatagrams}
 use Rattle.st_format.proofs.Histories.{since_is}
-use Rattle.path_merge.specs.Frames.{State, frames_of}
-use Rattle.path_merge.specs.Opening.{Opening}
-use Rattle.path_merge.proofs.Frames.{frames_of-same}
+use Rattle.path_receiver.specs.Frames.{State, frames_of}
+use Rattle.path_receiver.specs.Opening.{Opening}
+use Rattle.path_receiver.proofs.Frames.{frames_of-same}
 use Rattle.media_file.specs.StateFile.{state_text}
 use Rattle.receiver_file.specs.Saved.{kept_of}
 use Rattle.receiver_file.proofs.SameKept.{equal_kept}

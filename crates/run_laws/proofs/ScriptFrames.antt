@@ -10,10 +10,10 @@ use Rattle.hex.proofs.HexLemmas.{decode_of-ok}
 use Rattle.st_format.specs.declared.path.Path.{Path}
 use Rattle.st_format.specs.Member.{IsMember, SameDatagrams}
 use Rattle.st_format.specs.Raster.{Raster}
-use Rattle.path_merge.specs.Frames.{Holds, State, frame_at, frames_of, joined_frames}
-use Rattle.path_merge.specs.Numbers.{Numbers}
-use Rattle.path_merge.specs.Opening.{Opening}
-use Rattle.path_merge.proofs.Frames.{frames_of-append, frames_of-same}
+use Rattle.path_receiver.specs.Frames.{Holds, State, frame_at, frames_of, joined_frames}
+use Rattle.path_receiver.specs.Numbers.{Numbers}
+use Rattle.path_receiver.specs.Opening.{Opening}
+use Rattle.path_receiver.proofs.Frames.{frames_of-append, frames_of-same}
 use Rattle.run_outcome.specs.Frames.{frame_line, frame_lines}
 use Rattle.run_outcome.specs.declared.line.Line.{Line}
 use Rattle.script_engines.specs.Forms.{IsOctetsText}

@@ -5,7 +5,7 @@ use Rattle.std.proofs.lemmas.Option.{some_pair_parts}
 use Rattle.std.proofs.lemmas.Str.Parse.{digit_at}
 use Rattle.st_format.specs.declared.format.Format.{Format}
 use Rattle.st_format.specs.Text.{parted}
-use Rattle.path_merge.specs.Opening.{Opening}
+use Rattle.path_receiver.specs.Opening.{Opening}
 use Rattle.run_outcome.specs.Sources.{IsSourceText}
 use Rattle.run_outcome.specs.Timestamps.{AreTimestamps}
 use Rattle.script_engines.specs.FirstLines.{ReadsOpening}

@@ -15,11 +15,11 @@ use Rattle.st_format.proofs.Rasters.{length-cells_of}
 use Rattle.frame_assembly.specs.Kinds.{counts_of, positions_of}
 use Rattle.frame_assembly.proofs.Positions.{counts_of_positions}
 use Rattle.packet_plan.specs.Sender.{Sender}
-use Rattle.path_merge.specs.Frames.{State}
-use Rattle.path_merge.specs.Offers.{offers}
+use Rattle.path_receiver.specs.Frames.{State}
+use Rattle.path_receiver.specs.Offers.{offers}
 use Rattle.path_merge.specs.Played.{IsHanded}
 use Rattle.path_merge.specs.Reached.{AreFrames, IsFrameOf, Scene}
-use Rattle.path_merge.specs.Sender.{IsSendersCell}
+use Rattle.path_receiver.specs.Sender.{IsSendersCell}
 use Rattle.path_merge.specs.Sent.{IsSendersFrame, sender_of}
 use Rattle.path_merge.specs.Stays.{Stay}
 use Rattle.path_merge.specs.declared.schedule.event.Event.{Event}

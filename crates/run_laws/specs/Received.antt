@@ -4,7 +4,7 @@
 use Rattle.std.specs.Prelude.{ℕ, List, Option, None, Some, map}
 use Rattle.std.specs.List.{flat_map}
 use Rattle.st_format.specs.History.{since}
-use Rattle.path_merge.specs.Frames.{Holds, State}
+use Rattle.path_receiver.specs.Frames.{Holds, State}
 use Rattle.receiver_file.specs.Saved.{IsReceiverFile}
 use Rattle.run_outcome.specs.Sources.{IsSourceText}
 use Rattle.run_outcome.specs.Timestamps.{AreTimestamps}

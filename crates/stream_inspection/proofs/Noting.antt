@@ -10,8 +10,8 @@ use Rattle.std.specs.Prelude.{option_to_list}
 use Rattle.media_file.specs.Records.{Entry}
 use Rattle.capture_engines.specs.Tallied.{Tallies, TalliesMore}
 use Rattle.capture_engines.specs.declared.tally.Tally.{Tally}
-use Rattle.path_merge.specs.declared.answer.Refusal.{Refusal}
-use Rattle.path_merge.specs.declared.answer.Taken.{Taken}
+use Rattle.path_receiver.specs.declared.answer.Refusal.{Refusal}
+use Rattle.path_receiver.specs.declared.answer.Taken.{Taken}
 use Rattle.rtp_header.specs.Reading.{rtp_walk}
 use Rattle.recording_counts.specs.Numbering.{capped}
 use Rattle.recording_counts.specs.Timestamps.{timestamps_of}

@@ -9,7 +9,7 @@ use Rattle.capture_engines.specs.Tallied.{Tallies, place_of}
 use Rattle.capture_engines.specs.declared.tally.Tally.{Tally}
 use Rattle.flow.specs.declared.flows.Flows.{Flows}
 use Rattle.media_file.specs.Records.{Entry}
-use Rattle.path_merge.specs.declared.answer.Refusal.{Refusal as Reason}
+use Rattle.path_receiver.specs.declared.answer.Refusal.{Refusal as Reason}
 use Rattle.recording_reader.specs.declared.fault.ReadingFault.{ReadingFault}
 use Rattle.run_outcome.specs.declared.fault.Fault.TheVariants as outcome
 use Rattle.run_outcome.specs.declared.refusal.Refusal.{Refusal}

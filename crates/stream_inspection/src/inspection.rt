@@ -9,7 +9,7 @@ use crate::probes::ProbeTable;
 use crate::stream_tables::StreamTables;
 use crate::target::Target;
 use capture_engines::Tally;
-use path_merge::Observer;
+use path_receiver::Observer;
 use recording_counts::{Packet, TimestampTable};
 use recording_reader::DatagramReader;
 use st_format::{ByteSource, Path};

@@ -5,7 +5,7 @@ ghost use Rattle.stream_inspection.specs.Arrivals.{packet_of};
 ghost use Rattle.rtp_header.specs.Views.{seen_rtp};
 
 use crate::target::Target;
-use path_merge::{Refusal, Taken};
+use path_receiver::{Refusal, Taken};
 use payload_header::read_payload;
 use recording_counts::Packet;
 use rtp_header::{RtpView, read_rtp};

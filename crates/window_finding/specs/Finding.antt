@@ -9,7 +9,7 @@ use Rattle.capture_engines.specs.Files.{files_datagrams}
 use Rattle.capture_engines.specs.Received.{IsFilesRefusal, IsOpeningRefusal}
 use Rattle.capture_engines.specs.Taking.{AreRead, FileGoes, FilesGo, RecordsGo, said_behind}
 use Rattle.capture_engines.specs.declared.way.Way.{Way}
-use Rattle.path_merge.specs.declared.fault.OpenFault.TheVariants as open_fault
+use Rattle.path_receiver.specs.declared.fault.OpenFault.TheVariants as open_fault
 use Rattle.run_outcome.specs.declared.refusal.Refusal.{Refusal}
 use Rattle.run_outcome.specs.declared.refusal.Refusal.TheVariants as refusal
 use Rattle.window_finding.specs.First.{first_timestamps}

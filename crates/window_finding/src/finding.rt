@@ -21,7 +21,7 @@ ghost use Rattle.window_finding.specs.Finding.{IsFindRefusal, IsReadRefusal, Sta
 use crate::finder::{Finder, Sought};
 use capture_engines::{Way, unopened};
 use flow::Flows;
-use path_merge::OpenFault;
+use path_receiver::OpenFault;
 use recording_reader::DatagramReader;
 use run_outcome::{Fault, Refusal, room};
 use st_format::ByteSource;

@@ -61,19 +61,19 @@ pub use Rattle.packet_plan.specs.Sent as PlanSent
 pub use Rattle.packet_numbers.specs.BitList
 pub use Rattle.packet_numbers.specs.Numbers
 pub use Rattle.path_merge.specs.Admitted
-pub use Rattle.path_merge.specs.Answers
-pub use Rattle.path_merge.specs.Frames
-pub use Rattle.path_merge.specs.Grammar as ReceiverGrammar
-pub use Rattle.path_merge.specs.Offers
-pub use Rattle.path_merge.specs.Opening
-pub use Rattle.path_merge.specs.PlayFault
+pub use Rattle.path_receiver.specs.Answers
+pub use Rattle.path_receiver.specs.Frames
+pub use Rattle.path_receiver.specs.Grammar as ReceiverGrammar
+pub use Rattle.path_receiver.specs.Offers
+pub use Rattle.path_receiver.specs.Opening
+pub use Rattle.path_receiver.specs.PlayFault
 pub use Rattle.path_merge.specs.Played
 pub use Rattle.path_merge.specs.Reached
-pub use Rattle.path_merge.specs.Refused
+pub use Rattle.path_receiver.specs.Refused
 pub use Rattle.path_merge.specs.Sent as ReceiverSent
-pub use Rattle.path_merge.specs.Sliding
+pub use Rattle.path_receiver.specs.Sliding
 pub use Rattle.path_merge.specs.Stays
-pub use Rattle.path_merge.specs.Took
+pub use Rattle.path_receiver.specs.Took
 pub use Rattle.path_merge.specs.Unfit
 pub use Rattle.following.specs.Acts
 pub use Rattle.following.specs.Admission

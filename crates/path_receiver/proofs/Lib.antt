@@ -1,0 +1,17 @@
+pub mod Windows
+pub mod Offered
+pub mod RefusedLemmas
+pub mod Answered
+pub mod Frames
+pub mod Joined
+pub mod SentOffers
+pub mod WholeFrames
+pub mod Carried
+pub mod SenderCells
+pub mod MergeLemmas
+pub mod TurnLemmas
+pub mod Held
+pub mod Blank
+pub mod Failed
+pub mod Lives
+pub mod Listed
