@@ -6,7 +6,6 @@ pub mod SentRefusals
 pub mod ReceivedRefusals
 pub mod MigrateRefusals
 pub mod LoopRefusals
-pub mod Tallies
 pub mod Sendings
 pub mod Printed
 pub mod Leaving

@@ -16,10 +16,10 @@ use Rattle.rtp_header.specs.declared.header.RtpFault.TheVariants as rtp
 use Rattle.run_outcome.specs.Line.{line_text}
 use Rattle.capture_engines.specs.Printed.{counted_line, refusal_line, answers_text, received_text}
 use Rattle.capture_engines.specs.Printed.{refusals, taken_text, tally_text}
-use Rattle.capture_engines.specs.Tallied.{Tallies, fitting, is_refusal, place_of}
+use Rattle.path_receiver.specs.Tallied.{Tallies, fitting, is_refusal, place_of}
 use Rattle.run_outcome.specs.declared.line.Line.{Line}
 use Rattle.run_outcome.specs.declared.line.Line.TheVariants.{OutsideCount, RefusedCount}
-use Rattle.capture_engines.specs.declared.tally.Tally.{Tally}
+use Rattle.path_receiver.specs.declared.tally.Tally.{Tally}
 use Rattle.path_receiver.specs.declared.answer.Taken.{Taken}
 use Rattle.run_outcome.proofs.Printed.{texts_before, texts_more, texts_cut}
 

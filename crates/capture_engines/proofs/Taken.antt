@@ -13,12 +13,12 @@ use Rattle.path_receiver.specs.declared.answer.Taken.{Taken as Answer}
 use Rattle.recording_reader.specs.FileReader.{FileReader, FindsOne, record_seen}
 use Rattle.recording_reader.specs.declared.room.RecordView.{RecordView}
 use Rattle.capture_engines.specs.Files.{octets_of}
-use Rattle.capture_engines.specs.Tallied.{Tallies, TalliesMore, fitting}
+use Rattle.path_receiver.specs.Tallied.{Tallies, TalliesMore, fitting}
 use Rattle.capture_engines.specs.Taking.{AnnouncesStream, Counts, HoldsBy, Stands, TakesDatagrams}
 use Rattle.capture_engines.specs.Taking.{TakesRecords, said_by}
 use Rattle.capture_engines.specs.declared.intake.Intake.{Intake}
 use Rattle.capture_engines.specs.declared.receiving.Asked.{Asked}
-use Rattle.capture_engines.specs.declared.tally.Tally.{Tally}
+use Rattle.path_receiver.specs.declared.tally.Tally.{Tally}
 
 -- ---- datagrams
 

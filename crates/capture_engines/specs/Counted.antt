@@ -8,7 +8,7 @@ use Rattle.run_outcome.specs.Timestamps.{AreTimestamps}
 use Rattle.run_outcome.specs.declared.refusal.Refusal.{Refusal}
 use Rattle.capture_engines.specs.Files.{files_datagrams}
 use Rattle.capture_engines.specs.Taking.{AnnouncesStream, AreRead, said_behind}
-use Rattle.capture_engines.specs.Tallied.{Tallies}
+use Rattle.path_receiver.specs.Tallied.{Tallies}
 use Rattle.capture_engines.specs.declared.reception.Reception.{Reception}
 
 -- So many datagrams were delivered, and these are the counts of what a receiver answers to them

@@ -3,7 +3,6 @@ pub mod Seen
 pub mod Stopping
 pub mod Migrating
 pub mod MigrateRefused
-pub mod Tallied
 pub mod Printed
 pub mod Receiving
 pub mod Received

@@ -11,10 +11,10 @@ use Rattle.path_receiver.specs.declared.answer.Taken.{Taken}
 use Rattle.payload_header.specs.declared.payload.PayloadFault.TheVariants as payload
 use Rattle.rtp_header.specs.declared.header.RtpFault.TheVariants as rtp
 use Rattle.run_outcome.specs.Line.{line_text}
-use Rattle.capture_engines.specs.Tallied.{fitting, is_outside, is_refusal, place_of}
+use Rattle.path_receiver.specs.Tallied.{fitting, is_outside, is_refusal, place_of}
 use Rattle.run_outcome.specs.declared.line.Line.{Line}
 use Rattle.run_outcome.specs.declared.line.Line.TheVariants.{Delivered, OutsideCount, RefusedCount}
-use Rattle.capture_engines.specs.declared.tally.Tally.{Tally}
+use Rattle.path_receiver.specs.declared.tally.Tally.{Tally}
 use Rattle.run_outcome.specs.Frames.{frame_lines}
 
 -- ---- refusals

@@ -4,7 +4,7 @@ use Rattle.media_file.specs.StateFile.{state_text}
 use Rattle.path_receiver.specs.Frames.{State}
 use Rattle.receiver_file.specs.Saved.{IsWritable, kept_of}
 use Rattle.capture_engines.specs.Printed.{received_text, tally_text}
-use Rattle.capture_engines.specs.declared.tally.Tally.{Tally}
+use Rattle.path_receiver.specs.declared.tally.Tally.{Tally}
 
 -- the lines of a receiver were printed, with those of some counts, where these are wanted; and then
 -- a sink took the receiver's file, which can be written

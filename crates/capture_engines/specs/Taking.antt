@@ -22,7 +22,7 @@ use Rattle.run_outcome.specs.Timestamps.{AreTimestamps}
 use Rattle.capture_engines.specs.declared.receiving.Asked.{Asked}
 use Rattle.capture_engines.specs.declared.intake.Intake.{Intake}
 use Rattle.capture_engines.specs.Printed.{taken_text}
-use Rattle.capture_engines.specs.Tallied.{Tallies, fitting}
+use Rattle.path_receiver.specs.Tallied.{Tallies, fitting}
 
 -- the SDP text by which a receiver is open behind files: that by which it was open before them, or
 -- else that of the first

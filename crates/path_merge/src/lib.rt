@@ -6,9 +6,9 @@ pub mod laws;
 mod schedule;
 
 pub use path_receiver::{
-    MAX_COUNT, Noted, Observer, OpenFault, OpenedUnlike, Opening, PlayFault, ReceiveFault,
-    Received, Receiver, Refusal, Refusals, SeqMap, SeqMapFault, SlideFault, Taken, WindowFrames,
-    number_laws, receive, receive_each,
+    MAX_COUNT, MOST_TIMESTAMPS, Noted, Observer, OpenFault, OpenedUnlike, Opening, PlayFault,
+    REFUSAL_COUNT, ReceiveFault, Received, Receiver, Refusal, Refusals, SeqMap, SeqMapFault,
+    SlideFault, Taken, Tally, WindowFrames, number_laws, receive, receive_each, refusal_at,
 };
 pub use schedule::event::Event;
 pub use schedule::played::{Handed, Played};

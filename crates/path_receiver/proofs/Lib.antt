@@ -15,3 +15,4 @@ pub mod Blank
 pub mod Failed
 pub mod Lives
 pub mod Listed
+pub mod Tallies

@@ -9,6 +9,7 @@ pub mod Sliding
 pub mod Sender
 pub mod TookSent
 pub mod Took
+pub mod Tallied
 pub mod PlayFault
 pub use Rattle.packet_numbers.specs.BitList
 pub use Rattle.packet_numbers.specs.Numbers

@@ -17,7 +17,11 @@ pub enum Taken {
     Outside,
 }
 
-/// Why a datagram was refused: the first reason, in this order.
+/// How many refusals there are.
+pub const REFUSAL_COUNT: usize = 14;
+
+/// Why a datagram was refused: the first reason, in this order. A number is part of texts and files:
+/// a new refusal comes last.
 #[derive(Clone, Copy, Debug, PartialEq, Eq, Error)]
 pub enum Refusal {
     /// 1 to 4: the RTP header is at fault (RFC 3550, 5.1).
@@ -36,6 +40,24 @@ pub enum Refusal {
 
 impl Refusal {
     ghost use Rattle.path_receiver.specs.Answers.{refusal_name, refusal_number};
+
+    /// All, in the order of their numbers.
+    pub const ALL: [Refusal; REFUSAL_COUNT] = [
+        Refusal::Header(RtpFault::ShortHeader),
+        Refusal::Header(RtpFault::BadVersion),
+        Refusal::Header(RtpFault::ShortExtension),
+        Refusal::Header(RtpFault::BadPadding),
+        Refusal::WrongPayloadType,
+        Refusal::WrongSource,
+        Refusal::Payload(PayloadFault::ShortPayloadHeader),
+        Refusal::Payload(PayloadFault::TooManySegments),
+        Refusal::Payload(PayloadFault::SecondField),
+        Refusal::Payload(PayloadFault::BadLength),
+        Refusal::Payload(PayloadFault::BadOffset),
+        Refusal::Payload(PayloadFault::RowOutside),
+        Refusal::Payload(PayloadFault::ColumnsOutside),
+        Refusal::Payload(PayloadFault::ShortData),
+    ];
 
     /// The refusal's number, 1 to 14.
     pub fn number(self) -> u8

@@ -14,9 +14,10 @@ mod opening;
 mod play_fault;
 mod receiver;
 mod receiving;
+mod tally;
 mod window;
 
-pub use answer::{Refusal, Taken};
+pub use answer::{REFUSAL_COUNT, Refusal, Taken};
 pub use fault::{OpenFault, SlideFault};
 pub use listing::{Refusals, WindowFrames};
 pub use observer::Observer;
@@ -25,4 +26,5 @@ pub use packet_numbers::{MAX_COUNT, Noted, OpenedUnlike, SeqMap, SeqMapFault, nu
 pub use play_fault::PlayFault;
 pub use receiver::Receiver;
 pub use receiving::{ReceiveFault, Received, receive, receive_each};
+pub use tally::{Tally, refusal_at};
 pub use window::{MOST_TIMESTAMPS, check_window};

@@ -1,7 +1,7 @@
 //! `receive`, and what it tells where little or nothing was kept.
 use crate::importing::tell_left_out;
 use crate::run_made;
-use capture_engines::{Reception, Seen, Tally, refusal_at};
+use capture_engines::{REFUSAL_COUNT, Reception, Seen, Tally, refusal_at};
 use capture_runs::{Files, ReceiveCommand};
 use command_end::run_command;
 use command_line::ReceiveWords;
@@ -127,11 +127,11 @@ impl fmt::Display for Lost<'_> {
 
 /// Says of the refusals that came most often how often each came. There is one that came.
 fn tell_refused<W: fmt::Write>(tally: &Tally, f: &mut fmt::Formatter<W>) -> fmt::Result {
-    let mut told = [false; 14];
+    let mut told = [false; REFUSAL_COUNT];
     let mut between = " (";
     for _ in 0..NAMED {
         let place = most_frequent(tally, &told);
-        if place >= 14 {
+        if place >= REFUSAL_COUNT {
             break;
         }
         told[place] = true;
@@ -143,11 +143,11 @@ fn tell_refused<W: fmt::Write>(tally: &Tally, f: &mut fmt::Formatter<W>) -> fmt:
 }
 
 /// The place of the refusal that came most often of those that are not told yet, of equally many
-/// the first; 14 where none came.
-fn most_frequent(tally: &Tally, told: &[bool; 14]) -> usize {
-    let mut most = 14;
+/// the first; past all where none came.
+fn most_frequent(tally: &Tally, told: &[bool; REFUSAL_COUNT]) -> usize {
+    let mut most = REFUSAL_COUNT;
     let mut greatest = 0;
-    for place in 0..14 {
+    for place in 0..REFUSAL_COUNT {
         let count = tally.refused[place];
         if !told[place] && count > greatest {
             most = place;

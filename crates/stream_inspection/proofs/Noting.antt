@@ -8,8 +8,8 @@ use Rattle.std.proofs.lemmas.List.Sums.{sum_by-append}
 use Rattle.std.specs.List.{count_by, flat_map}
 use Rattle.std.specs.Prelude.{option_to_list}
 use Rattle.media_file.specs.Records.{Entry}
-use Rattle.capture_engines.specs.Tallied.{Tallies, TalliesMore}
-use Rattle.capture_engines.specs.declared.tally.Tally.{Tally}
+use Rattle.path_receiver.specs.Tallied.{Tallies, TalliesMore}
+use Rattle.path_receiver.specs.declared.tally.Tally.{Tally}
 use Rattle.path_receiver.specs.declared.answer.Refusal.{Refusal}
 use Rattle.path_receiver.specs.declared.answer.Taken.{Taken}
 use Rattle.rtp_header.specs.Reading.{rtp_walk}

@@ -5,8 +5,8 @@ use Rattle.std.specs.List.{AllZip, flat_map}
 use Rattle.capture_engines.specs.Files.{fault_by}
 use Rattle.capture_engines.specs.Printed.{refusals}
 use Rattle.capture_engines.specs.Received.{IsFilesRefusal}
-use Rattle.capture_engines.specs.Tallied.{Tallies, place_of}
-use Rattle.capture_engines.specs.declared.tally.Tally.{Tally}
+use Rattle.path_receiver.specs.Tallied.{Tallies, place_of}
+use Rattle.path_receiver.specs.declared.tally.Tally.{Tally}
 use Rattle.flow.specs.declared.flows.Flows.{Flows}
 use Rattle.media_file.specs.Records.{Entry}
 use Rattle.path_receiver.specs.declared.answer.Refusal.{Refusal as Reason}

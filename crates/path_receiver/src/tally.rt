@@ -1,36 +1,17 @@
 //! Counts of what a receiver answered.
 ghost use Rattle.std.specs.Prelude.{◌≡◌, ◌+◌, ◌<◌, [], Err};
 ghost use Rattle.path_receiver.specs.Answers.{refusal_number};
-ghost use Rattle.capture_engines.specs.Tallied.{Tallies, TalliesMore, tally_after};
+ghost use Rattle.path_receiver.specs.Tallied.{Tallies, TalliesMore, tally_after};
 
-use path_receiver::{Observer, Refusal, Taken};
-use payload_header::PayloadFault;
-use rtp_header::RtpFault;
-
-/// All refusals, in the order of their numbers.
-const REFUSALS: [Refusal; 14] = [
-    Refusal::Header(RtpFault::ShortHeader),
-    Refusal::Header(RtpFault::BadVersion),
-    Refusal::Header(RtpFault::ShortExtension),
-    Refusal::Header(RtpFault::BadPadding),
-    Refusal::WrongPayloadType,
-    Refusal::WrongSource,
-    Refusal::Payload(PayloadFault::ShortPayloadHeader),
-    Refusal::Payload(PayloadFault::TooManySegments),
-    Refusal::Payload(PayloadFault::SecondField),
-    Refusal::Payload(PayloadFault::BadLength),
-    Refusal::Payload(PayloadFault::BadOffset),
-    Refusal::Payload(PayloadFault::RowOutside),
-    Refusal::Payload(PayloadFault::ColumnsOutside),
-    Refusal::Payload(PayloadFault::ShortData),
-];
+use crate::answer::{REFUSAL_COUNT, Refusal, Taken};
+use crate::observer::Observer;
 
 /// The refusal whose count stands at this place of a tally: that of the next number.
 pub fn refusal_at(place: usize) -> Refusal
     requires { place < 14 }
     ensures { refusal_number result ≡ place + 1 }
 {
-    REFUSALS[place]
+    Refusal::ALL[place]
 }
 
 /// How many datagrams were refused, for which reason, how many had timestamps outside the window,
@@ -38,7 +19,7 @@ pub fn refusal_at(place: usize) -> Refusal
 #[derive(Drop)]
 pub struct Tally {
     /// The count of the refusal of number n stands at n - 1.
-    pub refused: [u64; 14],
+    pub refused: [u64; REFUSAL_COUNT],
     pub outside: u64,
     pub kept: u64,
 }
@@ -49,7 +30,7 @@ impl Tally {
         ensures { Tallies result [] }
     {
         Tally {
-            refused: [0; 14],
+            refused: [0; REFUSAL_COUNT],
             outside: 0,
             kept: 0,
         }
@@ -76,7 +57,7 @@ impl Tally {
 }
 
 impl Observer for Tally {
-    ghost use Rattle.capture_engines.specs.Tallied.{tally_after};
+    ghost use Rattle.path_receiver.specs.Tallied.{tally_after};
 
     ghost after = { λ tally answer. tally_after answer tally };
 

@@ -6,7 +6,7 @@ use Rattle.path_receiver.specs.Answers.{refusal_number}
 use Rattle.path_receiver.specs.declared.answer.Refusal.{Refusal}
 use Rattle.path_receiver.specs.declared.answer.Taken.{Taken}
 use Rattle.path_receiver.specs.declared.answer.Taken.TheVariants.{Kept, Outside}
-use Rattle.capture_engines.specs.declared.tally.Tally.{Tally}
+use Rattle.path_receiver.specs.declared.tally.Tally.{Tally}
 
 -- one more, but at most 2^64 - 1
 abbrev pub count_after : ℕ → ℕ

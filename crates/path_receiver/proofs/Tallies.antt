@@ -18,9 +18,9 @@ use Rattle.payload_header.specs.declared.payload.PayloadFault.TheVariants as pay
 use Rattle.rtp_header.specs.Faults.{rtp_fault_number}
 use Rattle.rtp_header.specs.declared.header.RtpFault.{RtpFault}
 use Rattle.rtp_header.specs.declared.header.RtpFault.TheVariants as rtp
-use Rattle.capture_engines.specs.Tallied.{Tallies, TalliesMore, count_after, fitting, is_kept}
-use Rattle.capture_engines.specs.Tallied.{is_outside, is_refusal, place_of, tally_after}
-use Rattle.capture_engines.specs.declared.tally.Tally.{Tally}
+use Rattle.path_receiver.specs.Tallied.{Tallies, TalliesMore, count_after, fitting, is_kept}
+use Rattle.path_receiver.specs.Tallied.{is_outside, is_refusal, place_of, tally_after}
+use Rattle.path_receiver.specs.declared.tally.Tally.{Tally}
 
 -- ---- numbers of refusals
 

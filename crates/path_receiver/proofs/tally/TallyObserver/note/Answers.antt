@@ -1,5 +1,5 @@
-use Rattle.capture_engines.proofs.Tallies.{tallies_more}
-use Rattle.capture_engines.proofs.tally.TallyObserver.note.Goals as goal
+use Rattle.path_receiver.proofs.Tallies.{tallies_more}
+use Rattle.path_receiver.proofs.tally.TallyObserver.note.Goals as goal
 
 pub returns-clause-counted : goal.returns-clause-counted
 returns-clause-counted c =
