@@ -1,5 +1,5 @@
 //! Which datagrams are for a receiver.
-ghost use Rattle.std.specs.Prelude.{◌≡◌, IfOk};
+ghost use Rattle.std.specs.Prelude.{◌≡◌, ◌+◌, ◌*◌, IfOk};
 ghost use Rattle.path_receiver.specs.Admission.{datagram_walk, datagram_of};
 ghost use Rattle.st_format.specs.Reading.{Gives};
 
@@ -39,4 +39,12 @@ pub fn admit<'a>(
     }
     let payload = read_payload(format, header.payload)?;
     Ok(Admitted { header, payload })
+}
+
+/// A packet number: the extended number is its high half, the sequence number its low half (RFC
+/// 4175, 4.1).
+pub fn packet_number(extended: u16, sequence: u16) -> u32
+    ensures { result ≡ 65536 * extended + sequence }
+{
+    65536 * u32::from(extended) + u32::from(sequence)
 }

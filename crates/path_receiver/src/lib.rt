@@ -17,6 +17,7 @@ mod receiving;
 mod tally;
 mod window;
 
+pub use admitting::{Admitted, admit, packet_number};
 pub use answer::{REFUSAL_COUNT, Refusal, Taken};
 pub use fault::{OpenFault, SlideFault};
 pub use listing::{Refusals, WindowFrames};

@@ -19,7 +19,7 @@ ghost use Rattle.path_receiver.specs.Refused.{IsRefusedDatagram};
 ghost use Rattle.path_receiver.specs.Sliding.{slid_state, with_frame};
 ghost use Rattle.path_receiver.specs.declared.answer.Refusal.{Refusal};
 
-use crate::admitting::admit;
+use crate::admitting::{admit, packet_number};
 use crate::answer::{Refusal, Taken};
 use crate::fault::{OpenFault, SlideFault};
 use crate::joining::{blank_frames, join_frames};
@@ -432,14 +432,6 @@ impl<A: Allocator> Receiver<A> {
     {
         self.window.as_slice()
     }
-}
-
-/// A packet number: the extended number is its high half, the sequence number its low half (RFC
-/// 4175, 4.1).
-fn packet_number(extended: u16, sequence: u16) -> u32
-    ensures { result ≡ 65536 * extended + sequence }
-{
-    65536 * u32::from(extended) + u32::from(sequence)
 }
 
 fn timestamps(window: &[u32]) -> ArrayVec<u32, MOST_TIMESTAMPS>

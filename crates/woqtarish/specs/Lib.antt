@@ -76,7 +76,7 @@ pub use Rattle.path_merge.specs.Stays
 pub use Rattle.path_receiver.specs.Took
 pub use Rattle.path_merge.specs.Unfit
 pub use Rattle.following.specs.Acts
-pub use Rattle.following.specs.Admission
+pub use Rattle.path_receiver.specs.Admission
 pub use Rattle.following.specs.Follower
 pub use Rattle.following.specs.Following
 pub use Rattle.following.specs.Memory as FollowingMemory
