@@ -249,7 +249,7 @@ module _ (payload_type : ℕ) (rest : List ℕ) where
   lines_had a None few is second = (has_line a (codes "A") ([] ∷ []) few is.3, tt)
   lines_had a (Some b) few is second = (
     has_line a (codes "A") [] few is.3,
-    (has_line b (codes "B") ([] ∷ []) few second.2, tt),
+    (has_line b (codes "B") ([] ∷ []) few second.3, tt),
   )
 
   session_before : BeginOther session_lines
