@@ -5,10 +5,11 @@
 pub mod laws;
 mod schedule;
 
+pub use packet_numbers::{MAX_COUNT, Noted, OpenedUnlike, SeqMap, SeqMapFault, number_laws};
 pub use path_receiver::{
-    MAX_COUNT, MOST_TIMESTAMPS, Noted, Observer, OpenFault, OpenedUnlike, Opening, PlayFault,
-    REFUSAL_COUNT, ReceiveFault, Received, Receiver, Refusal, Refusals, SeqMap, SeqMapFault,
-    SlideFault, Taken, Tally, WindowFrames, number_laws, receive, receive_each, refusal_at,
+    MOST_TIMESTAMPS, Observer, OpenFault, Opening, PlayFault, REFUSAL_COUNT, ReceiveFault,
+    Received, Receiver, Refusal, Refusals, SlideFault, Taken, Tally, WindowFrames, receive,
+    receive_each, refusal_at,
 };
 pub use schedule::event::Event;
 pub use schedule::played::{Handed, Played};
