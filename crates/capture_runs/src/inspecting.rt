@@ -266,8 +266,8 @@ fn tell_stream(
 ) -> Result<(), Fault>
     ensures told { OnOk result (TellsStream wanted is_json files.old files.new
         (output_took output.old) (output_took output.new)) }
-    ensures refusal { IfErr result (λ f. OfRefusal f (IsStreamRefusal wanted is_json
-        files.old files.new (output_took output.old) (output_took output.new))) }
+    ensures refusal { IfErr result (λ f. OfRefusal f (λ r. IsStreamRefusal wanted is_json
+        files.old files.new (output_took output.old) (output_took output.new) r)) }
     ensures owed { AccountsRead files.old.recordings.items files.new.recordings.items
         (counts (output_failures output.old) (output_failures output.new)) result }
 {
