@@ -16,10 +16,14 @@ const FORMS: [(&[u8], &[u8], Option<u8>); 4] = [
     (b"P6\n4 1\n1023\n", b"P6\n# by hand\n4\t1\n1023\n", Some(2)),
     (
         b"P6\n4 1\n4095\n",
-        b"P6\r\n 4 \n\n 1 #one\n#two\n 4095\n",
+        b"P6#a comment\r\n 4 \n\n 1 #one\n#two\n 4095\n",
         Some(14),
     ),
-    (b"P6\n4 1\n65535\n", b"P6\n00004 01\n65535\r", Some(255)),
+    (
+        b"P6\n4 1\n65535\n",
+        b"P6\n0000004 01\n65#in a number\r535#behind it\n\t",
+        Some(255),
+    ),
 ];
 
 /// The picture of a pixmap, at 60 pictures a second.
@@ -73,10 +77,12 @@ fn each_form(rt: HostRuntime) -> Result<(), Fail> {
 
 #[test]
 fn faults(rt: HostRuntime) -> Result<(), Fail> {
-    let cases: [(&[u8], FormFault); 9] = [
+    let cases: [(&[u8], FormFault); 11] = [
         (b"P", FormFault::Truncated),
         (b"P5 4 1 255 ", FormFault::BadMagic),
-        (b"P64 1 255 ", FormFault::BadMagic),
+        (b"P64 1 255 ", FormFault::BadHeader),
+        (b"P6#\n4 1 255 ", FormFault::BadHeader),
+        (b"P6 4 1 #255 ", FormFault::Truncated),
         (b"P6 4x1 255 ", FormFault::BadHeader),
         (b"P6 123456 1 255 ", FormFault::BadHeader),
         (b"P6 4 1 255", FormFault::Truncated),

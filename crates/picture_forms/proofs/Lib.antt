@@ -15,8 +15,8 @@ pub mod Texted
 pub mod HeadAgain
 pub mod FrameAgain
 pub mod Only
-pub mod Gapped
-pub mod Digited
+pub mod Numbered
+pub mod Counted
 pub mod PixmapHeaded
 pub mod FittedPixels
 pub mod PixmapAgain

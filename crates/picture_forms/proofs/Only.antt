@@ -23,7 +23,7 @@ use Rattle.picture_forms.specs.Walks.{Fails, GaveFault}
 use Rattle.picture_forms.proofs.FrameAgain.{frame_again}
 use Rattle.picture_forms.proofs.HeadAgain.{head_again}
 use Rattle.picture_forms.proofs.Once.{one_picture}
-use Rattle.picture_forms.proofs.Walked.{Reading}
+use Rattle.picture_forms.proofs.Walked.{Reading, same_value}
 
 machine_only : (f : FormFault) (P : Type 0) → (P → ⊥) → IfContent f P → IsMachine f
 machine_only NoMemory P none p = tt
@@ -34,17 +34,6 @@ machine_only UnsupportedForm P none p = none p
 machine_only BadFormat P none p = none p
 machine_only Truncated P none p = none p
 machine_only ValueTooLarge P none p = none p
-
-value_in : {X : Type 0} → X × List ℕ → Result (X × List ℕ) FormFault → X × List ℕ
-value_in d (Ok z) = z
-value_in d (Err f) = d
-
-same_value : {X : Type 0} (q : Result (X × List ℕ) FormFault) (x y : X) (left rest : List ℕ)
-    → q ≡ Ok (x, left) → q ≡ Ok (y, rest) → (y ≡ x) × (rest ≡ left)
-unfolding value_in
-same_value {X} q x y left rest a b =
-    let e = ap (value_in (x, left)) (sym b ∙ a) in
-    (ap (λ (z : X × List ℕ). z.0) e, ap (λ (z : X × List ℕ). z.1) e)
 
 -- ---- a reading that makes a value of octets finds no fault in them, and no other value
 

@@ -201,6 +201,19 @@ pure_refuses first make w l a b e x (Err f) p is shown =
     refuses_then first (λ z rest. with_rest (make z) rest) w l l a b b e x f p
     (refuses_pure (make x) l b e f shown (sym is))
 
+-- ---- a value and what is behind it
+
+value_in : {X : Type 0} → X × List ℕ → Result (X × List ℕ) FormFault → X × List ℕ
+value_in d (Ok z) = z
+value_in d (Err f) = d
+
+pub same_value : {X : Type 0} (q : Result (X × List ℕ) FormFault) (x y : X) (left rest : List ℕ)
+    → q ≡ Ok (x, left) → q ≡ Ok (y, rest) → (y ≡ x) × (rest ≡ left)
+unfolding value_in
+same_value {X} q x y left rest a b =
+    let e = ap (value_in (x, left)) (sym b ∙ a) in
+    (ap (λ (z : X × List ℕ). z.0) e, ap (λ (z : X × List ℕ). z.1) e)
+
 -- ---- fields
 
 abbrev pub cut : Result (List ℕ × List ℕ) FormFault

@@ -5,5 +5,6 @@ pub mod Writing
 pub mod Walks
 pub mod Heads
 pub mod Frames
+pub mod Numbers
 pub mod Pixmaps
 pub mod Streams

@@ -1,12 +1,7 @@
--- The head of a portable pixmap, read: `P6` and white space, and three numbers, each behind a gap
--- of white space and comments, with one octet of white space behind it (Netpbm, ppm). What stands
--- behind the last of these are the samples.
-use Rattle.std.specs.Prelude.{ℕ, ◌+◌, ◌*◌, ◌==◌, ◌&&◌, ◌||◌, nat_lt, nat_le, not, if◌then◌else◌}
-use Rattle.std.specs.Prelude.{Bool}
-use Rattle.std.specs.Prelude.{true, false, List, [], ◌∷◌, length, take, drop, slice_index, codes, ⊤}
-use Rattle.std.specs.Prelude.{Option, None, Some, Result, Ok, Err}
-use Rattle.std.specs.Char.{is_ascii_digit}
-use Rattle.std.specs.List.{prefix_len}
+-- Portable pixmaps, read: `P6`, three numbers (Netpbm, ppm), and behind the last of these the
+-- samples.
+use Rattle.std.specs.Prelude.{◌≡◌, ℕ, ◌-◌, ◌*◌, ◌^◌, ◌==◌, if◌then◌else◌, List, ◌++◌, codes, ⊤}
+use Rattle.std.specs.Prelude.{Result, Ok, Err}
 use Rattle.std.specs.Str.{bytes_eq}
 use Rattle.st_format.specs.declared.format.Format.{Format}
 use Rattle.st_format.specs.declared.sampling.Sampling.TheVariants.{Rgb}
@@ -18,73 +13,42 @@ use Rattle.st_format.specs.Pgroup.{bits_of}
 use Rattle.st_format.specs.Position.{sample_count}
 use Rattle.st_format.specs.Reading.{◌>>=◌}
 use Rattle.picture_forms.specs.declared.fault.FormFault.{FormFault}
-use Rattle.picture_forms.specs.declared.fault.FormFault.TheVariants.{BadHeader, BadMagic, Truncated}
-use Rattle.picture_forms.specs.declared.fault.FormFault.TheVariants.{UnsupportedForm}
+use Rattle.picture_forms.specs.declared.fault.FormFault.TheVariants.{BadMagic, UnsupportedForm}
+use Rattle.picture_forms.specs.declared.number_part.Stage.TheVariants.{Front, Gap}
 use Rattle.picture_forms.specs.Frames.{fitting}
-use Rattle.picture_forms.specs.Heads.{limited, number_at}
+use Rattle.picture_forms.specs.Heads.{limited}
 use Rattle.picture_forms.specs.Layouts.{pixmap_spelling}
+use Rattle.picture_forms.specs.Numbers.{IsCount, count_at}
 use Rattle.picture_forms.specs.Planes.{sample_size}
 use Rattle.picture_forms.specs.Walks.{field_at}
 
--- a space, and tab, LF, VT, FF and CR
-abbrev pub is_white : ℕ → Bool
-is_white octet = octet == 32 || (nat_le 9 octet && nat_le octet 13)
+-- Octets are the head of a pixmap of this format, where the rate is n / d: `P6` and the numbers of
+-- width, height and the greatest value. Behind it the samples begin.
+pub record IsPixmapHead (n d : ℕ) (head : List ℕ) (f : Fields) : Type 0 where
+  pub width : ℕ
+  pub height : ℕ
+  pub depth : Depth
+  pub width_text : List ℕ
+  pub height_text : List ℕ
+  pub most_text : List ℕ
+  pub parts : head ≡ codes "P6" ++ (width_text ++ (height_text ++ most_text))
+  pub is_width : IsCount Front width_text width
+  pub is_height : IsCount Gap height_text height
+  pub is_most : IsCount Gap most_text (2 ^ bits_of depth - 1)
+  pub format : format_at Rgb depth width height n d ≡ Ok f
 
--- Whether a comment goes on behind an octet of a gap, by whether one is there before it; none where
--- the octet is of no gap. A comment goes from `#` to the line's end.
-abbrev pub gap_step : Bool → ℕ → Option Bool
-gap_step true octet = Some (not (octet == 10))
-gap_step false octet =
-    if octet == 35 then Some true else (if is_white octet then Some false else None)
+-- octets begin with such a head, and this is behind it
+pub record HasPixmapHead (n d : ℕ) (octets rest : List ℕ) (f : Fields) : Type 0 where
+  pub head : List ℕ
+  pub is : IsPixmapHead n d head f
+  pub whole : octets ≡ head ++ rest
 
--- how many octets the gap in front of octets has
-abbrev pub gap_counted : Option Bool → (Bool → ℕ) → ℕ
-gap_counted None rest = 0
-gap_counted (Some comment) rest = 1 + rest comment
-
-abbrev pub gap_length : List ℕ → Bool → ℕ
-gap_length [] comment = 0
-gap_length (octet ∷ octets) comment = gap_counted (gap_step comment octet) (gap_length octets)
-
-abbrev pub gap_by : ℕ → List ℕ → ℕ → Result (ℕ × List ℕ) FormFault
-gap_by most octets n =
-    if nat_lt n most
-    then (if nat_lt n (length octets) then Ok (slice_index octets n, drop (n + 1) octets)
-    else Err Truncated)
-    else Err BadHeader
-
--- the first octet behind a gap of fewer than so many octets
-unfoldable pub gap_at : ℕ → List ℕ → Result (ℕ × List ℕ) FormFault
-gap_at most octets = gap_by most octets (gap_length octets false)
-
--- digits, so many, and one octet of white space
-abbrev pub digits_by : List ℕ → ℕ → Result (List ℕ × List ℕ) FormFault
-digits_by octets n =
-    if nat_lt n 6
-    then (if nat_lt n (length octets)
-    then (if nat_lt 0 n && is_white (slice_index octets n)
-    then Ok (take n octets, drop (n + 1) octets) else Err BadHeader)
-    else Err Truncated)
-    else Err BadHeader
-
--- one to five digits, the first of which is this octet if it is one, and white space
-unfoldable pub digits_at : ℕ → List ℕ → Result (List ℕ × List ℕ) FormFault
-digits_at first octets =
-    digits_by (first ∷ octets) (prefix_len is_ascii_digit (first ∷ octets))
-
--- a number behind a gap
-unfoldable pub count_at : List ℕ → Result (ℕ × List ℕ) FormFault
-count_at octets =
-    gap_at 1024 octets >>= λ x. digits_at x.0 x.1 >>= λ y. with_rest (number_at (Some y.0)) y.1
-
--- the first three octets
-unfoldable pub magic_of : List ℕ → Result ⊤ FormFault
-magic_of name =
-    if bytes_eq (take 2 name) (codes "P6") && is_white (slice_index name 2) then Ok tt
-    else Err BadMagic
+-- the first two octets
+abbrev pub magic_of : List ℕ → Result ⊤ FormFault
+magic_of name = if bytes_eq name (codes "P6") then Ok tt else Err BadMagic
 
 unfoldable pub magic_at : List ℕ → Result (⊤ × List ℕ) FormFault
-magic_at octets = field_at 3 octets >>= λ x. with_rest (magic_of x.0) x.1
+magic_at octets = field_at 2 octets >>= λ x. with_rest (magic_of x.0) x.1
 
 -- the depth whose greatest value this is
 abbrev pub depth_by : ℕ → Result Depth FormFault
@@ -102,8 +66,8 @@ pixmap_format n d width height most =
 -- The walk of a pixmap's head from the left, of a rate that it does not say; or the first fault.
 unfoldable pub pixmap_head_walk : ℕ → ℕ → List ℕ → Result (Fields × List ℕ) FormFault
 pixmap_head_walk n d octets =
-    magic_at octets >>= λ x. count_at x.1 >>= λ w. count_at w.1 >>= λ h. count_at h.1 >>=
-    λ m. with_rest (pixmap_format n d w.0 h.0 m.0) m.1
+    magic_at octets >>= λ x. count_at Front x.1 >>= λ w. count_at Gap w.1 >>= λ h.
+    count_at Gap h.1 >>= λ m. with_rest (pixmap_format n d w.0 h.0 m.0) m.1
 
 -- how many octets the samples of a pixmap take
 abbrev pub pixels_size : Format → ℕ

@@ -1,15 +1,15 @@
 //! Laws of the layouts: what is written is read.
-ghost use Rattle.std.specs.Prelude.{◌≡◌, ℕ, List, ◌++◌, Ok, length, map};
+ghost use Rattle.std.specs.Prelude.{◌≡◌, ◌↔◌, ℕ, List, ◌++◌, Ok, length, map};
 ghost use Rattle.std.specs.List.{AllByRecursion, flat_map};
 ghost use Rattle.st_format.specs.declared.format.Format.{Format};
-ghost use Rattle.st_format.specs.Fields.{fields_of};
+ghost use Rattle.st_format.specs.Fields.{Fields, fields_of};
 ghost use Rattle.st_format.specs.Picture.{IsPicture, Values};
 ghost use Rattle.st_format.specs.Position.{sample_count};
 ghost use Rattle.picture_forms.specs.Frames.{frame_walk};
 ghost use Rattle.picture_forms.specs.Heads.{head_walk};
 ghost use Rattle.picture_forms.specs.Layouts.{IsRgb, IsYcc, frame_text, pixels_text};
 ghost use Rattle.picture_forms.specs.Layouts.{pixmap_head, planes_text};
-ghost use Rattle.picture_forms.specs.Pixmaps.{pixels_walk, pixmap_head_walk};
+ghost use Rattle.picture_forms.specs.Pixmaps.{HasPixmapHead, pixels_walk, pixmap_head_walk};
 ghost use Rattle.picture_forms.specs.Layouts.{y4m_head, y4m_text};
 ghost use Rattle.picture_forms.specs.Streams.{IsOf, frames_in};
 
@@ -40,6 +40,13 @@ pub fn head_again()
 pub fn frame_again()
     ensures { (v : Values) (behind : List ℕ) → IsYcc v.format.sampling → IsPicture v
         → frame_walk v.format (frame_text v ++ behind) ≡ Ok (planes_text v, behind) }
+{}
+
+/// The head of a pixmap is read, at a rate, exactly as the format that it says, whatever is behind
+/// it (Netpbm, ppm).
+pub fn pixmap_head_is()
+    ensures { (n d : ℕ) (octets rest : List ℕ) (f : Fields)
+        → (pixmap_head_walk n d octets ≡ Ok (f, rest)) ↔ HasPixmapHead n d octets rest f }
 {}
 
 /// The head of a pixmap that is written is read as its format, where the rate is given.

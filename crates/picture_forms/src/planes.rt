@@ -13,8 +13,8 @@ use st_format::{ByteSink, DeviceFault};
 pub(crate) const PIECE: usize = 2048;
 
 /// How a sample stands in a file.
-#[derive(Clone, Copy, Debug, PartialEq, Eq)]
-pub enum Spelling {
+#[derive(Clone, Copy)]
+pub(crate) enum Spelling {
     /// An octet.
     One,
     /// Two octets, the low one first.
@@ -25,7 +25,7 @@ pub enum Spelling {
 
 impl Spelling {
     /// How many octets a sample takes.
-    pub fn size(self) -> usize
+    pub(crate) fn size(self) -> usize
         ensures value { result ≡ sample_size self }
         ensures few { (0 < result) × (result ≤ 2) }
     {
@@ -37,10 +37,10 @@ impl Spelling {
 }
 
 /// Which samples of a list a plane has: the first, and each that is so many behind.
-#[derive(Clone, Copy, Debug, PartialEq, Eq)]
-pub struct Stride {
-    pub first: usize,
-    pub step: usize,
+#[derive(Clone, Copy)]
+pub(crate) struct Stride {
+    pub(crate) first: usize,
+    pub(crate) step: usize,
 }
 
 /// Spells samples of a plane, `count` from the `start`-th on.

@@ -1,29 +1,64 @@
-use Rattle.std.proofs.Common.{take}
+use Rattle.std.proofs.Common.{◌≡◌, ℕ, suc, ◌+◌, ◌-◌, arith, refl, sym, ◌∙◌}
 use Rattle.std.proofs.lemmas.Result.{err_from_is_err_and}
-use Rattle.picture_forms.proofs.PixmapHeaded.{count_no_digits, count_no_gap, count_reads}
-use Rattle.picture_forms.proofs.PixmapHeaded.{count_refuses}
+use Rattle.picture_forms.specs.Numbers.{count_at, part_at}
+use Rattle.picture_forms.proofs.Numbered.{number_cut, number_done, number_first, number_more}
+use Rattle.picture_forms.proofs.Numbered.{number_over, number_wrong}
 use Rattle.picture_forms.proofs.pixmap_head_reading.read_count.Goals as goal
 
-pub returns-in_err-first-clause-fault : goal.returns-in_err-first-clause-fault
-returns-in_err-first-clause-fault g c =
+pub loop-i-init : goal.loop-i-init
+loop-i-init g c = record {
+  part =
+      number_first (g.S.ByteSource.to_give c.args.source.now)
+      (g.S.ByteSource.gave c.args.source.now) 1024 (part_at c.args.stage 0);
+  failures = refl;
+  names = refl;
+}
+
+pub loop-i-preserved : goal.loop-i-preserved
+loop-i-preserved g c =
+    let i : ℕ = c.loop-i.i in
+    let left : 1024 - i ≡ suc (1024 - (i + 1)) = omega arith in
+    record {
+      part =
+          number_more _ _ _ _ _ _ 1024 (1024 - i) (1024 - (i + 1)) c.in_ok-octet.octet
+          (part_at c.args.stage 0) c.loop-i.part c.in-More.next left c.loop-i.invariant.part
+          c.in_ok-octet.ensures.given (sym c.step_of.ensures ∙ c.in-More.is);
+      failures = c.in_ok-octet.ensures.counted ∙ c.loop-i.invariant.failures;
+      names = c.in_ok-octet.ensures.names ∙ c.loop-i.invariant.names;
+    }
+
+pub returns-in_err-octet-clause-fault : goal.returns-in_err-octet-clause-fault
+unfolding count_at
+returns-in_err-octet-clause-fault g c =
     let p = err_from_is_err_and c.from_residual.result c.from_residual.ensures.1 in
-    rw (p.1, p.2) (count_no_gap _ _ _ _ _ c.in_err-first.field-0.0 c.in_err-first.ensures.fault)
-
-pub returns-in_err-n-clause-fault : goal.returns-in_err-n-clause-fault
-returns-in_err-n-clause-fault g c =
-    let p = err_from_is_err_and c.from_residual-in_err-n.result
-    c.from_residual-in_err-n.ensures.1 in
+    let i : ℕ = c.loop-i.i in
+    let left : 1024 - i ≡ suc (1024 - (i + 1)) = omega arith in
     rw (p.1, p.2)
-    (count_no_digits _ _ _ _ _ _ _ c.in_ok-first.first c.in_err-n.field-0.0
-    c.in_ok-first.ensures.read c.in_err-n.ensures.fault)
+    (number_cut _ _ _ _ _ _ _ 1024 (1024 - i) (1024 - (i + 1)) (part_at c.args.stage 0)
+    c.loop-i.part c.in_err-octet.field-0.0 left c.loop-i.invariant.part
+    c.in_err-octet.ensures.fault)
 
-pub returns-clause-read : goal.returns-clause-read
-returns-clause-read g c =
-    count_reads _ _ _ _ _ _ (take c.in_ok-n.n c.read_digits.new.digits) c.in_ok-first.first
-    c.number_in.result c.in_ok-first.ensures.read c.in_ok-n.ensures.read c.number_in.ensures.value
+pub returns-in-Done-clause-read : goal.returns-in-Done-clause-read
+unfolding count_at
+returns-in-Done-clause-read g c =
+    let i : ℕ = c.loop-i.i in
+    let left : 1024 - i ≡ suc (1024 - (i + 1)) = omega arith in
+    number_done _ _ _ _ _ _ 1024 (1024 - i) (1024 - (i + 1)) c.in_ok-octet.octet c.in-Done.value
+    (part_at c.args.stage 0) c.loop-i.part left c.loop-i.invariant.part
+    c.in_ok-octet.ensures.given (sym c.step_of.ensures ∙ c.in-Done.is)
+
+pub returns-in-Wrong-clause-fault : goal.returns-in-Wrong-clause-fault
+unfolding count_at
+returns-in-Wrong-clause-fault g c =
+    let i : ℕ = c.loop-i.i in
+    let left : 1024 - i ≡ suc (1024 - (i + 1)) = omega arith in
+    number_wrong _ _ _ _ _ _ _ 1024 (1024 - i) (1024 - (i + 1)) c.in_ok-octet.octet
+    (part_at c.args.stage 0) c.loop-i.part left c.loop-i.invariant.part
+    c.in_ok-octet.ensures.given (sym c.step_of.ensures ∙ c.in-Wrong.is)
 
 pub returns-clause-fault : goal.returns-clause-fault
+unfolding count_at
 returns-clause-fault g c =
-    count_refuses _ _ _ _ _ _ (take c.in_ok-n.n c.read_digits.new.digits) _ c.in_ok-first.first
-    c.number_in.result c.in_ok-first.ensures.read c.in_ok-n.ensures.read c.number_in.ensures.value
-    c.number_in.ensures.named
+    let none : 1024 - c.loop-i.i ≡ 0 = omega arith in
+    number_over _ _ _ _ _ 1024 (1024 - c.loop-i.i) (part_at c.args.stage 0) c.loop-i.part none
+    c.loop-i.invariant.part

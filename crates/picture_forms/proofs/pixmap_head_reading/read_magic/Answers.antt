@@ -12,11 +12,11 @@ returns-in_err-read_field-clause-fault g c =
 pub returns-clause-read : goal.returns-clause-read
 returns-clause-read g c =
     magic_reads _ _ _ _ c.read_field.new.buf c.magic_in.result
-    (field_reads 3 _ _ _ _ c.read_field.new.buf c.read_field.ensures.room
+    (field_reads 2 _ _ _ _ c.read_field.new.buf c.read_field.ensures.room
     c.in_ok-read_field.ensures.given) c.magic_in.ensures.value
 
 pub returns-clause-fault : goal.returns-clause-fault
 returns-clause-fault g c =
     magic_refuses _ _ _ _ c.read_field.new.buf _ c.magic_in.result
-    (field_reads 3 _ _ _ _ c.read_field.new.buf c.read_field.ensures.room
+    (field_reads 2 _ _ _ _ c.read_field.new.buf c.read_field.ensures.room
     c.in_ok-read_field.ensures.given) c.magic_in.ensures.value c.magic_in.ensures.named
