@@ -20,3 +20,4 @@ pub mod Counted
 pub mod PixmapHeaded
 pub mod FittedPixels
 pub mod PixmapAgain
+pub mod HeadIs

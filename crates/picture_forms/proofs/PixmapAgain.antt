@@ -120,7 +120,7 @@ field_case false octets a b x y all e =
     let same : (a ≡ x) × (b ≡ y) = same_value good x a y b refl e in
     sym all ∙ ap (λ (t : List ℕ). t ++ y) (sym same.0) ∙ ap (λ (t : List ℕ). a ++ t) (sym same.1)
 
-field_found : (n : ℕ) (octets a b : List ℕ) → field_at n octets ≡ Ok (a, b) → octets ≡ a ++ b
+pub field_found : (n : ℕ) (octets a b : List ℕ) → field_at n octets ≡ Ok (a, b) → octets ≡ a ++ b
 unfolding field_by
 field_found n octets a b e =
     field_case (ltb (length octets) n) octets a b (take n octets) (drop n octets)
