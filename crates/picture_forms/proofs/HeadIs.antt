@@ -416,7 +416,7 @@ line_says text f is =
     (told_says 72 ws is.height_text is.is_height) is.height_is)
     ∙ ap (λ (r : Result (ℕ × ℕ) FormFault). r >>= after_rate ws is.width is.height)
     (rate_says (last_of 70 text) is.rate is.n_text is.d_text is.n is.d
-    (told_says 70 ws is.rate is.is_rate) is.rate_parts is.n_is is.d_is)
+    (told_says 70 ws is.rate is.is_rate) is.rate_is is.n_is is.d_is)
     ∙ ap (λ (r : Result ⊤ FormFault). r >>= after_scan ws is.width is.height (is.n, is.d))
     (scan_says ws is.scan)
     ∙ ap (λ (r : Colour). r >>= after_colour is.width is.height (is.n, is.d))
@@ -454,7 +454,7 @@ line_found text f e =
       is_height = told_found 72 ws height.text height.there;
       height_is = height.is;
       is_rate = told_found 70 ws rate.rate rate.there;
-      rate_parts = rate.parts;
+      rate_is = rate.parts;
       n_is = rate.n_is;
       d_is = rate.d_is;
       scan = scan_in ws (last_of 73 text) p.0 refl p.1;

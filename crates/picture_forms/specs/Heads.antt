@@ -79,7 +79,7 @@ pub record IsHead (text : List ℕ) (f : Fields) : Type 0 where
   pub is_height : IsTold 72 (words text) height_text
   pub height_is : IsNumberText height_text height
   pub is_rate : IsTold 70 (words text) rate
-  pub rate_parts : parted 58 rate ≡ Some (n_text, d_text)
+  pub rate_is : parted 58 rate ≡ Some (n_text, d_text)
   pub n_is : IsNumberText n_text n
   pub d_is : IsNumberText d_text d
   pub scan : IsProgressive (words text)
