@@ -35,7 +35,7 @@ abbrev after : ℕ → List ℕ → ℕ
 after n [] = n
 after n (c ∷ cs) = after (n * 10 + (c - 48)) cs
 
-pub own : IsNumeralModel (λ ds. list_all is_ascii_digit ds ≡ true) (after 0)
+own : IsNumeralModel (λ ds. list_all is_ascii_digit ds ≡ true) (after 0)
 own = numerals_by_fold _ (search rules) after (search rules)
 
 after_grows : (n : ℕ) (ds : List ℕ) → n ≤ after n ds
@@ -125,8 +125,10 @@ module _ (k : ℕ) (front : List ℕ) (last : ℕ) (behind : List ℕ) (v : ℕ)
         → number_by (suc k) (part_of false s x) (o ∷ (front ++ last ∷ behind)) ≡ Ok (v, behind)
     digit_read s x o ds step plain all value =
         let parts = and_parts (is_ascii_digit o) (list_all is_ascii_digit ds) all in
-        let grows = after_grows (x * 10 + (o - 48)) ds in
-        let low : x < 10000 = omega (arith, grows, value, small) in
+        let y : ℕ = x * 10 + (o - 48) in
+        let grows : y ≤ after y ds = after_grows y ds in
+        let is : after y ds ≡ v = value in
+        let low : x < 10000 = omega (arith, grows, is, small) in
         one_on k (part_of false s x) (More (part_of false Digits (x * 10 + (o - 48)))) o
         (front ++ last ∷ behind)
         (digit_here s x o parts.0 ∙ step ∙ value_more x (o - 48) (lt-ltb x 10000 low))

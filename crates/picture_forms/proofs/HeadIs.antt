@@ -239,7 +239,8 @@ parts_in text (Some q) r is e =
     let a = bind_ok (number_at (Some q.0)) (with_n q) r e in
     let pair : ℕ → Result (ℕ × ℕ) FormFault = λ d. Ok (a.0, d) in
     let b = bind_ok (number_at (Some q.1)) pair r a.2 in
-    let same : (a.0, b.0) ≡ r = ok_same (a.0, b.0) r b.2 in
+    let both : ℕ × ℕ = (a.0, b.0) in
+    let same : both ≡ r = ok_same both r b.2 in
     record {
       rate = text;
       n_text = q.0;
@@ -311,7 +312,8 @@ choice_case : (t : Bool) (text : List ℕ) (s : Sampling) (b : Depth) (next : Co
     (c : Sampling × Depth) → bytes_eq text (colour_word s b) ≡ t → IsYcc s
     → (next ≡ Ok c → ColourOf text c) → cond t (coloured s b) next ≡ Ok c → ColourOf text c
 choice_case true text s b next c t ycc more e =
-    let same : (s, b) ≡ c = ok_same (s, b) c e in
+    let both : Sampling × Depth = (s, b) in
+    let same : both ≡ c = ok_same both c e in
     subst (λ (z : Sampling × Depth). ColourOf text z) same
     (record { word = (bytes_eq-Decides text (colour_word s b)).0 t; ycc = ycc })
 choice_case false text s b next c t ycc more e = more e
@@ -562,13 +564,14 @@ name_case : (t : Bool) (name : List ℕ) (x : ⊤) → bytes_eq name (codes "YUV
 name_case true name x t e = (bytes_eq-Decides name (codes "YUV4MPEG2")).0 t
 name_case false name x t e = absurd cc
 
+abbrev after_field : List ℕ × List ℕ → Result (⊤ × List ℕ) FormFault
+after_field y = with_rest (name_of y.0) y.1
+
 name_found : (octets rest : List ℕ) (x : ⊤) → name_at octets ≡ Ok (x, rest)
     → octets ≡ codes "YUV4MPEG2" ++ rest
 unfolding name_at
 name_found octets rest x e =
-    let a =
-    bind_ok (field_at 9 octets) (λ (y : List ℕ × List ℕ). with_rest (name_of y.0) y.1) (x, rest)
-    e in
+    let a = bind_ok (field_at 9 octets) after_field (x, rest) e in
     let keep : ⊤ → Result (⊤ × List ℕ) FormFault = λ u. Ok (u, a.0.1) in
     let b = bind_ok (name_of a.0.0) keep (x, rest) a.2 in
     let name : a.0.0 ≡ codes "YUV4MPEG2" =

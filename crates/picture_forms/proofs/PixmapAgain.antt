@@ -137,13 +137,14 @@ name_case : (t : Bool) (name : List ℕ) (x : ⊤) → bytes_eq name (codes "P6"
 name_case true name x t e = (bytes_eq-Decides name (codes "P6")).0 t
 name_case false name x t e = absurd cc
 
+abbrev after_field : List ℕ × List ℕ → Result (⊤ × List ℕ) FormFault
+after_field y = with_rest (magic_of y.0) y.1
+
 magic_found : (octets rest : List ℕ) (x : ⊤) → magic_at octets ≡ Ok (x, rest)
     → octets ≡ codes "P6" ++ rest
 unfolding magic_at
 magic_found octets rest x e =
-    let a =
-    bind_ok (field_at 2 octets) (λ (y : List ℕ × List ℕ). with_rest (magic_of y.0) y.1) (x, rest)
-    e in
+    let a = bind_ok (field_at 2 octets) after_field (x, rest) e in
     let keep : ⊤ → Result (⊤ × List ℕ) FormFault = λ u. Ok (u, a.0.1) in
     let b = bind_ok (magic_of a.0.0) keep (x, rest) a.2 in
     let name : a.0.0 ≡ codes "P6" =

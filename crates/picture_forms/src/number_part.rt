@@ -103,7 +103,7 @@ fn value_step_of(value: u32, digit: u32) -> NumberStep
 }
 
 /// A part outside of comments.
-pub(crate) fn outside(stage: Stage, value: u32) -> NumberPart
+fn outside(stage: Stage, value: u32) -> NumberPart
     ensures { result ≡ part_at stage value }
 {
     NumberPart {

@@ -11,7 +11,7 @@ ghost use Rattle.picture_forms.specs.Walks.{Fails, GaveFault, Reads, Refuses};
 
 use crate::fault::FormFault;
 use crate::lines::read_octet;
-use crate::number_part::{NumberStep, Stage, outside, step_of};
+use crate::number_part::{NumberPart, NumberStep, Stage, step_of};
 use crate::plane_reading::read_field;
 use st_format::{ByteSource, Depth, Format, Sampling};
 
@@ -136,7 +136,11 @@ fn read_count<S: ByteSource>(source: &mut S, stage: Stage) -> Result<u32, FormFa
     ensures counted { CountsDevice (S.failures source.old) (S.failures source.new) result }
     ensures names { S.names source.new ≡ S.names source.old }
 {
-    let mut part = outside(stage, 0);
+    let mut part = NumberPart {
+        is_comment: false,
+        stage,
+        value: 0,
+    };
     for i in 0..NUMBER {
         let octet = read_octet(source)?;
         match step_of(part, octet) {

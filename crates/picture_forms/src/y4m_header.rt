@@ -58,7 +58,7 @@ fn told<'a>(word: &'a [u8], letter: u8, found: Option<&'a [u8]>) -> Option<&'a [
 }
 
 /// A number that has to be there.
-pub(crate) fn number_in(text: Option<&[u8]>) -> Result<u32, FormFault>
+fn number_in(text: Option<&[u8]>) -> Result<u32, FormFault>
     ensures value { result ≡ number_at (option_copied text.entry) }
     ensures named { IfErr result IsShown }
 {
