@@ -28,8 +28,8 @@ use Rattle.picture_forms.specs.declared.fault.FormFault.TheVariants.{BadHeader, 
 use Rattle.picture_forms.specs.declared.fault.FormFault.TheVariants.{UnsupportedForm}
 use Rattle.picture_forms.specs.Heads.{HasHead, IsHead, IsNumberText, IsOther, IsProgressive, IsTold}
 use Rattle.picture_forms.specs.Heads.{colour_at, colour_named, colour_word, head_at, head_walk}
-use Rattle.picture_forms.specs.Heads.{last_of, limited, name_at, name_of, needed, number_at, rate_at}
-use Rattle.picture_forms.specs.Heads.{rate_parts, scan_at, told, told_last, words}
+use Rattle.picture_forms.specs.Heads.{last_of, limited, name_at, name_of, needed, number_at}
+use Rattle.picture_forms.specs.Heads.{rate_at, rate_parts, scan_at, told, told_last, words}
 use Rattle.picture_forms.specs.Layouts.{IsYcc}
 use Rattle.picture_forms.specs.Walks.{field_at, line_at, line_by}
 use Rattle.picture_forms.proofs.Lined.{Plain, line_again}

@@ -25,9 +25,9 @@ const NUMBER: usize = 1024;
 /// # Errors
 ///
 /// The first fault in the order of the octets, or one of the device before it: `Truncated` where
-/// there are fewer than two, `BadMagic` where these aren't `P6`; of each number `BadHeader` where no
-/// white space and decimal digits stand there, of a value below 100,000, and white space behind
-/// them, or these take more than 1,024 octets, and `Truncated` where the source ends before; then
+/// there are fewer than two, `BadMagic` where these aren't `P6`; of each number `BadHeader` where
+/// no white space, decimal digits of a value below 100,000 and white space stand there, or these
+/// take more than 1,024 octets, and `Truncated` where the source ends before; then
 /// `UnsupportedForm` where the greatest value is none of 255, 1023, 4095 and 65535, and `BadFormat`
 /// where there is no such format.
 pub fn read_pixmap_head<S: ByteSource>(source: &mut S, n: u32, d: u32) -> Result<Format, FormFault>
