@@ -6,7 +6,8 @@ use Rattle.picture_forms.specs.declared.fault.FormFault.TheVariants.{BadHeader, 
 use Rattle.picture_forms.specs.declared.number_part.NumberPart.{NumberPart}
 use Rattle.picture_forms.specs.declared.number_part.NumberStep.{NumberStep}
 use Rattle.picture_forms.specs.declared.number_part.NumberStep.TheVariants.{More, Done, Wrong}
-use Rattle.picture_forms.specs.Numbers.{number_by, number_step, number_then}
+use Rattle.picture_forms.specs.declared.number_part.Stage.{Stage}
+use Rattle.picture_forms.specs.Numbers.{count_at, number_by, number_step, number_then, part_at}
 use Rattle.picture_forms.specs.Walks.{Gives, IsCut, Reads, Refuses}
 use Rattle.picture_forms.proofs.Walked.{gives_both, gives_none, reads_of, refuses_of}
 
@@ -124,7 +125,7 @@ number_more w m l a b c most n left octet first p q e g given is =
     more_on w m l a b c most left octet first p q
     (at_left w m a b most n (suc left) first p e g) given is
 
-pub number_done : (w m l : Option (List ℕ)) (a b c : List ℕ) (most n left octet value : ℕ)
+number_done : (w m l : Option (List ℕ)) (a b c : List ℕ) (most n left octet value : ℕ)
     (first p : NumberPart) → n ≡ suc left → InNumber w m a b most first n p
     → Gives m l b c (octet ∷ []) → number_step p octet ≡ Done value
     → Reads (number_by most first) w l a c value
@@ -132,7 +133,7 @@ number_done w m l a b c most n left octet value first p e g given is =
     done_on w m l a b c most left octet value first p
     (at_left w m a b most n (suc left) first p e g) given is
 
-pub number_wrong : (w m l : Option (List ℕ)) (a b c : List ℕ) (e : Type 0)
+number_wrong : (w m l : Option (List ℕ)) (a b c : List ℕ) (e : Type 0)
     (most n left octet : ℕ) (first p : NumberPart) → n ≡ suc left
     → InNumber w m a b most first n p → Gives m l b c (octet ∷ [])
     → number_step p octet ≡ Wrong → Refuses (number_by most first) w l a c e BadHeader
@@ -140,16 +141,47 @@ number_wrong w m l a b c e most n left octet first p eq g given is =
     wrong_on w m l a b c e most left octet first p
     (at_left w m a b most n (suc left) first p eq g) given is
 
-pub number_cut : (w m l : Option (List ℕ)) (a b c : List ℕ) (e : Type 0) (most n left : ℕ)
+number_cut : (w m l : Option (List ℕ)) (a b c : List ℕ) (e : Type 0) (most n left : ℕ)
     (first p : NumberPart) (f : FormFault) → n ≡ suc left → InNumber w m a b most first n p
     → IsCut f 1 m l b c e → Refuses (number_by most first) w l a c e f
 number_cut w m l a b c e most n left first p f eq g q =
     cut_on w m l a b c e most left first p f (at_left w m a b most n (suc left) first p eq g) q
 
-pub number_over : (w l : Option (List ℕ)) (a b : List ℕ) (e : Type 0) (most n : ℕ)
+number_over : (w l : Option (List ℕ)) (a b : List ℕ) (e : Type 0) (most n : ℕ)
     (first p : NumberPart) → n ≡ 0 → InNumber w l a b most first n p
     → Refuses (number_by most first) w l a b e BadHeader
 number_over w l a b e most n first p eq g =
     let h = at_left w l a b most n 0 first p eq g in
     refuses_of (number_by most first) w l a b h.text e BadHeader tt h.given
     (λ behind. h.goes behind ∙ over_on p behind)
+
+-- ---- of a number from its first octet on
+
+pub count_done : (w m l : Option (List ℕ)) (a b c : List ℕ) (n left octet value : ℕ) (s : Stage)
+    (p : NumberPart) → n ≡ suc left → InNumber w m a b 1024 (part_at s 0) n p
+    → Gives m l b c (octet ∷ []) → number_step p octet ≡ Done value
+    → Reads (count_at s) w l a c value
+unfolding count_at
+count_done w m l a b c n left octet value s p e g given is =
+    number_done w m l a b c 1024 n left octet value (part_at s 0) p e g given is
+
+pub count_wrong : (w m l : Option (List ℕ)) (a b c : List ℕ) (e : Type 0) (n left octet : ℕ)
+    (s : Stage) (p : NumberPart) → n ≡ suc left → InNumber w m a b 1024 (part_at s 0) n p
+    → Gives m l b c (octet ∷ []) → number_step p octet ≡ Wrong
+    → Refuses (count_at s) w l a c e BadHeader
+unfolding count_at
+count_wrong w m l a b c e n left octet s p eq g given is =
+    number_wrong w m l a b c e 1024 n left octet (part_at s 0) p eq g given is
+
+pub count_cut : (w m l : Option (List ℕ)) (a b c : List ℕ) (e : Type 0) (n left : ℕ) (s : Stage)
+    (p : NumberPart) (f : FormFault) → n ≡ suc left → InNumber w m a b 1024 (part_at s 0) n p
+    → IsCut f 1 m l b c e → Refuses (count_at s) w l a c e f
+unfolding count_at
+count_cut w m l a b c e n left s p f eq g q =
+    number_cut w m l a b c e 1024 n left (part_at s 0) p f eq g q
+
+pub count_over : (w l : Option (List ℕ)) (a b : List ℕ) (e : Type 0) (n : ℕ) (s : Stage)
+    (p : NumberPart) → n ≡ 0 → InNumber w l a b 1024 (part_at s 0) n p
+    → Refuses (count_at s) w l a b e BadHeader
+unfolding count_at
+count_over w l a b e n s p eq g = number_over w l a b e 1024 n (part_at s 0) p eq g
