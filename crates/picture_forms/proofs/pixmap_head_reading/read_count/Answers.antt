@@ -33,8 +33,8 @@ returns-in_err-octet-clause-fault g c =
     let i : ℕ = c.loop-i.i in
     let left : 1024 - i ≡ suc (1024 - (i + 1)) = omega arith in
     rw (p.1, p.2)
-    (count_cut _ _ _ _ _ _ _ (1024 - i) (1024 - (i + 1)) c.args.stage c.loop-i.part c.in_err-octet.field-0.0 left c.loop-i.invariant.part
-    c.in_err-octet.ensures.fault)
+    (count_cut _ _ _ _ _ _ _ (1024 - i) (1024 - (i + 1)) c.args.stage c.loop-i.part
+    c.in_err-octet.field-0.0 left c.loop-i.invariant.part c.in_err-octet.ensures.fault)
 
 pub returns-in-Done-clause-read : goal.returns-in-Done-clause-read
 returns-in-Done-clause-read g c =
