@@ -1,0 +1,4 @@
+pub mod Gone
+pub mod Chosen
+pub mod Reading
+pub mod Told

@@ -1,0 +1,273 @@
+-- Files that are read on.
+use Rattle.std.proofs.Common.{◌≡◌, ℕ, zero, suc, ◌<◌, Bool, true, false, inl, inr, List, [], ◌∷◌}
+use Rattle.std.proofs.Common.{◌++◌, map, Option, None, Some, refl, sym, ap, subst, ◌∙◌, arith}
+use Rattle.std.proofs.Common.{get_or, set, length, take}
+use Rattle.std.specs.List.{AllByRecursion}
+use Rattle.media_file.specs.Records.{Entry}
+use Rattle.recording_engines.specs.Files.{IsAt}
+use Rattle.recording_engines.specs.declared.file.ImportFile.{ImportFile}
+use Rattle.recording_engines.specs.declared.file.ImportFile.TheVariants.{Closed, Open, Taken}
+use Rattle.recording_reader.specs.FileReader.{FileReader, Finds, FindsFault, FindsOne, fault_of}
+use Rattle.recording_reader.specs.declared.fault.ReadingFault.{ReadingFault}
+use Rattle.recording_reader.specs.declared.way.Standing.{Standing as Stand}
+use Rattle.recording_reader.specs.declared.way.Standing.TheVariants.{Reads, Ended, Failed}
+use Rattle.side_by_side.specs.Going.{going_by}
+use Rattle.side_by_side.specs.Side.{HasRead, IsAtHand, IsReadBy, IsSoundBy, IsSoundFile, IsSoundSide}
+use Rattle.side_by_side.specs.Side.{IsUnfailed, IsUnfailedFile, StopsSide, ahead_by, ahead_of_hand}
+use Rattle.side_by_side.specs.Side.{goings, standing_by, standing_of}
+use Rattle.side_by_side.specs.Sides.{AllRead, AllSound, AllUnfailed, OneSideAt, standings}
+use Rattle.side_by_side.specs.Steering.{stamp_of}
+use Rattle.side_by_side.specs.Steps.{Ahead, AllGoOn, Coming, GoesOn, Over, ReadsMore, Standing}
+use Rattle.side_by_side.specs.Steps.{Unknown}
+use Rattle.side_by_side.specs.declared.going.Going.{Going}
+use Rattle.side_by_side.specs.declared.going.Going.TheVariants.{Unread, AtOnce, By, Never}
+use Rattle.side_by_side.specs.declared.side.Side.{Side}
+use Rattle.side_by_side.specs.declared.steering.Steering.{Steering}
+use Rattle.side_by_side.proofs.Gone.{AllKnownAhead, IsKnownAhead, all_on, all_stay, going_ahead}
+use Rattle.side_by_side.proofs.Gone.{goings_ahead}
+
+-- ---- one file
+
+pub sound_unread : {A S : Type 0} (st : Steering) (f : ImportFile A S) → IsSoundFile st Unread f
+sound_unread st (Closed s) = inl refl
+sound_unread st (Open r) = tt
+sound_unread st Taken = inl refl
+
+pub sound_given : {A S : Type 0} (st : Steering) (s : Side A S) → s.going ≡ Unread
+    → IsSoundSide st s
+sound_given st s is =
+    subst (λ (w : Going). IsSoundFile st w s.file) (sym is) (sound_unread st s.file)
+
+-- what comes next of it is known, and goes so
+pub record IsKnownSide (st : Steering) (w : Going) (a : Ahead) : Type 0 where
+  pub known : IsKnownAhead a
+  pub goes : w ≡ going_ahead st a
+
+known_hand : (st : Steering) (w : Going) (stand : Stand) (at_hand : Option Entry)
+    → IsAtHand st w stand at_hand → ((e : Entry) → ahead_of_hand w (Some e) ≡ Coming e)
+    → IsKnownSide st w (ahead_by stand w at_hand)
+known_hand st w stand at_hand is comes =
+    let e = is.0 in
+    subst (λ (x : Stand). IsKnownSide st w (ahead_by x w at_hand)) (sym is.1)
+    (subst (λ (h : Option Entry). IsKnownSide st w (ahead_by Reads w h)) (sym is.2)
+    (subst (λ (a : Ahead). IsKnownSide st w a) (sym (comes e))
+    (record { known = tt; goes = is.3 })))
+
+known_never : (st : Steering) (stand : Stand) (at_hand : Option Entry) → stand ≡ Ended
+    → IsKnownSide st Never (ahead_by stand Never at_hand)
+known_never st stand at_hand is =
+    subst (λ (x : Stand). IsKnownSide st Never (ahead_by x Never at_hand)) (sym is)
+    (record { known = tt; goes = refl })
+
+known_by : (st : Steering) (w : Going) (stand : Stand) (at_hand : Option Entry)
+    → IsSoundBy st w stand at_hand → IsReadBy w → IsKnownSide st w (ahead_by stand w at_hand)
+known_by st Unread stand at_hand sound read = absurd read
+known_by st AtOnce stand at_hand sound read =
+    known_hand st AtOnce stand at_hand sound (λ e. refl)
+known_by st (By t) stand at_hand sound read = known_hand st (By t) stand at_hand sound (λ e. refl)
+known_by st Never stand at_hand sound read = known_never st stand at_hand sound
+
+known_closed : (st : Steering) (w : Going) → IsSoundFile {A = Unit {0}} {S = Unit {0}} st w Taken
+    → IsReadBy w → IsKnownSide st w (Over None)
+known_closed st Unread sound read = absurd read
+known_closed st AtOnce (inl is) read = absurd cc
+known_closed st AtOnce (inr is) read = absurd cc
+known_closed st (By t) (inl is) read = absurd cc
+known_closed st (By t) (inr is) read = absurd cc
+known_closed st Never sound read = record { known = tt; goes = refl }
+
+known_file : {A S : Type 0} (st : Steering) (w : Going) (f : ImportFile A S)
+    → IsSoundFile st w f → IsReadBy w → IsKnownSide st w (standing_by w f).ahead
+known_file st w (Closed s) sound read = known_closed st w sound read
+known_file st w (Open r) sound read = known_by st w r.standing r.at_hand sound read
+known_file st w Taken sound read = known_closed st w sound read
+
+pub known_side : {A S : Type 0} (st : Steering) (s : Side A S) → IsSoundSide st s
+    → IsReadBy s.going → IsKnownSide st s.going (standing_of s).ahead
+known_side st s sound read = known_file st s.going s.file sound read
+
+-- so it came to no fault
+unfailed_by : (st : Steering) (w : Going) (stand : Stand) (at_hand : Option Entry)
+    → IsSoundBy st w stand at_hand → IsReadBy w → fault_of stand ≡ None
+unfailed_by st Unread stand at_hand sound read = absurd read
+unfailed_by st AtOnce stand at_hand sound read = ap fault_of sound.1
+unfailed_by st (By t) stand at_hand sound read = ap fault_of sound.1
+unfailed_by st Never stand at_hand sound read = ap fault_of sound
+
+unfailed_file : {A S : Type 0} (st : Steering) (w : Going) (f : ImportFile A S)
+    → IsSoundFile st w f → IsReadBy w → IsUnfailedFile f
+unfailed_file st w (Closed s) sound read = tt
+unfailed_file st w (Open r) sound read = unfailed_by st w r.standing r.at_hand sound read
+unfailed_file st w Taken sound read = tt
+
+pub unfailed_read : {A S : Type 0} (st : Steering) (s : Side A S) → IsSoundSide st s
+    → IsReadBy s.going → IsUnfailed s
+unfailed_read st s sound read = unfailed_file st s.going s.file sound read
+
+-- ---- a reader that goes on
+
+abbrev standing : {S : Type 0} → Going → FileReader S → Standing
+standing w r = record { entries = r.records; ahead = ahead_by r.standing w r.at_hand }
+
+going_comes : (x : Option ℕ) (e : Entry) → ahead_of_hand (going_by x) (Some e) ≡ Coming e
+going_comes None e = refl
+going_comes (Some t) e = refl
+
+reads_one : {S : Type 0} (x : Option ℕ) (r r' : FileReader S) → FindsOne r r'
+    → ReadsMore r.records (standing (going_by x) r').ahead r'.records
+reads_one x r r' finds =
+    let es : List Entry = r.records in
+    subst (λ (s : Stand). ReadsMore es (ahead_by s (going_by x) r'.at_hand) r'.records)
+    (sym finds.reads)
+    (subst (λ (h : Option Entry). ReadsMore es (ahead_of_hand (going_by x) h) r'.records)
+    (sym finds.at_hand)
+    (subst (λ (a : Ahead). ReadsMore es a r'.records) (sym (going_comes x finds.entry))
+    finds.records))
+
+-- of one that stood so
+pub went_one : {S : Type 0} (x : Option ℕ) (r r' : FileReader S) → r.standing ≡ Reads
+    → FindsOne r r' → GoesOn (standing Unread r) (standing (going_by x) r')
+went_one x r r' reads finds =
+    inr (ap (λ (s : Stand). ahead_by s Unread r.at_hand) reads, reads_one x r r' finds)
+
+sound_one : {S : Type 0} (st : Steering) (x : Option ℕ) (r r' : FileReader S)
+    → (finds : FindsOne r r') → x ≡ stamp_of st finds.entry.octets
+    → IsSoundBy st (going_by x) r'.standing r'.at_hand
+sound_one st None r r' finds is =
+    (finds.entry, finds.reads, finds.at_hand, ap going_by is)
+sound_one st (Some t) r r' finds is =
+    (finds.entry, finds.reads, finds.at_hand, ap going_by is)
+
+read_going : (x : Option ℕ) → IsReadBy (going_by x)
+read_going None = tt
+read_going (Some t) = tt
+
+pub read_one : {A S : Type 0} (st : Steering) (x : Option ℕ) (r r' : FileReader S)
+    → r.standing ≡ Reads → (finds : FindsOne r r') → x ≡ stamp_of st finds.entry.octets
+    → HasRead {A = A} st (record { file = Open r; going = Unread })
+    (record { file = Open r'; going = going_by x })
+read_one st x r r' reads finds is = record {
+  sound = sound_one st x r r' finds is;
+  read = read_going x;
+  goes_on = went_one x r r' reads finds;
+}
+
+-- at its end
+standing_same : {S : Type 0} (w : Going) (r r' : FileReader S) → r'.records ≡ r.records
+    → r.standing ≡ Ended → r'.standing ≡ Ended → standing w r' ≡ standing Unread r
+standing_same w r r' same before after =
+    let old : (standing Unread r).ahead ≡ Over None =
+    ap (λ (s : Stand). ahead_by s Unread r.at_hand) before in
+    let new : (standing w r').ahead ≡ Over None =
+    ap (λ (s : Stand). ahead_by s w r'.at_hand) after in
+    cc
+
+went_end : {S : Type 0} (stand : Stand) (r r' : FileReader S) → r.standing ≡ stand
+    → ((f : ReadingFault) → stand ≡ Failed f → ⊥) → Finds false r r'
+    → GoesOn (standing Unread r) (standing Never r')
+went_end Reads r r' at unfailed finds =
+    inr (
+      ap (λ (s : Stand). ahead_by s Unread r.at_hand) at,
+      subst (λ (s : Stand). ReadsMore r.records (ahead_by s Never r'.at_hand) r'.records)
+          (sym finds.ended) finds.records,
+    )
+went_end Ended r r' at unfailed finds =
+    inl (standing_same Never r r' finds.records at finds.ended)
+went_end (Failed f) r r' at unfailed finds = absurd (unfailed f refl)
+
+pub read_end : {A S : Type 0} (st : Steering) (r r' : FileReader S)
+    → ((f : ReadingFault) → r.standing ≡ Failed f → ⊥) → Finds false r r'
+    → HasRead {A = A} st (record { file = Open r; going = Unread })
+    (record { file = Open r'; going = Never })
+read_end st r r' unfailed finds = record {
+  sound = finds.ended;
+  read = tt;
+  goes_on = went_end r.standing r r' refl unfailed finds;
+}
+
+-- at a fault
+went_fault : {S : Type 0} (f : ReadingFault) (stand : Stand) (r r' : FileReader S)
+    → r.standing ≡ stand → (stand ≡ Ended → ⊥)
+    → ((g : ReadingFault) → stand ≡ Failed g → g ≡ f) → FindsFault f r r'
+    → GoesOn (standing Unread r) (standing Unread r')
+went_fault f Reads r r' at unended same finds =
+    inr (
+      ap (λ (s : Stand). ahead_by s Unread r.at_hand) at,
+      subst (λ (s : Stand). ReadsMore r.records (ahead_by s Unread r'.at_hand) r'.records)
+          (sym finds.failed) finds.records,
+    )
+went_fault f Ended r r' at unended same finds = absurd (unended refl)
+went_fault f (Failed g) r r' at unended same finds =
+    let one = same g refl in
+    let old : (standing Unread r).ahead ≡ Over (Some g) =
+    ap (λ (s : Stand). ahead_by s Unread r.at_hand) at in
+    let new : (standing Unread r').ahead ≡ Over (Some f) =
+    ap (λ (s : Stand). ahead_by s Unread r'.at_hand) finds.failed in
+    let records = finds.records in
+    inl cc
+
+pub stops_one : {A S : Type 0} (f : ReadingFault) (r r' : FileReader S)
+    → (r.standing ≡ Ended → ⊥) → ((g : ReadingFault) → r.standing ≡ Failed g → g ≡ f)
+    → FindsFault f r r' → StopsSide {A = A} f (record { file = Open r; going = Unread })
+    (record { file = Open r'; going = Unread })
+stops_one f r r' unended same finds = record {
+  unread = refl;
+  at = finds.failed;
+  goes_on = went_fault f r.standing r r' refl unended same finds;
+}
+
+-- one of which what comes next is read stays
+pub read_stays : {A S : Type 0} (st : Steering) (s : Side A S) → IsSoundSide st s
+    → IsReadBy s.going → HasRead st s s
+read_stays st s sound read = record { sound = sound; read = read; goes_on = inl refl }
+
+-- ---- all of them
+
+pub all_known : {A S : Type 0} (st : Steering) (sides : List (Side A S)) → AllSound st sides
+    → AllRead sides → AllKnownAhead (standings sides)
+all_known st [] sound read = tt
+all_known st (s ∷ ss) sound read =
+    ((known_side st s sound.0 read.0).known, all_known st ss sound.1 read.1)
+
+cons : {x y : Going} {xs ys : List Going} → x ≡ y → xs ≡ ys → x ∷ xs ≡ y ∷ ys
+cons one rest = cc
+
+pub goings_are : {A S : Type 0} (st : Steering) (sides : List (Side A S)) → AllSound st sides
+    → AllRead sides → goings sides ≡ goings_ahead st (standings sides)
+goings_are st [] sound read = refl
+goings_are st (s ∷ ss) sound read =
+    cons (known_side st s sound.0 read.0).goes (goings_are st ss sound.1 read.1)
+
+pub all_set : {X : Type 0} (P : X → Type 0) (xs : List X) (k : ℕ) (y : X) → AllByRecursion P xs
+    → P y → AllByRecursion P (set xs k y)
+all_set P [] k y are is = tt
+all_set P (x ∷ xs) zero y are is = (is, are.1)
+all_set P (x ∷ xs) (suc k) y are is = (are.0, all_set P xs k y are.1 is)
+
+pub all_get : {X : Type 0} (P : X → Type 0) (xs : List X) (k : ℕ) (d : X) → k < length xs
+    → AllByRecursion P xs → P (get_or xs k d)
+all_get P [] k d lt are = absurd (omega (arith, lt))
+all_get P (x ∷ xs) zero d lt are = are.0
+all_get P (x ∷ xs) (suc k) d lt are = all_get P xs k d (omega (arith, lt)) are.1
+
+-- those of the first places, and one more
+pub all_one_more : {X : Type 0} (P : X → Type 0) (xs : List X) (k : ℕ) (y : X) → k < length xs
+    → AllByRecursion P (take k xs) → P y → AllByRecursion P (take (suc k) (set xs k y))
+all_one_more P [] k y lt are is = absurd (omega (arith, lt))
+all_one_more P (x ∷ xs) zero y lt are is = (is, tt)
+all_one_more P (x ∷ xs) (suc k) y lt are is =
+    (are.0, all_one_more P xs k y (omega (arith, lt)) are.1 is)
+
+-- one was read on, and the others are as they were
+pub on_set : {A S : Type 0} (sides : List (Side A S)) (k : ℕ) (d s' : Side A S)
+    → GoesOn (standing_of (get_or sides k d)) (standing_of s')
+    → AllGoOn (standings sides) (standings (set sides k s'))
+on_set [] k d s' on = tt
+on_set (s ∷ ss) zero d s' on = (on, all_stay (standings ss))
+on_set (s ∷ ss) (suc k) d s' on = (inl refl, on_set ss k d s' on)
+
+pub stopped_set : {A S : Type 0} (f : ReadingFault) (sides : List (Side A S)) (k : ℕ)
+    (s' : Side A S) → k < length sides → IsAt f s'.file → OneSideAt f (set sides k s')
+stopped_set f [] k s' lt at = absurd (omega (arith, lt))
+stopped_set f (s ∷ ss) zero s' lt at = inl at
+stopped_set f (s ∷ ss) (suc k) s' lt at = inr (stopped_set f ss k s' (omega (arith, lt)) at)

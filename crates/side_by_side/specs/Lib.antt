@@ -1,0 +1,6 @@
+pub mod Steering
+pub mod Going
+pub mod Strands
+pub mod Steps
+pub mod Side
+pub mod Sides

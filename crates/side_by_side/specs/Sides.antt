@@ -1,0 +1,134 @@
+-- What is known of files that are read side by side (own).
+use Rattle.std.specs.Prelude.{◌≡◌, ℕ, ◌<◌, ◌⊎◌, ⊤, List, [], ◌∷◌, ◌++◌, map, take}
+use Rattle.std.specs.Prelude.{Option, None, Some}
+use Rattle.std.specs.List.{AllByRecursion, sum_by}
+use Rattle.std.specs.Option.{option_map}
+use Rattle.flow.specs.declared.flows.Flows.{Flows}
+use Rattle.media_file.specs.Records.{Entry}
+use Rattle.recording_engines.specs.Files.{IsAt, begun_of, failures_by}
+use Rattle.recording_engines.specs.declared.file.ImportFile.{ImportFile}
+use Rattle.recording_engines.specs.declared.file.ImportFile.TheVariants.{Closed, Open, Taken}
+use Rattle.recording_reader.specs.Files.{datagrams_of, source_fault}
+use Rattle.recording_reader.specs.declared.fault.ReadingFault.{ReadingFault}
+use Rattle.recording_reader.specs.declared.way.Standing.TheVariants.{Reads}
+use Rattle.st_format.specs.declared.device.SourceFault.{SourceFault}
+use Rattle.st_format.specs.declared.device.Turn.{Turn}
+use Rattle.st_format.specs.declared.device.Turn.TheVariants.{Datagram, Quiet, End}
+use Rattle.st_format.specs.declared.path.Path.{Path}
+use Rattle.side_by_side.specs.Side.{IsReadBy, IsSoundSide, IsUnfailed, standing_of}
+use Rattle.side_by_side.specs.Steps.{AllGoOn, HasGone, Over, Standing}
+use Rattle.side_by_side.specs.declared.going.Going.TheVariants.{Unread}
+use Rattle.side_by_side.specs.declared.side.Side.{Side}
+use Rattle.side_by_side.specs.declared.steering.Steering.{Steering}
+
+-- ---- files
+
+abbrev pub standings : {A S : Type 0} → List (Side A S) → List Standing
+standings sides = map standing_of sides
+
+-- by which flows each is read, and what its source had given before its first octet
+abbrev pub begun_each : {A S : Type 0} → List (Side A S) → List (Option Flows × List ℕ)
+begun_each sides = map (λ s. begun_of s.file) sides
+
+-- how often their sources failed, all together
+abbrev pub failures_each : {A S : Type 0} → (S → ℕ) → List (Side A S) → ℕ
+failures_each failures sides = sum_by (λ s. failures_by failures s.file) sides
+
+abbrev pub AllSound : {A S : Type 0} → Steering → List (Side A S) → Type 0
+AllSound steering sides = AllByRecursion (λ s. IsSoundSide steering s) sides
+
+abbrev pub AllUnfailed : {A S : Type 0} → List (Side A S) → Type 0
+AllUnfailed sides = AllByRecursion IsUnfailed sides
+
+-- what comes next of each is read
+abbrev pub AllRead : {A S : Type 0} → List (Side A S) → Type 0
+AllRead sides = AllByRecursion (λ s. IsReadBy s.going) sides
+
+-- each is at its end
+abbrev pub AllOver : {A S : Type 0} → List (Side A S) → Type 0
+AllOver sides = AllByRecursion (λ s. (standing_of s).ahead ≡ Over None) sides
+
+-- one is at this fault
+abbrev pub OneSideAt : {A S : Type 0} → ReadingFault → List (Side A S) → Type 0
+OneSideAt f [] = ⊥
+OneSideAt f (s ∷ ss) = IsAt f s.file ⊎ OneSideAt f ss
+
+-- nothing was read of a file behind what stands before its records, if it is opened
+abbrev pub IsFreshFile : {A S : Type 0} → ImportFile A S → Type 0
+IsFreshFile (Closed s) = ⊤
+IsFreshFile (Open r) = (r.standing ≡ Reads) × (r.records ≡ [])
+IsFreshFile Taken = ⊤
+
+abbrev pub IsBegun : {A S : Type 0} → Side A S → Type 0
+IsBegun s = (s.going ≡ Unread) × IsFreshFile s.file
+
+-- ---- what calls do
+
+-- Each was read on, to its next datagram or to its end.
+pub record ReadsAll {A S : Type 0} (steering : Steering) (olds news : List (Side A S)) : Type 0 where
+  pub sound : AllSound steering news
+  pub read : AllRead news
+  pub goes_on : AllGoOn (standings olds) (standings news)
+
+-- One was read on to a fault, at which it stays.
+pub record StopsAll {A S : Type 0} (steering : Steering) (f : ReadingFault)
+    (olds news : List (Side A S)) : Type 0 where
+  pub sound : AllSound steering news
+  pub stopped : OneSideAt f news
+  pub goes_on : AllGoOn (standings olds) (standings news)
+
+-- The datagram of the one that goes first was told, whose octets stand at the front of a buffer.
+pub record TellsOne {A S : Type 0} (steering : Steering) (path : Path) (count : ℕ) (buf : List ℕ)
+    (olds news : List (Side A S)) : Type 0 where
+  pub entry : Entry
+  pub by : path ≡ entry.path
+  pub octets : take count buf ≡ entry.octets
+  pub few : count < 65536
+  pub sound : AllSound steering news
+  pub gone : (entries : List Entry) → HasGone steering (standings olds) entries
+      → HasGone steering (standings news) (entries ++ entry ∷ [])
+  pub left : AllOver news → ⊥
+
+-- None has one.
+pub record TellsEnd {A S : Type 0} (steering : Steering) (olds news : List (Side A S)) : Type 0 where
+  pub sound : AllSound steering news
+  pub gone : (entries : List Entry) → HasGone steering (standings olds) entries
+      → HasGone steering (standings news) entries
+  pub over : AllOver news
+
+-- by the turn that a call told
+abbrev pub TellsNext : {A S : Type 0} → Steering → Turn → List ℕ → List (Side A S)
+    → List (Side A S) → Type 0
+TellsNext steering (Datagram path count) buf olds news =
+    TellsOne steering path count buf olds news
+TellsNext steering Quiet buf olds news = ⊥
+TellsNext steering End buf olds news = TellsEnd steering olds news
+
+-- ---- a source over them
+
+-- What is seen of it: the files, the datagrams that it gave, and the fault at which it stays.
+pub record Sides (A S : Type 0) : Type 0 where
+  pub steering : Steering
+  pub sides : List (Side A S)
+  pub came : List (Path × List ℕ)
+  pub delivered : ℕ
+  pub failures : ℕ
+  pub fault : Option ReadingFault
+
+-- so as a source of datagrams tells it
+abbrev pub last_fault_of : Option ReadingFault → Option SourceFault
+last_fault_of fault = option_map source_fault fault
+
+-- where it came to a fault, one of the files is at it
+abbrev pub IsStopped : {A S : Type 0} → Option ReadingFault → List (Side A S) → Type 0
+IsStopped None sides = ⊤
+IsStopped (Some f) sides = OneSideAt f sides
+
+-- What is so of each: the datagrams that it gave are those of the files' records, each file's in its
+-- order, always that of the file that goes first.
+pub record IsSideBySide {A S : Type 0} (s : Sides A S) : Type 0 where
+  pub sound : AllSound s.steering s.sides
+  pub entries : List Entry
+  pub gone : HasGone s.steering (standings s.sides) entries
+  pub came_is : s.came ≡ datagrams_of entries
+  pub stopped : IsStopped s.fault s.sides

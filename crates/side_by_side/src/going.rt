@@ -1,0 +1,83 @@
+//! When the next datagram of a file goes.
+ghost use Rattle.std.specs.Prelude.{◌≡◌};
+ghost use Rattle.following.specs.Serial.{ahead_of, is_newer};
+ghost use Rattle.side_by_side.specs.Going.{goes, goes_before, going_by};
+
+/// When the next datagram of a file goes.
+#[derive(Clone, Copy, Debug, PartialEq, Eq)]
+pub enum Going {
+    /// It isn't read yet.
+    Unread,
+    /// At once: it steers nothing.
+    AtOnce,
+    /// By its timestamp, in 90 kHz ticks.
+    By(u32),
+    /// None comes.
+    Never,
+}
+
+/// Half of the times that a timestamp tells apart.
+const HALF: u32 = 0x8000_0000;
+
+impl Going {
+    /// Of a datagram, by its timestamp, or at once where it has none by which it goes.
+    pub(crate) fn of(stamp: Option<u32>) -> Going
+        ensures { result ≡ going_by stamp }
+    {
+        match stamp {
+            None => Going::AtOnce,
+            Some(timestamp) => Going::By(timestamp),
+        }
+    }
+
+    /// Whether there is a datagram that goes.
+    pub(crate) fn goes(self) -> bool
+        ensures { result ≡ goes self }
+    {
+        match self {
+            Going::Unread => false,
+            Going::AtOnce => true,
+            Going::By(_) => true,
+            Going::Never => false,
+        }
+    }
+
+    /// Whether a datagram that goes so is before one that goes as `other`: at once is before by a
+    /// timestamp, and an older timestamp before a newer one (RFC 1982, 3.2).
+    pub(crate) fn is_before(self, other: Going) -> bool
+        ensures { result ≡ goes_before self other }
+    {
+        match self {
+            Going::Unread => false,
+            Going::Never => false,
+            Going::AtOnce => match other {
+                Going::Unread => false,
+                Going::AtOnce => false,
+                Going::By(_) => true,
+                Going::Never => false,
+            },
+            Going::By(timestamp) => match other {
+                Going::Unread => false,
+                Going::AtOnce => false,
+                Going::By(than) => newer(than, timestamp),
+                Going::Never => false,
+            },
+        }
+    }
+}
+
+/// Whether the one is newer than the other: it is ahead, by less than half of the round (RFC 1982,
+/// 3.2).
+fn newer(left: u32, right: u32) -> bool
+    ensures { result ≡ is_newer left right }
+{
+    let ahead = ahead(left, right);
+    0 < ahead && ahead < HALF
+}
+
+/// How many ticks a timestamp is ahead of another, going round.
+fn ahead(left: u32, right: u32) -> u32
+    ensures { result ≡ ahead_of left right }
+{
+    left.wrapping_sub(right)
+}

@@ -1,0 +1,171 @@
+//! One of the files that are read side by side.
+ghost use Rattle.std.specs.Prelude.{◌≡◌, ◌≤◌, ◌<◌, None, Some, IfErr, IfOk, MatchOption, OnErr, OnOk};
+ghost use Rattle.std.specs.Prelude.{IfSome, length, take};
+ghost use Rattle.recording_engines.specs.Files.{IsClosed, begun_of, ended_by, failures_by, gave_by};
+ghost use Rattle.recording_engines.specs.Files.{is_recording_file, next_of, source_of};
+ghost use Rattle.recording_reader.specs.FileReader.{TellsTurn, record_seen};
+ghost use Rattle.recording_reader.specs.Opening.{CountsOpening, IsByFlows, StopsOpening};
+ghost use Rattle.side_by_side.specs.Side.{AccountsFor, HasRead, IsGiven, IsNewSide, IsSoundSide, IsUnfailed};
+ghost use Rattle.side_by_side.specs.Side.{StopsSide, closed_side};
+
+use crate::going::Going;
+use crate::steering::{Steering, stamp_of};
+use flow::Flows;
+use recording_engines::ImportFile;
+use recording_reader::{DatagramReader, FileOpeningFault, ReadingFault, RecordView};
+use st_format::{ByteSource, Turn};
+use std::alloc::Allocator;
+use std::mem;
+
+/// One of the files that are read side by side: a capture, or a recording of another tool.
+#[derive(Drop)]
+pub struct Side<A: Allocator, S: ByteSource> {
+    /// Its source, or what reads it.
+    pub file: ImportFile<A, S>,
+    /// When its next datagram goes.
+    pub going: Going,
+}
+
+impl<A: Allocator, S: ByteSource> Side<A, S> {
+    /// A file of this source, which isn't opened yet.
+    pub fn closed(source: S) -> Side<A, S>
+        ensures { result ≡ closed_side source }
+    {
+        Side {
+            file: ImportFile::Closed(source),
+            going: Going::Unread,
+        }
+    }
+
+    /// Its source; none while it is opened.
+    pub fn source(&self) -> Option<&S>
+        ensures { MatchOption result (source_of self.now.file ≡ None)
+            (λ s. source_of self.now.file ≡ Some s.now) }
+    {
+        self.file.source()
+    }
+
+    /// Whether it is opened, and a recording of another tool.
+    pub fn is_recording(&self) -> bool
+        ensures { result ≡ is_recording_file self.now.file }
+    {
+        self.file.is_recording()
+    }
+
+    /// Opens it: begins to read it, by flows where it is a recording, and answers how many octets
+    /// its text has, which then stands at the front of `text`. Takes room for a record or a packet.
+    ///
+    /// # Errors
+    ///
+    /// As [`DatagramReader::open`]. It isn't opened then, and its source is as it is.
+    pub fn open(
+        &mut self,
+        alloc: A,
+        flows: Option<Flows>,
+        text: &mut [u8],
+    ) -> Result<usize, FileOpeningFault>
+    where
+        S: Drop,
+        requires closed { IsClosed self.old.file }
+        requires text { 65535 ≤ length text.old }
+        ensures room { length text.new ≡ length text.old }
+        ensures opened { IfOk result (λ count. IsNewSide flows (gave_by S.gave self.old.file)
+            (take count text.new) self.new) }
+        ensures few { IfOk result (λ count. count < 65536) }
+        ensures stays { OnErr result (IsClosed self.new.file) }
+        ensures fault { IfErr result (λ f. StopsOpening flows (gave_by S.gave self.old.file)
+            (gave_by S.gave self.new.file) (ended_by S.ended self.new.file) f) }
+        ensures by_flows { IfErr result (λ f. IsByFlows flows f) }
+        ensures counted { IfErr result (λ f. CountsOpening f
+            (failures_by S.failures self.old.file) (failures_by S.failures self.new.file)) }
+        ensures unfailed { OnOk result (failures_by S.failures self.new.file
+            ≡ failures_by S.failures self.old.file) }
+    {
+        let ImportFile::Closed(source) = mem::replace(&mut self.file, ImportFile::Taken) else {
+            return Ok(0);
+        };
+        self.going = Going::Unread;
+        match DatagramReader::open(alloc, flows, source, text) {
+            Ok(reader) => {
+                let count = reader.text_len();
+                self.file = ImportFile::Open(reader);
+                Ok(count)
+            }
+            Err((fault, source)) => {
+                self.file = ImportFile::Closed(source);
+                Err(fault)
+            }
+        }
+    }
+
+    /// Reads on to its next datagram, or to its end, where that isn't read yet. One that isn't
+    /// opened has none.
+    ///
+    /// # Errors
+    ///
+    /// Its fault, where it has one before the next datagram; it stays there.
+    pub(crate) fn read_on(&mut self, steering: Steering) -> Result<(), ReadingFault>
+        requires { IsSoundSide steering self.old }
+        ensures begun { begun_of self.new.file ≡ begun_of self.old.file }
+        ensures read { OnOk result (HasRead steering self.old self.new) }
+        ensures fault { IfErr result (λ f. StopsSide f self.old self.new) }
+        ensures device { IsUnfailed self.old → AccountsFor result
+            (failures_by S.failures self.old.file) (failures_by S.failures self.new.file) }
+    {
+        match self.going {
+            Going::Unread => {}
+            Going::AtOnce | Going::By(_) | Going::Never => return Ok(()),
+        }
+        match &mut self.file {
+            ImportFile::Open(reader) => match reader.advance() {
+                Ok(true) => {
+                    let stamp = stamp_of(steering, reader.octets());
+                    self.going = Going::of(stamp);
+                    Ok(())
+                }
+                Ok(false) => {
+                    self.going = Going::Never;
+                    Ok(())
+                }
+                Err(fault) => Err(fault),
+            },
+            ImportFile::Closed(_) | ImportFile::Taken => {
+                self.going = Going::Never;
+                Ok(())
+            }
+        }
+    }
+
+    /// The datagram that it has at hand.
+    fn at_hand(&self) -> Option<RecordView<'_>>
+        ensures seen { record_seen result
+            ≡ next_of self.now.file }
+        ensures few { IfSome result (λ r. length r.octets.now ≤ 65535) }
+    {
+        match &self.file {
+            ImportFile::Open(reader) => reader.record(),
+            ImportFile::Closed(_) => None,
+            ImportFile::Taken => None,
+        }
+    }
+
+    /// Gives the datagram that it has at hand, whose octets then stand at the front of `buf`, or
+    /// tells the end where there is none. What comes behind it is unread then.
+    pub(crate) fn give(&mut self, buf: &mut [u8]) -> Turn
+        requires { 65535 ≤ length buf.old }
+        ensures room { length buf.new ≡ length buf.old }
+        ensures told { TellsTurn (next_of self.old.file) result buf.new }
+        ensures given { IsGiven self.old self.new }
+    {
+        let turn = match self.at_hand() {
+            Some(record) => {
+                let count = record.octets.len();
+                buf[..count].copy_from_slice(record.octets);
+                Turn::Datagram(record.path, count)
+            }
+            None => Turn::End,
+        };
+        self.going = Going::Unread;
+        turn
+    }
+}
