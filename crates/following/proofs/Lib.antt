@@ -25,3 +25,4 @@ pub mod Lacking
 pub mod Made
 pub mod Complete
 pub mod Handing
+pub mod LostSince

@@ -14,7 +14,9 @@
 //! - A frame that goes early is complete: `early`.
 //! - Turn by turn is as at once: `in_turns`.
 //! - What is handed out rises, whatever comes: `rising`.
+//! - Since when only late datagrams came, where a stream is to be followed anew: `lost_since`.
 ghost use Rattle.std.specs.Prelude.{◌≡◌, ◌↔◌, ◌⊎◌, ◌++◌, ◌^◌, ◌<◌, ℕ, Bool, IsTrue, List, None};
+ghost use Rattle.std.specs.Prelude.{Some};
 ghost use Rattle.std.specs.Prelude.{false, map};
 ghost use Rattle.st_format.specs.declared.cell.Cell.TheVariants.{Contested};
 ghost use Rattle.st_format.specs.Position.{IsPosition, Position};
@@ -34,6 +36,7 @@ ghost use Rattle.following.specs.Following.{Handed, RiseFrom, handed_out, stamps
 ghost use Rattle.following.specs.Times.{AreInHalf, AreInRound, AreInTime, AreOfTimes, AreSteady};
 ghost use Rattle.following.specs.Times.{AreTimed, AreWithin, HasTime, IsOrderly, Timed, handed_at};
 ghost use Rattle.following.specs.Times.{frame_of, handed_of, in_order, octets_of, times_of};
+ghost use Rattle.following.specs.Restarts.{AreLostSince, Told, lost_behind};
 ghost use Rattle.following.specs.Turned.{answers_in, goes_early, handed_all, handed_early};
 ghost use Rattle.following.specs.Turned.{handed_while, is_complete, kept_of, state_behind};
 
@@ -203,4 +206,11 @@ pub fn rising()
         IsMember timestamp (stamps_of (handed_out (opened o size ahead) datagrams)) →
         ahead_of timestamp base < 2 ^ 31) →
         AreDifferent (stamps_of (handed_out (opened o size ahead) datagrams)) }
+{}
+
+/// What [`Restarts`](crate::Restarts) notes says which answers came: where a timestamp stands, a
+/// datagram of it was late or too far ahead, and none was kept since.
+pub fn lost_since()
+    ensures { (told : List Told) (since : ℕ) → lost_behind None told ≡ Some since →
+        AreLostSince told since }
 {}
