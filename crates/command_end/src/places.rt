@@ -202,7 +202,9 @@ fn blamed_by(refusal: Refusal) -> Blamed {
         Refusal::Script(line, _) => Blamed::Line(line),
         Refusal::Sdp(at) => Blamed::Described(at),
         Refusal::Plan(_) => Blamed::Word("--max"),
-        Refusal::Open(_) | Refusal::ReceiveWindow => Blamed::Word("--window"),
+        Refusal::Open(_) | Refusal::ReceiveWindow | Refusal::FollowWindow => Blamed::Word(
+            "--window",
+        ),
         Refusal::ReceiveSource => Blamed::Word("--ssrc"),
         Refusal::SendPictures => Blamed::Word("the pictures"),
         Refusal::Job(_) | Refusal::ProcessJob => Blamed::Word("--job"),

@@ -39,3 +39,12 @@ line_text (line.RefusedCount refusal count) =
     codes "refused " ++ (decimal (refusal_number refusal)
     ++ (codes " " ++ (refusal_name refusal ++ (codes " " ++ decimal count))))
 line_text (line.OutsideCount count) = codes "outside " ++ decimal count
+line_text (line.Left timestamp counts late) =
+    counts_text (codes "frame ") timestamp counts ++ (codes " late " ++ decimal late)
+line_text (line.Anew timestamp) = codes "anew " ++ decimal timestamp
+line_text (line.Totals frames kept late far refused) =
+    codes "frames " ++ (decimal frames ++ (codes " kept " ++ (decimal kept ++ (codes " late "
+    ++ (decimal late ++ (codes " far " ++ (decimal far ++ (codes " refused "
+    ++ decimal refused))))))))
+line_text (line.Wants frames) = codes "late wants window " ++ decimal frames
+line_text line.WantsMore = codes "late wants more than window 16"

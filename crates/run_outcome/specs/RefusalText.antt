@@ -48,6 +48,7 @@ output_text writer.Receive = codes "receive 5 OutputIsInput"
 output_text writer.Process = codes "process 5 OutputIsInput"
 output_text writer.Import = codes "import 5 OutputIsInput"
 output_text writer.Export = codes "export 2 OutputIsInput"
+output_text writer.Follow = codes "follow 2 OutputIsInput"
 
 -- of all commands
 abbrev pub refusal_text : Refusal → List ℕ
@@ -71,6 +72,7 @@ refusal_text refusal.ImportSdp = codes "import 1 SdpTooLong"
 refusal_text refusal.ImportFlow = codes "import 2 BadFlow"
 refusal_text refusal.ImportPlaces = codes "import 3 OnePlace"
 refusal_text refusal.ImportRecords = codes "import 4 TooManyRecords"
+refusal_text refusal.FollowWindow = codes "follow 1 BadWindow"
 refusal_text (refusal.OutputIsInput by) = output_text by
 refusal_text (refusal.Sdp at) =
     numbered_name (codes "sdp ") (sdp_fault_number at.fault) (sdp_fault_name at.fault)

@@ -47,6 +47,18 @@ pub enum Line {
     RefusedCount(Refusal, u64),
     /// How many datagrams had timestamps outside the window.
     OutsideCount(u64),
+    /// The frame of this timestamp left a stream that is followed, with so many samples of each
+    /// kind; and how many datagrams came late since the one before.
+    Left(u32, Counts, u64),
+    /// The stream is followed anew from this timestamp on.
+    Anew(u32),
+    /// How many frames left a stream that was followed, and how many datagrams were kept, came late,
+    /// were too far ahead, and were refused.
+    Totals(u64, u64, u64, u64, u64),
+    /// The window of so many frames would have held the datagrams that came late.
+    Wants(u64),
+    /// No window would have held all datagrams that came late.
+    WantsMore,
 }
 
 impl fmt::Display for Line {
@@ -109,6 +121,20 @@ impl fmt::Display for Line {
                 write!(f, "refused {number} {name} {count}")
             }
             Line::OutsideCount(count) => write!(f, "outside {count}"),
+            Line::Left(timestamp, counts, late) => {
+                write!(
+                    f,
+                    "frame {timestamp} present {} missing {} contested {} late {late}",
+                    counts.present, counts.missing, counts.contested
+                )
+            }
+            Line::Anew(timestamp) => write!(f, "anew {timestamp}"),
+            Line::Totals(frames, kept, late, far, refused) => write!(
+                f,
+                "frames {frames} kept {kept} late {late} far {far} refused {refused}"
+            ),
+            Line::Wants(frames) => write!(f, "late wants window {frames}"),
+            Line::WantsMore => f.write_str("late wants more than window 16"),
         }
     }
 }

@@ -20,6 +20,7 @@ pub enum Writer {
     Process,
     Import,
     Export,
+    Follow,
 }
 
 /// Why words, a text or files are refused.
@@ -63,6 +64,8 @@ pub enum Refusal {
     ImportPlaces,
     /// Recordings have too many datagrams of the flows.
     ImportRecords,
+    /// A stream is to be followed by no frame, or by more than 16.
+    FollowWindow,
     /// The file that this command is to write is one of those that it is to read, whatever its
     /// name. It is looked for behind the words, before any file is read.
     OutputIsInput(Writer),
@@ -114,6 +117,7 @@ impl fmt::Display for Refusal {
             Refusal::ImportFlow => f.write_str("import 2 BadFlow"),
             Refusal::ImportPlaces => f.write_str("import 3 OnePlace"),
             Refusal::ImportRecords => f.write_str("import 4 TooManyRecords"),
+            Refusal::FollowWindow => f.write_str("follow 1 BadWindow"),
             Refusal::OutputIsInput(writer) => f.write_str(of_output(*writer)),
             Refusal::Sdp(at) => {
                 let fault = at.fault;
@@ -176,5 +180,6 @@ fn of_output(writer: Writer) -> &'static str
         Writer::Process => "process 5 OutputIsInput",
         Writer::Import => "import 5 OutputIsInput",
         Writer::Export => "export 2 OutputIsInput",
+        Writer::Follow => "follow 2 OutputIsInput",
     }
 }

@@ -6,7 +6,7 @@ use std::fmt::{Display, Write};
 
 /// Room for any line of output or of a fault, in octets. That each fits is not proved: one that
 /// didn't would be told as want of memory.
-const LINE: usize = 128;
+const LINE: usize = 160;
 
 /// The text of a value and an end of line behind it; none where that has no room.
 pub(crate) fn line_of<D: Display + Drop>(value: D) -> Option<ArrayString<LINE>>

@@ -30,6 +30,7 @@ impl Refusal {
             Refusal::ImportFlow => "a port, or an address, a colon and a port",
             Refusal::ImportPlaces => "two recordings, the first of path A",
             Refusal::ImportRecords => "at most 16777216 datagrams of the flows",
+            Refusal::FollowWindow => "1 to 16 frames",
             Refusal::OutputIsInput(_) => "the name of no file that is read",
             Refusal::Sdp(at) => at.fault.wanted(),
             Refusal::Flows(fault) => of_flows(fault),

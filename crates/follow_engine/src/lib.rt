@@ -1,0 +1,18 @@
+//! The engine of `follow`: every frame out of captures and recordings that are read side by side,
+//! each told by a line as it leaves, and shown as a picture.
+#![tactic(auto)]
+
+mod files;
+mod following;
+pub mod laws;
+mod opening;
+mod pictures;
+mod running;
+mod settling;
+mod showing;
+mod telling;
+
+pub use files::follow_files;
+pub use opening::{FollowAsked, check_words};
+pub use pictures::PictureSink;
+pub use telling::FollowTotals;
