@@ -15,11 +15,11 @@ ghost use Rattle.run_outcome.specs.Fault.{Accounts, counts};
 ghost use Rattle.run_outcome.specs.Refusing.{OfRefusal};
 ghost use Rattle.side_by_side.specs.Sides.{IsBegun, begun_each, failures_each};
 
-use crate::following::follow_sides;
 use crate::opening::{FollowAsked, Words, open_all, open_run, open_settler, read_words};
 use crate::pictures::PictureSink;
 use crate::running::Run;
 use crate::settling::Settler;
+use crate::taking::follow_sides;
 use crate::telling::{FollowTotals, tell_totals};
 use capture_engines::{Seen, note_seen};
 use flow::Flows;

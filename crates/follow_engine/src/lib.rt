@@ -3,16 +3,16 @@
 #![tactic(auto)]
 
 mod files;
-mod following;
 pub mod laws;
 mod opening;
 mod pictures;
 mod running;
 mod settling;
 mod showing;
+mod taking;
 mod telling;
 
 pub use files::follow_files;
 pub use opening::{FollowAsked, check_words};
-pub use pictures::PictureSink;
+pub use pictures::{NoPictures, PictureSink};
 pub use telling::FollowTotals;

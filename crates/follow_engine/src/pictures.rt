@@ -1,5 +1,5 @@
 //! What takes the pictures of frames.
-ghost use Rattle.std.specs.Prelude.{ℕ, OnErr, OnOk, ⊤};
+ghost use Rattle.std.specs.Prelude.{◌≡◌, ℕ, OnErr, OnOk, ⊤};
 ghost use Rattle.st_format.specs.Device.{CountsFaults};
 ghost use Rattle.st_format.specs.Picture.{IsPicture, Values};
 
@@ -26,6 +26,20 @@ pub trait PictureSink {
         ensures failed { OnErr result (fails self.old timestamp
             (record { format = format.now; samples = samples.now }) self.new) }
         ensures counted { CountsFaults (failures self.old) (failures self.new) result };
+}
+
+/// Takes pictures, and keeps nothing of them.
+#[derive(Drop)]
+pub struct NoPictures;
+
+impl PictureSink for NoPictures {
+    ghost takes = { λ k _ _ l. l ≡ k };
+
+    ghost failures = { λ _. 0 };
+
+    fn show(&mut self, _: u32, _: &Format, _: &[u16]) -> Result<(), DeviceFault> {
+        Ok(())
+    }
 }
 
 impl<P: PictureSink> PictureSink for &mut P {

@@ -271,3 +271,9 @@ pub stopped_set : {A S : Type 0} (f : ReadingFault) (sides : List (Side A S)) (k
 stopped_set f [] k s' lt at = absurd (omega (arith, lt))
 stopped_set f (s ∷ ss) zero s' lt at = inl at
 stopped_set f (s ∷ ss) (suc k) s' lt at = inr (stopped_set f ss k s' (omega (arith, lt)) at)
+
+pub all_unfailed : {A S : Type 0} (st : Steering) (sides : List (Side A S)) → AllSound st sides
+    → AllRead sides → AllUnfailed sides
+all_unfailed st [] sound read = tt
+all_unfailed st (s ∷ ss) sound read =
+    (unfailed_read st s sound.0 read.0, all_unfailed st ss sound.1 read.1)

@@ -56,6 +56,7 @@ pub(crate) fn read_all<A: Allocator, S: ByteSource>(
     ensures len { length sides.new ≡ length sides.old }
     ensures begun { begun_each sides.new ≡ begun_each sides.old }
     ensures read { OnOk result (ReadsAll steering sides.old sides.new) }
+    ensures unfailed { OnOk result (AllUnfailed sides.new) }
     ensures fault { IfErr result (λ f. StopsAll steering f sides.old sides.new) }
     ensures device { AllUnfailed sides.old → AccountsFor result
         (failures_each S.failures sides.old) (failures_each S.failures sides.new) }

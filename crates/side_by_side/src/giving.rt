@@ -1,5 +1,5 @@
 //! Giving the datagram of the file that goes first.
-ghost use Rattle.std.specs.Prelude.{◌≡◌, ◌≤◌, IfErr, IfOk, length};
+ghost use Rattle.std.specs.Prelude.{◌≡◌, ◌≤◌, IfErr, IfOk, OnOk, length};
 ghost use Rattle.recording_reader.specs.Files.{source_fault};
 ghost use Rattle.side_by_side.specs.Side.{AccountsFor};
 ghost use Rattle.side_by_side.specs.Sides.{AllSound, AllUnfailed, StopsAll, TellsNext, begun_each};
@@ -30,6 +30,7 @@ pub(crate) fn tell_next<A: Allocator, S: ByteSource>(
     ensures room { length buf.new ≡ length buf.old }
     ensures len { length sides.new ≡ length sides.old }
     ensures begun { begun_each sides.new ≡ begun_each sides.old }
+    ensures unfailed { OnOk result (AllUnfailed sides.new) }
     ensures told { IfOk result (λ t. TellsNext steering t buf.new sides.old sides.new) }
     ensures fault { IfErr result (λ f. StopsAll steering f sides.old sides.new) }
     ensures device { AllUnfailed sides.old → AccountsFor result

@@ -191,6 +191,7 @@ impl<A: Allocator, S: ByteSource> DatagramSource for SideBySide<A, S> {
             (λ e. (f : Wrong) × (e ≡ source_fault f) × (self.new.fault ≡ Some f)
             × (AllUnfailed self.old.sides → Blames (counts (failures_each S.failures self.old.sides)
             (failures_each S.failures self.new.sides) ∷ []) (reading_fault f))) }
+        ensures unfailed { OnOk result (AllUnfailed self.new.sides) }
         ensures device { OnOk result (AllUnfailed self.old.sides
             → failures_each S.failures self.new.sides ≡ failures_each S.failures self.old.sides) }
     {

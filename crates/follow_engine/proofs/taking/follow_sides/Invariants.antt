@@ -5,7 +5,7 @@ use Rattle.follow_engine.specs.Events.{behind_all, events_in}
 use Rattle.follow_engine.specs.Running.{IsRun, Told, running_of}
 use Rattle.follow_engine.specs.Settled.{IsSettlerIn, settling_in}
 use Rattle.st_format.specs.declared.path.Path.{Path}
-use Rattle.follow_engine.proofs.following.follow_sides.Given as goal
+use Rattle.follow_engine.proofs.taking.follow_sides.Given as goal
 
 -- what came so far went into the stream
 abbrev pub invariant-loop-1 : goal.invariant-loop-1
