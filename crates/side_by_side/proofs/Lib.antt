@@ -2,3 +2,4 @@ pub mod Gone
 pub mod Chosen
 pub mod Reading
 pub mod Told
+pub mod Sound

@@ -1,20 +1,30 @@
 -- Files that are read on.
 use Rattle.std.proofs.Common.{◌≡◌, ℕ, zero, suc, ◌<◌, Bool, true, false, inl, inr, List, [], ◌∷◌}
-use Rattle.std.proofs.Common.{◌++◌, map, Option, None, Some, refl, sym, ap, subst, ◌∙◌, arith}
+use Rattle.std.proofs.Common.{◌++◌, map, Option, None, Some, Result, Ok, Err, refl, sym, ap, subst}
+use Rattle.std.proofs.Common.{◌∙◌, arith}
 use Rattle.std.proofs.Common.{get_or, set, length, take}
-use Rattle.std.specs.List.{AllByRecursion}
+use Rattle.std.specs.List.{AllByRecursion, sum_by}
+use Rattle.std.proofs.lemmas.List.Sums.{sum_by-set}
 use Rattle.media_file.specs.Records.{Entry}
 use Rattle.recording_engines.specs.Files.{IsAt}
 use Rattle.recording_engines.specs.declared.file.ImportFile.{ImportFile}
 use Rattle.recording_engines.specs.declared.file.ImportFile.TheVariants.{Closed, Open, Taken}
-use Rattle.recording_reader.specs.FileReader.{FileReader, Finds, FindsFault, FindsOne, fault_of}
+use Rattle.flow.specs.declared.flows.Flows.{Flows}
+use Rattle.recording_reader.specs.FileReader.{FileReader, Finds, FindsFault, FindsOne, IsSameFile}
+use Rattle.recording_reader.specs.FileReader.{fault_of, octets_at_hand}
+use Rattle.st_format.specs.Device.{Told}
+use Rattle.recording_engines.proofs.FileFaults.{reading_blames}
+use Rattle.recording_engines.specs.Faults.{reading_fault}
+use Rattle.run_outcome.proofs.SetSums.{set_counted}
+use Rattle.run_outcome.specs.Fault.{Blames, counts}
+use Rattle.run_outcome.specs.declared.fault.Fault.{Fault}
 use Rattle.recording_reader.specs.declared.fault.ReadingFault.{ReadingFault}
 use Rattle.recording_reader.specs.declared.way.Standing.{Standing as Stand}
 use Rattle.recording_reader.specs.declared.way.Standing.TheVariants.{Reads, Ended, Failed}
-use Rattle.side_by_side.specs.Going.{going_by}
-use Rattle.side_by_side.specs.Side.{HasRead, IsAtHand, IsReadBy, IsSoundBy, IsSoundFile, IsSoundSide}
-use Rattle.side_by_side.specs.Side.{IsUnfailed, IsUnfailedFile, StopsSide, ahead_by, ahead_of_hand}
-use Rattle.side_by_side.specs.Side.{goings, standing_by, standing_of}
+use Rattle.side_by_side.specs.Going.{IsReadBy, going_by}
+use Rattle.side_by_side.specs.Side.{HasRead, IsAtHand, IsSoundBy, IsSoundFile, IsSoundSide, ReadsReader}
+use Rattle.side_by_side.specs.Side.{IsUnfailed, IsUnfailedFile, StopsReader, ahead_by, ahead_of_hand}
+use Rattle.side_by_side.specs.Side.{goings, reader_standing, standing_by, standing_of}
 use Rattle.side_by_side.specs.Sides.{AllRead, AllSound, AllUnfailed, OneSideAt, standings}
 use Rattle.side_by_side.specs.Steering.{stamp_of}
 use Rattle.side_by_side.specs.Steps.{Ahead, AllGoOn, Coming, GoesOn, Over, ReadsMore, Standing}
@@ -106,15 +116,12 @@ unfailed_read st s sound read = unfailed_file st s.going s.file sound read
 
 -- ---- a reader that goes on
 
-abbrev standing : {S : Type 0} → Going → FileReader S → Standing
-standing w r = record { entries = r.records; ahead = ahead_by r.standing w r.at_hand }
-
 going_comes : (x : Option ℕ) (e : Entry) → ahead_of_hand (going_by x) (Some e) ≡ Coming e
 going_comes None e = refl
 going_comes (Some t) e = refl
 
 reads_one : {S : Type 0} (x : Option ℕ) (r r' : FileReader S) → FindsOne r r'
-    → ReadsMore r.records (standing (going_by x) r').ahead r'.records
+    → ReadsMore r.records (reader_standing (going_by x) r').ahead r'.records
 reads_one x r r' finds =
     let es : List Entry = r.records in
     subst (λ (s : Stand). ReadsMore es (ahead_by s (going_by x) r'.at_hand) r'.records)
@@ -126,7 +133,7 @@ reads_one x r r' finds =
 
 -- of one that stood so
 pub went_one : {S : Type 0} (x : Option ℕ) (r r' : FileReader S) → r.standing ≡ Reads
-    → FindsOne r r' → GoesOn (standing Unread r) (standing (going_by x) r')
+    → FindsOne r r' → GoesOn (reader_standing Unread r) (reader_standing (going_by x) r')
 went_one x r r' reads finds =
     inr (ap (λ (s : Stand). ahead_by s Unread r.at_hand) reads, reads_one x r r' finds)
 
@@ -142,10 +149,9 @@ read_going : (x : Option ℕ) → IsReadBy (going_by x)
 read_going None = tt
 read_going (Some t) = tt
 
-pub read_one : {A S : Type 0} (st : Steering) (x : Option ℕ) (r r' : FileReader S)
+pub read_one : {S : Type 0} (st : Steering) (x : Option ℕ) (r r' : FileReader S)
     → r.standing ≡ Reads → (finds : FindsOne r r') → x ≡ stamp_of st finds.entry.octets
-    → HasRead {A = A} st (record { file = Open r; going = Unread })
-    (record { file = Open r'; going = going_by x })
+    → ReadsReader st (going_by x) r r'
 read_one st x r r' reads finds is = record {
   sound = sound_one st x r r' finds is;
   read = read_going x;
@@ -154,17 +160,17 @@ read_one st x r r' reads finds is = record {
 
 -- at its end
 standing_same : {S : Type 0} (w : Going) (r r' : FileReader S) → r'.records ≡ r.records
-    → r.standing ≡ Ended → r'.standing ≡ Ended → standing w r' ≡ standing Unread r
+    → r.standing ≡ Ended → r'.standing ≡ Ended → reader_standing w r' ≡ reader_standing Unread r
 standing_same w r r' same before after =
-    let old : (standing Unread r).ahead ≡ Over None =
+    let old : (reader_standing Unread r).ahead ≡ Over None =
     ap (λ (s : Stand). ahead_by s Unread r.at_hand) before in
-    let new : (standing w r').ahead ≡ Over None =
+    let new : (reader_standing w r').ahead ≡ Over None =
     ap (λ (s : Stand). ahead_by s w r'.at_hand) after in
     cc
 
 went_end : {S : Type 0} (stand : Stand) (r r' : FileReader S) → r.standing ≡ stand
     → ((f : ReadingFault) → stand ≡ Failed f → ⊥) → Finds false r r'
-    → GoesOn (standing Unread r) (standing Never r')
+    → GoesOn (reader_standing Unread r) (reader_standing Never r')
 went_end Reads r r' at unfailed finds =
     inr (
       ap (λ (s : Stand). ahead_by s Unread r.at_hand) at,
@@ -175,10 +181,9 @@ went_end Ended r r' at unfailed finds =
     inl (standing_same Never r r' finds.records at finds.ended)
 went_end (Failed f) r r' at unfailed finds = absurd (unfailed f refl)
 
-pub read_end : {A S : Type 0} (st : Steering) (r r' : FileReader S)
+pub read_end : {S : Type 0} (st : Steering) (r r' : FileReader S)
     → ((f : ReadingFault) → r.standing ≡ Failed f → ⊥) → Finds false r r'
-    → HasRead {A = A} st (record { file = Open r; going = Unread })
-    (record { file = Open r'; going = Never })
+    → ReadsReader st Never r r'
 read_end st r r' unfailed finds = record {
   sound = finds.ended;
   read = tt;
@@ -189,7 +194,7 @@ read_end st r r' unfailed finds = record {
 went_fault : {S : Type 0} (f : ReadingFault) (stand : Stand) (r r' : FileReader S)
     → r.standing ≡ stand → (stand ≡ Ended → ⊥)
     → ((g : ReadingFault) → stand ≡ Failed g → g ≡ f) → FindsFault f r r'
-    → GoesOn (standing Unread r) (standing Unread r')
+    → GoesOn (reader_standing Unread r) (reader_standing Unread r')
 went_fault f Reads r r' at unended same finds =
     inr (
       ap (λ (s : Stand). ahead_by s Unread r.at_hand) at,
@@ -199,22 +204,68 @@ went_fault f Reads r r' at unended same finds =
 went_fault f Ended r r' at unended same finds = absurd (unended refl)
 went_fault f (Failed g) r r' at unended same finds =
     let one = same g refl in
-    let old : (standing Unread r).ahead ≡ Over (Some g) =
+    let old : (reader_standing Unread r).ahead ≡ Over (Some g) =
     ap (λ (s : Stand). ahead_by s Unread r.at_hand) at in
-    let new : (standing Unread r').ahead ≡ Over (Some f) =
+    let new : (reader_standing Unread r').ahead ≡ Over (Some f) =
     ap (λ (s : Stand). ahead_by s Unread r'.at_hand) finds.failed in
     let records = finds.records in
     inl cc
 
-pub stops_one : {A S : Type 0} (f : ReadingFault) (r r' : FileReader S)
+pub stops_one : {S : Type 0} (f : ReadingFault) (r r' : FileReader S)
     → (r.standing ≡ Ended → ⊥) → ((g : ReadingFault) → r.standing ≡ Failed g → g ≡ f)
-    → FindsFault f r r' → StopsSide {A = A} f (record { file = Open r; going = Unread })
-    (record { file = Open r'; going = Unread })
+    → FindsFault f r r' → StopsReader f r r'
 stops_one f r r' unended same finds = record {
-  unread = refl;
   at = finds.failed;
   goes_on = went_fault f r.standing r r' refl unended same finds;
 }
+
+-- ---- what a call of a reader answers
+
+-- what is so of a reader that is asked for its next datagram, by where it stood
+pub record Asks {S : Type 0} (r : FileReader S) (answer : Result Bool ReadingFault) : Type 0 where
+  pub ended : r.standing ≡ Ended → answer ≡ Ok false
+  pub failed : (f : ReadingFault) → r.standing ≡ Failed f → answer ≡ Err f
+
+reads_by : {S : Type 0} (stand : Stand) (r : FileReader S) → r.standing ≡ stand → Asks r (Ok true)
+    → r.standing ≡ Reads
+reads_by Reads r at asks = at
+reads_by Ended r at asks = let no : Ok true ≡ Ok false = asks.ended at in absurd cc
+reads_by (Failed f) r at asks = let no : Ok true ≡ Err f = asks.failed f at in absurd cc
+
+pub found_one : {S : Type 0} (st : Steering) (x : Option ℕ) (r r' : FileReader S)
+    → Asks r (Ok true) → (finds : Finds true r r') → x ≡ stamp_of st (octets_at_hand r'.at_hand)
+    → ReadsReader st (going_by x) r r'
+found_one st x r r' asks finds is =
+    read_one st x r r' (reads_by r.standing r refl asks) finds
+    (is ∙ ap (λ (h : Option Entry). stamp_of st (octets_at_hand h)) finds.at_hand)
+
+pub found_end : {S : Type 0} (st : Steering) (r r' : FileReader S) → Asks r (Ok false)
+    → Finds false r r' → ReadsReader st Never r r'
+found_end st r r' asks finds =
+    read_end st r r' (λ f at. let no : Ok false ≡ Err f = asks.failed f at in absurd cc) finds
+
+pub found_fault : {S : Type 0} (f : ReadingFault) (r r' : FileReader S) → Asks r (Err f)
+    → FindsFault f r r' → StopsReader f r r'
+found_fault f r r' asks finds =
+    stops_one f r r' (λ at. let no : Err f ≡ Ok false = asks.ended at in absurd cc)
+    (λ g at. let same : Err f ≡ Err g = asks.failed g at in cc) finds
+
+-- where it came to no fault yet, what it answers says how often its source failed
+unfailed_reads : (stand : Stand) → fault_of stand ≡ None → (stand ≡ Ended → ⊥) → stand ≡ Reads
+unfailed_reads Reads none unended = refl
+unfailed_reads Ended none unended = absurd (unended refl)
+unfailed_reads (Failed f) none unended = absurd cc
+
+pub same_begun : {S : Type 0} (old new : FileReader S) → IsSameFile old new
+    → (let both : Option Flows × List ℕ = (new.flows, new.before.gave) in both)
+    ≡ (old.flows, old.before.gave)
+same_begun old new same =
+    ap (λ (f : Option Flows). (let b : Option Flows × List ℕ = (f, new.before.gave) in b)) same.flows
+    ∙ ap (λ (t : Told). (let b : Option Flows × List ℕ = (old.flows, t.gave) in b)) same.before
+
+pub ruleset reading_on = (found_one, found_end, found_fault, reading_blames)
+
+pub ruleset file_begun = (same_begun)
 
 -- one of which what comes next is read stays
 pub read_stays : {A S : Type 0} (st : Steering) (s : Side A S) → IsSoundSide st s
@@ -277,3 +328,17 @@ pub all_unfailed : {A S : Type 0} (st : Steering) (sides : List (Side A S)) → 
 all_unfailed st [] sound read = tt
 all_unfailed st (s ∷ ss) sound read =
     (unfailed_read st s sound.0 read.0, all_unfailed st ss sound.1 read.1)
+
+-- how often the sources failed, all together, where one was read on
+pub failures_same : {A S : Type 0} (f : Side A S → ℕ) (sides : List (Side A S)) (k : ℕ)
+    (d s' : Side A S) → k < length sides → f s' ≡ f (get_or sides k d)
+    → sum_by f (set sides k s') ≡ sum_by f sides
+failures_same f sides k d s' lt same = omega (arith, sum_by-set f sides k s' d lt, same)
+
+pub blames_set : {A S : Type 0} (f : Side A S → ℕ) (sides : List (Side A S)) (k : ℕ)
+    (d s' : Side A S) (r : ReadingFault) → k < length sides
+    → Blames (counts (f (get_or sides k d)) (f s') ∷ []) (reading_fault r)
+    → Blames (counts (sum_by f sides) (sum_by f (set sides k s')) ∷ []) (reading_fault r)
+blames_set f sides k d s' r lt is =
+    let result : Result (Unit {0}) Fault = Err (reading_fault r) in
+    set_counted f sides k d s' result lt is

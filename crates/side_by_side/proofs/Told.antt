@@ -10,8 +10,8 @@ use Rattle.recording_engines.specs.declared.file.ImportFile.TheVariants.{Closed,
 use Rattle.recording_reader.specs.FileReader.{TellsTurn}
 use Rattle.recording_reader.specs.declared.way.Standing.{Standing as Stand}
 use Rattle.recording_reader.specs.declared.way.Standing.TheVariants.{Reads, Ended, Failed}
-use Rattle.side_by_side.specs.Going.{first_place, going_by, goes, is_later}
-use Rattle.side_by_side.specs.Side.{IsGiven, IsReadBy, IsSoundSide, ahead_by, ahead_of_hand, goings}
+use Rattle.side_by_side.specs.Going.{IsReadBy, first_place, going_by, goes, is_later}
+use Rattle.side_by_side.specs.Side.{IsGiven, IsSoundSide, ahead_by, ahead_of_hand, goings}
 use Rattle.side_by_side.specs.Side.{standing_by, standing_of}
 use Rattle.side_by_side.specs.Sides.{AllOver, AllRead, AllSound, IsBegun, IsFreshFile, ReadsAll}
 use Rattle.side_by_side.specs.Sides.{TellsEnd, TellsNext, TellsOne, standings}

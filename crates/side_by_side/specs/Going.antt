@@ -1,5 +1,5 @@
 -- When the next datagram of a file goes, and which of some goes first (own).
-use Rattle.std.specs.Prelude.{ℕ, ◌+◌, Bool, true, false, if◌then◌else◌, List, [], ◌∷◌}
+use Rattle.std.specs.Prelude.{⊤, ℕ, ◌+◌, Bool, true, false, if◌then◌else◌, List, [], ◌∷◌}
 use Rattle.std.specs.Prelude.{Option, None, Some}
 use Rattle.following.specs.Serial.{is_newer}
 use Rattle.side_by_side.specs.declared.going.Going.{Going}
@@ -9,6 +9,13 @@ use Rattle.side_by_side.specs.declared.going.Going.TheVariants.{Unread, AtOnce, 
 abbrev pub going_by : Option ℕ → Going
 going_by None = AtOnce
 going_by (Some timestamp) = By timestamp
+
+-- what comes next is read
+abbrev pub IsReadBy : Going → Type 0
+IsReadBy Unread = ⊥
+IsReadBy AtOnce = ⊤
+IsReadBy (By timestamp) = ⊤
+IsReadBy Never = ⊤
 
 -- there is a datagram that goes
 abbrev pub goes : Going → Bool

@@ -6,12 +6,12 @@ use Rattle.recording_engines.specs.Faults.{reading_fault}
 use Rattle.recording_engines.specs.Files.{IsAt, IsUnread, begun_of}
 use Rattle.recording_engines.specs.declared.file.ImportFile.{ImportFile}
 use Rattle.recording_engines.specs.declared.file.ImportFile.TheVariants.{Closed, Open, Taken}
-use Rattle.recording_reader.specs.FileReader.{fault_of}
+use Rattle.recording_reader.specs.FileReader.{FileReader, fault_of}
 use Rattle.recording_reader.specs.declared.fault.ReadingFault.{ReadingFault}
 use Rattle.recording_reader.specs.declared.way.Standing.{Standing as Stand}
 use Rattle.recording_reader.specs.declared.way.Standing.TheVariants.{Reads, Ended, Failed}
 use Rattle.run_outcome.specs.Fault.{Blames, counts}
-use Rattle.side_by_side.specs.Going.{going_by}
+use Rattle.side_by_side.specs.Going.{IsReadBy, going_by}
 use Rattle.side_by_side.specs.Steering.{stamp_of}
 use Rattle.side_by_side.specs.Steps.{Ahead, Coming, GoesOn, Over, Standing, Unknown}
 use Rattle.side_by_side.specs.declared.going.Going.{Going}
@@ -46,11 +46,15 @@ ahead_by Reads going at_hand = ahead_of_hand going at_hand
 ahead_by Ended going at_hand = Over None
 ahead_by (Failed f) going at_hand = Over (Some f)
 
--- the records that were read of it, and what comes next; one that isn't opened has none
+-- the records that were read of it, and what comes next
+abbrev pub reader_standing : {S : Type 0} → Going → FileReader S → Standing
+reader_standing going r =
+    record { entries = r.records; ahead = ahead_by r.standing going r.at_hand }
+
+-- of a file that isn't opened there are none
 abbrev pub standing_by : {A S : Type 0} → Going → ImportFile A S → Standing
 standing_by going (Closed s) = record { entries = []; ahead = Over None }
-standing_by going (Open r) =
-    record { entries = r.records; ahead = ahead_by r.standing going r.at_hand }
+standing_by going (Open r) = reader_standing going r
 standing_by going Taken = record { entries = []; ahead = Over None }
 
 abbrev pub standing_of : {A S : Type 0} → Side A S → Standing
@@ -79,13 +83,6 @@ IsSoundFile steering going Taken = (going ≡ Unread) ⊎ (going ≡ Never)
 abbrev pub IsSoundSide : {A S : Type 0} → Steering → Side A S → Type 0
 IsSoundSide steering s = IsSoundFile steering s.going s.file
 
--- what comes next is read
-abbrev pub IsReadBy : Going → Type 0
-IsReadBy Unread = ⊥
-IsReadBy AtOnce = ⊤
-IsReadBy (By timestamp) = ⊤
-IsReadBy Never = ⊤
-
 -- its reader came to no fault
 abbrev pub IsUnfailedFile : {A S : Type 0} → ImportFile A S → Type 0
 IsUnfailedFile (Closed s) = ⊤
@@ -101,6 +98,29 @@ IsUnfailed s = IsUnfailedFile s.file
 abbrev pub AccountsFor : {V : Type 0} → Result V ReadingFault → ℕ → ℕ → Type 0
 AccountsFor (Ok v) old new = new ≡ old
 AccountsFor (Err f) old new = Blames (counts old new ∷ []) (reading_fault f)
+
+-- A reader was read on, to its next datagram or to its end, which goes so.
+pub record ReadsReader {S : Type 0} (steering : Steering) (w : Going) (old new : FileReader S)
+    : Type 0 where
+  pub sound : IsSoundBy steering w new.standing new.at_hand
+  pub read : IsReadBy w
+  pub goes_on : GoesOn (reader_standing Unread old) (reader_standing w new)
+
+-- One was read on, to a fault, at which it stays.
+pub record StopsReader {S : Type 0} (f : ReadingFault) (old new : FileReader S) : Type 0 where
+  pub at : new.standing ≡ Failed f
+  pub goes_on : GoesOn (reader_standing Unread old) (reader_standing Unread new)
+
+-- The same of a file.
+pub record ReadsFile {A S : Type 0} (steering : Steering) (w : Going) (old new : ImportFile A S)
+    : Type 0 where
+  pub sound : IsSoundFile steering w new
+  pub read : IsReadBy w
+  pub goes_on : GoesOn (standing_by Unread old) (standing_by w new)
+
+pub record StopsFile {A S : Type 0} (f : ReadingFault) (old new : ImportFile A S) : Type 0 where
+  pub at : IsAt f new
+  pub goes_on : GoesOn (standing_by Unread old) (standing_by Unread new)
 
 -- It was read on, to its next datagram or to its end.
 pub record HasRead {A S : Type 0} (steering : Steering) (old new : Side A S) : Type 0 where

@@ -15,7 +15,8 @@ use Rattle.st_format.specs.declared.device.SourceFault.{SourceFault}
 use Rattle.st_format.specs.declared.device.Turn.{Turn}
 use Rattle.st_format.specs.declared.device.Turn.TheVariants.{Datagram, Quiet, End}
 use Rattle.st_format.specs.declared.path.Path.{Path}
-use Rattle.side_by_side.specs.Side.{IsReadBy, IsSoundSide, IsUnfailed, standing_of}
+use Rattle.side_by_side.specs.Going.{IsReadBy}
+use Rattle.side_by_side.specs.Side.{IsSoundSide, IsUnfailed, standing_of}
 use Rattle.side_by_side.specs.Steps.{AllGoOn, HasGone, Over, Standing}
 use Rattle.side_by_side.specs.declared.going.Going.TheVariants.{Unread}
 use Rattle.side_by_side.specs.declared.side.Side.{Side}

@@ -1,7 +1,7 @@
 //! When the next datagram of a file goes.
-ghost use Rattle.std.specs.Prelude.{◌≡◌};
+ghost use Rattle.std.specs.Prelude.{◌≡◌, ◌↔◌, IsTrue};
 ghost use Rattle.following.specs.Serial.{ahead_of, is_newer};
-ghost use Rattle.side_by_side.specs.Going.{goes, goes_before, going_by};
+ghost use Rattle.side_by_side.specs.Going.{IsReadBy, goes, goes_before, going_by};
 
 /// When the next datagram of a file goes.
 #[derive(Clone, Copy, Debug, PartialEq, Eq)]
@@ -39,6 +39,18 @@ impl Going {
             Going::AtOnce => true,
             Going::By(_) => true,
             Going::Never => false,
+        }
+    }
+
+    /// Whether it is read.
+    pub(crate) fn is_read(self) -> bool
+        ensures { IsTrue result ↔ IsReadBy self }
+    {
+        match self {
+            Going::Unread => false,
+            Going::AtOnce => true,
+            Going::By(_) => true,
+            Going::Never => true,
         }
     }
 

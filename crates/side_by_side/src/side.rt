@@ -3,10 +3,11 @@ ghost use Rattle.std.specs.Prelude.{◌≡◌, ◌≤◌, ◌<◌, None, Some, I
 ghost use Rattle.std.specs.Prelude.{IfSome, length, take};
 ghost use Rattle.recording_engines.specs.Files.{IsClosed, begun_of, ended_by, failures_by, gave_by};
 ghost use Rattle.recording_engines.specs.Files.{is_recording_file, next_of, source_of};
-ghost use Rattle.recording_reader.specs.FileReader.{TellsTurn, record_seen};
+ghost use Rattle.recording_reader.specs.FileReader.{IsSameFile, TellsTurn, fault_of, record_seen};
 ghost use Rattle.recording_reader.specs.Opening.{CountsOpening, IsByFlows, StopsOpening};
-ghost use Rattle.side_by_side.specs.Side.{AccountsFor, HasRead, IsGiven, IsNewSide, IsSoundSide, IsUnfailed};
-ghost use Rattle.side_by_side.specs.Side.{StopsSide, closed_side};
+ghost use Rattle.side_by_side.specs.Side.{AccountsFor, HasRead, IsGiven, IsNewSide, IsSoundSide};
+ghost use Rattle.side_by_side.specs.Side.{IsUnfailed, IsUnfailedFile, ReadsFile, ReadsReader};
+ghost use Rattle.side_by_side.specs.Side.{StopsFile, StopsReader, StopsSide, closed_side};
 
 use crate::going::Going;
 use crate::steering::{Steering, stamp_of};
@@ -52,58 +53,13 @@ impl<A: Allocator, S: ByteSource> Side<A, S> {
         self.file.is_recording()
     }
 
-    /// Opens it: begins to read it, by flows where it is a recording, and answers how many octets
-    /// its text has, which then stands at the front of `text`. Takes room for a record or a packet.
-    ///
-    /// # Errors
-    ///
-    /// As [`DatagramReader::open`]. It isn't opened then, and its source is as it is.
-    pub fn open(
-        &mut self,
-        alloc: A,
-        flows: Option<Flows>,
-        text: &mut [u8],
-    ) -> Result<usize, FileOpeningFault>
-    where
-        S: Drop,
-        requires closed { IsClosed self.old.file }
-        requires text { 65535 ≤ length text.old }
-        ensures room { length text.new ≡ length text.old }
-        ensures opened { IfOk result (λ count. IsNewSide flows (gave_by S.gave self.old.file)
-            (take count text.new) self.new) }
-        ensures few { IfOk result (λ count. count < 65536) }
-        ensures stays { OnErr result (IsClosed self.new.file) }
-        ensures fault { IfErr result (λ f. StopsOpening flows (gave_by S.gave self.old.file)
-            (gave_by S.gave self.new.file) (ended_by S.ended self.new.file) f) }
-        ensures by_flows { IfErr result (λ f. IsByFlows flows f) }
-        ensures counted { IfErr result (λ f. CountsOpening f
-            (failures_by S.failures self.old.file) (failures_by S.failures self.new.file)) }
-        ensures unfailed { OnOk result (failures_by S.failures self.new.file
-            ≡ failures_by S.failures self.old.file) }
-    {
-        let ImportFile::Closed(source) = mem::replace(&mut self.file, ImportFile::Taken) else {
-            return Ok(0);
-        };
-        self.going = Going::Unread;
-        match DatagramReader::open(alloc, flows, source, text) {
-            Ok(reader) => {
-                let count = reader.text_len();
-                self.file = ImportFile::Open(reader);
-                Ok(count)
-            }
-            Err((fault, source)) => {
-                self.file = ImportFile::Closed(source);
-                Err(fault)
-            }
-        }
-    }
-
     /// Reads on to its next datagram, or to its end, where that isn't read yet. One that isn't
     /// opened has none.
     ///
     /// # Errors
     ///
     /// Its fault, where it has one before the next datagram; it stays there.
+    #[tactic(auto, using(crate::proofs::Reading::read_stays))]
     pub(crate) fn read_on(&mut self, steering: Steering) -> Result<(), ReadingFault>
         requires { IsSoundSide steering self.old }
         ensures begun { begun_of self.new.file ≡ begun_of self.old.file }
@@ -112,28 +68,23 @@ impl<A: Allocator, S: ByteSource> Side<A, S> {
         ensures device { IsUnfailed self.old → AccountsFor result
             (failures_by S.failures self.old.file) (failures_by S.failures self.new.file) }
     {
-        match self.going {
-            Going::Unread => {}
-            Going::AtOnce | Going::By(_) | Going::Never => return Ok(()),
+        if self.going.is_read() {
+            return Ok(());
         }
-        match &mut self.file {
-            ImportFile::Open(reader) => match reader.advance() {
-                Ok(true) => {
-                    let stamp = stamp_of(steering, reader.octets());
-                    self.going = Going::of(stamp);
-                    Ok(())
-                }
-                Ok(false) => {
-                    self.going = Going::Never;
-                    Ok(())
-                }
-                Err(fault) => Err(fault),
-            },
-            ImportFile::Closed(_) | ImportFile::Taken => {
-                self.going = Going::Never;
-                Ok(())
-            }
-        }
+        self.read_unread(steering)
+    }
+
+    /// The same where that isn't read yet.
+    fn read_unread(&mut self, steering: Steering) -> Result<(), ReadingFault>
+        requires unread { self.old.going ≡ Going.Unread }
+        ensures begun { begun_of self.new.file ≡ begun_of self.old.file }
+        ensures read { OnOk result (HasRead steering self.old self.new) }
+        ensures fault { IfErr result (λ f. StopsSide f self.old self.new) }
+        ensures device { IsUnfailed self.old → AccountsFor result
+            (failures_by S.failures self.old.file) (failures_by S.failures self.new.file) }
+    {
+        self.going = read_file(steering, &mut self.file)?;
+        Ok(())
     }
 
     /// The datagram that it has at hand.
@@ -167,5 +118,90 @@ impl<A: Allocator, S: ByteSource> Side<A, S> {
         };
         self.going = Going::Unread;
         turn
+    }
+}
+
+impl<A: Allocator, S: ByteSource + Drop> Side<A, S> {
+    /// Opens it: begins to read it, by flows where it is a recording, and answers how many octets
+    /// its text has, which then stands at the front of `text`. Takes room for a record or a packet.
+    ///
+    /// # Errors
+    ///
+    /// As [`DatagramReader::open`]. It isn't opened then, and its source is as it is.
+    pub fn open(
+        &mut self,
+        alloc: A,
+        flows: Option<Flows>,
+        text: &mut [u8],
+    ) -> Result<usize, FileOpeningFault>
+        requires closed { IsClosed self.old.file }
+        requires text { 65535 ≤ length text.old }
+        ensures room { length text.new ≡ length text.old }
+        ensures opened { IfOk result (λ count. IsNewSide flows (gave_by S.gave self.old.file)
+            (take count text.new) self.new) }
+        ensures few { IfOk result (λ count. count < 65536) }
+        ensures stays { OnErr result (IsClosed self.new.file) }
+        ensures fault { IfErr result (λ f. StopsOpening flows (gave_by S.gave self.old.file)
+            (gave_by S.gave self.new.file) (ended_by S.ended self.new.file) f) }
+        ensures by_flows { IfErr result (λ f. IsByFlows flows f) }
+        ensures counted { IfErr result (λ f. CountsOpening f
+            (failures_by S.failures self.old.file) (failures_by S.failures self.new.file)) }
+        ensures unfailed { OnOk result (failures_by S.failures self.new.file
+            ≡ failures_by S.failures self.old.file) }
+    {
+        let ImportFile::Closed(source) = mem::replace(&mut self.file, ImportFile::Taken) else {
+            return Ok(0);
+        };
+        self.going = Going::Unread;
+        match DatagramReader::open(alloc, flows, source, text) {
+            Ok(reader) => {
+                let count = reader.text_len();
+                self.file = ImportFile::Open(reader);
+                Ok(count)
+            }
+            Err((fault, source)) => {
+                self.file = ImportFile::Closed(source);
+                Err(fault)
+            }
+        }
+    }
+}
+
+/// Reads a file on to its next datagram, or to its end, and answers when that goes. One that isn't
+/// opened has none.
+#[tactic(auto, using(crate::proofs::Reading::file_begun))]
+fn read_file<A: Allocator, S: ByteSource>(
+    steering: Steering,
+    file: &mut ImportFile<A, S>,
+) -> Result<Going, ReadingFault>
+    ensures begun { begun_of file.new ≡ begun_of file.old }
+    ensures read { IfOk result (λ w. ReadsFile steering w file.old file.new) }
+    ensures fault { IfErr result (λ f. StopsFile f file.old file.new) }
+    ensures device { IsUnfailedFile file.old → AccountsFor result
+        (failures_by S.failures file.old) (failures_by S.failures file.new) }
+{
+    match file {
+        ImportFile::Open(reader) => read_reader(steering, reader),
+        ImportFile::Closed(_) => Ok(Going::Never),
+        ImportFile::Taken => Ok(Going::Never),
+    }
+}
+
+/// Reads on to a reader's next datagram, or to the end, and answers when that goes.
+#[tactic(auto, using(crate::proofs::Reading::reading_on))]
+fn read_reader<A: Allocator, S: ByteSource>(
+    steering: Steering,
+    reader: &mut DatagramReader<A, S>,
+) -> Result<Going, ReadingFault>
+    ensures same { IsSameFile reader.old reader.new }
+    ensures read { IfOk result (λ w. ReadsReader steering w reader.old reader.new) }
+    ensures fault { IfErr result (λ f. StopsReader f reader.old reader.new) }
+    ensures device { fault_of reader.old.standing ≡ None → AccountsFor result
+        (S.failures reader.old.source) (S.failures reader.new.source) }
+{
+    match reader.advance() {
+        Ok(true) => Ok(Going::of(stamp_of(steering, reader.octets()))),
+        Ok(false) => Ok(Going::Never),
+        Err(fault) => Err(fault),
     }
 }
