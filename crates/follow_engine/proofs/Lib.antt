@@ -1,3 +1,4 @@
 pub mod Parts
 pub mod Without
 pub mod Tells
+pub mod Whole

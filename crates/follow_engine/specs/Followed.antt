@@ -10,11 +10,12 @@ use Rattle.run_outcome.specs.Sources.{IsSourceText}
 use Rattle.run_outcome.specs.declared.refusal.Refusal.{Refusal}
 use Rattle.capture_engines.specs.Taking.{AnnouncesStream, said_behind}
 use Rattle.receiver_engines.specs.FillText.{IsFillText}
+use Rattle.side_by_side.specs.Strands.{GoesWhole}
 use Rattle.st_format.specs.Picture.{Values}
 use Rattle.follow_engine.specs.Events.{Event, Running, events_of, frames_of_events, run_end}
 use Rattle.follow_engine.specs.Events.{running_from}
 use Rattle.follow_engine.specs.Opened.{settling_asked}
-use Rattle.follow_engine.specs.Order.{GoesWhole, datagrams_in, strands_by}
+use Rattle.follow_engine.specs.Order.{datagrams_in, strands_by}
 use Rattle.follow_engine.specs.Running.{steering_of}
 use Rattle.follow_engine.specs.Settling.{Settling, Shows}
 use Rattle.follow_engine.specs.Telling.{events_text, totals_text}

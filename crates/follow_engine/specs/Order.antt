@@ -3,12 +3,9 @@ use Rattle.std.specs.Prelude.{ℕ, List, [], ◌∷◌, map, Result}
 use Rattle.flow.specs.declared.flows.Flows.{Flows}
 use Rattle.media_file.specs.Records.{Entry}
 use Rattle.capture_engines.specs.Files.{first_way, flows_in, other_ways}
-use Rattle.recording_engines.specs.Imported.{AreOver}
 use Rattle.recording_engines.specs.Joining.{Strand}
 use Rattle.recording_engines.specs.Strands.{strand_in}
 use Rattle.run_outcome.specs.declared.refusal.Refusal.{Refusal}
-use Rattle.side_by_side.specs.Strands.{Goes}
-use Rattle.side_by_side.specs.declared.steering.Steering.{Steering}
 
 -- the records of files, each taken so
 abbrev pub strands_by : List (Result Flows Refusal) → List (List ℕ) → List Strand
@@ -16,13 +13,6 @@ strands_by ways [] = []
 strands_by ways (octets ∷ files) =
     strand_in (flows_in (first_way ways)) octets ∷ strands_by (other_ways ways) files
 
--- The records of files go side by side in this order, up to their ends: always that of the file whose
--- next datagram has the oldest timestamp.
-pub record GoesWhole (steering : Steering) (strands : List Strand) (entries : List Entry) : Type 0
-  where
-    pub left : List Strand
-    pub goes : Goes steering strands entries left
-    pub over : AreOver left
-
+-- the datagrams of records
 abbrev pub datagrams_in : List Entry → List (List ℕ)
 datagrams_in entries = map (λ e. e.octets) entries

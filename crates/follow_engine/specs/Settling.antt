@@ -22,13 +22,14 @@ value_before (Some v) fill p = value_at v p
 abbrev pub held_before : Settling → Option Values
 held_before s = if s.holds then s.before else None
 
-abbrev pub settled_with : Settling → Raster → Values
-settled_with s r = record {
+abbrev pub settled_over : List ℕ → Option Values → Raster → Values
+settled_over fill before r = record {
   format = r.format;
-  samples =
-      map (λ p. settled_cell (cell_at r p) (value_before (held_before s) s.fill p))
-      (places r.format);
+  samples = map (λ p. settled_cell (cell_at r p) (value_before before fill p)) (places r.format);
 }
+
+abbrev pub settled_with : Settling → Raster → Values
+settled_with s r = settled_over s.fill (held_before s) r
 
 -- a picture, with its timestamp
 pub record Pictured : Type 0 where

@@ -1,10 +1,11 @@
 -- Files as `follow` reads them, as they were before a run, and as they are behind it; and a stream that
 -- was begun.
 use Rattle.std.specs.Prelude.{◌≡◌, ℕ, List}
+use Rattle.std.specs.List.{AllZip}
 use Rattle.media_file.specs.Records.{Entry}
 use Rattle.recording_engines.specs.Files.{ended_by, gave_by}
-use Rattle.side_by_side.specs.Sides.{AllOver, standings}
-use Rattle.side_by_side.specs.Steps.{HasGone}
+use Rattle.side_by_side.specs.Sides.{SideGave, strands_of}
+use Rattle.side_by_side.specs.Strands.{GoesWhole}
 use Rattle.side_by_side.specs.declared.side.Side.{Side}
 use Rattle.st_format.specs.History.{IsRead}
 use Rattle.st_format.specs.Picture.{Values}
@@ -32,13 +33,14 @@ pub record HasBegun {A : Type 0} (w : FollowAsked) (words : Words) (text : List 
   pub opens : OpensRun words.frames words.ssrc text (running_of b.run)
   pub settling : settling_in b.settler ≡ settling_asked w.is_shown words.fill w.holds
 
--- The datagrams of files' records went into a stream in the order in which they go side by side, up to
--- the files' ends: what happened to it was told, and shown.
-pub record FollowsEntries {A S K : Type 0} (takes : K → ℕ → Values → K → Type 0) (b b' : Begun A)
-    (old new : K) (took took' : List ℕ) (sides : List (Side A S)) : Type 0 where
+-- The datagrams of all records of files went into a stream, in the order in which these go side by
+-- side: what happened to it was told, and shown.
+pub record FollowsEntries {A S K : Type 0} (gave : S → List ℕ) (ended : S → Type 0)
+    (takes : K → ℕ → Values → K → Type 0) (b b' : Begun A) (old new : K) (took took' : List ℕ)
+    (sides : List (Side A S)) : Type 0 where
   pub entries : List Entry
-  pub gone : HasGone b.run.steering (standings sides) entries
-  pub over : AllOver sides
+  pub goes : (octets : List (List ℕ)) → AllZip (SideGave gave ended) sides octets
+      → GoesWhole b.run.steering (strands_of sides octets) entries
   pub running : running_of b'.run
       ≡ behind_all b.run.is_eager (running_of b.run) (datagrams_in entries)
   pub told : Told takes (settling_in b.settler) (settling_in b'.settler) old new took took'

@@ -79,15 +79,22 @@ where
         ∷ counts (O.failures output.old) (O.failures output.new) ∷ []) }
 {
     let words = read_words(asked)?;
-    let mut given = begin(alloc, asked, words, sdp)?;
+    let given = begin(alloc, asked, words, sdp)?;
     let mut text = room(alloc)?;
     let mut buf = room(alloc)?;
-    let count = open_all(alloc, ways, sides, &mut text, &mut buf)?;
-    let mut begun = match given.take() {
+    let count = open_all(
+        alloc,
+        ways,
+        sides.as_mut_slice(),
+        text.as_mut_slice(),
+        buf.as_mut_slice(),
+    )?;
+    let mut begun = match given {
         Some(begun) => begun,
-        None => begin_by(alloc, asked, words, &text[..count])?,
+        None => begin_by(alloc, asked, words, &text.as_slice()[..count])?,
     };
-    follow_opened(&mut begun, alloc, sides, seen, &mut buf, pictures, output)?;
+    let datagram = buf.as_mut_slice();
+    follow_opened(&mut begun, alloc, sides, seen, datagram, pictures, output)?;
     begun.run.finish(&mut begun.settler, pictures, output)?;
     tell_totals(&begun.run, output)
 }
@@ -182,8 +189,8 @@ fn follow_opened<A: Allocator + Copy, S: ByteSource + Drop, P: PictureSink, O: B
     ensures run { OnOk result (IsRun begun.new.run) }
     ensures settler { OnOk result (IsSettlerIn begun.new.run.frame.format begun.new.settler) }
     ensures eager { begun.new.run.is_eager ≡ begun.old.run.is_eager }
-    ensures followed { OnOk result (FollowsEntries P.takes begun.old begun.new pictures.old
-        pictures.new (O.took output.old) (O.took output.new) sides.new.items) }
+    ensures followed { OnOk result (FollowsEntries S.gave S.ended P.takes begun.old begun.new
+        pictures.old pictures.new (O.took output.old) (O.took output.new) sides.new.items) }
     ensures stopped { IfErr result (λ f. OfRefusal f (StopsFollowing sides.new.items)) }
     ensures failures { Accounts result (counts (failures_each S.failures sides.old.items)
         (failures_each S.failures sides.new.items)

@@ -1,8 +1,10 @@
 //! Settling frames, one after the other.
-ghost use Rattle.std.specs.Prelude.{◌≡◌, ◌∷◌, [], None, IfErr, IfOk, OnOk, length};
+ghost use Rattle.std.specs.Prelude.{◌≡◌, ◌∷◌, [], None, IfErr, IfOk, IfSome, OnOk, length};
 ghost use Rattle.std.specs.List.{AllByRecursion};
+ghost use Rattle.std.specs.Option.{option_copied};
 ghost use Rattle.follow_engine.specs.Settled.{IsSettlerOf, settling_of};
-ghost use Rattle.follow_engine.specs.Settling.{settled_with, settling_behind};
+ghost use Rattle.follow_engine.specs.Settling.{held_before, settled_over, settled_with};
+ghost use Rattle.follow_engine.specs.Settling.{settling_behind};
 ghost use Rattle.run_outcome.specs.Fault.{Accounts, IfRefused, counts};
 ghost use Rattle.st_format.specs.Picture.{FitsDepth};
 ghost use Rattle.st_format.specs.Position.{sample_count};
@@ -57,6 +59,16 @@ impl<A: Allocator + Copy> Settler<A> {
         })
     }
 
+    /// The picture before, where that is held.
+    fn base(&self) -> Option<&Picture<A>>
+        ensures { option_copied result ≡ held_before (settling_of self.now) }
+    {
+        match &self.held {
+            Some(picture) if self.holds => Some(picture),
+            _ => None,
+        }
+    }
+
     /// Settles a frame and shows its picture, of this timestamp.
     pub fn show<P: PictureSink>(
         &mut self,
@@ -75,7 +87,7 @@ impl<A: Allocator + Copy> Settler<A> {
             (P.failures pictures.new) ∷ []) }
     {
         let mut samples = mem::replace(&mut self.room, Vec::new(self.alloc));
-        self.settle(frame, samples.as_mut_slice());
+        settle(frame, self.fill, self.base(), samples.as_mut_slice());
         let picture = Picture::from_samples(self.format, samples);
         pictures.show(timestamp, &self.format, picture.samples())?;
         let before = mem::replace(&mut self.held, Some(picture));
@@ -86,23 +98,29 @@ impl<A: Allocator + Copy> Settler<A> {
         self.room = next;
         Ok(())
     }
+}
 
-    /// Settles a frame into samples.
-    fn settle(&self, frame: &Frame<A>, samples: &mut [u16])
-        requires settler { IsSettlerOf frame.now.format self.now }
-        requires room { length samples.old ≡ sample_count frame.now.format }
-        ensures { samples.new ≡ (settled_with (settling_of self.now) frame.now).samples }
-    {
-        let format = frame.format();
-        let count = format.height() as usize * format.row_groups() as usize;
-        match &self.held {
-            Some(picture) if self.holds => {
-                frame.settle_groups(0, count, Base::Hold(picture), samples);
-            }
-            _ => {
-                let base: Base<'_, A> = Base::Fill(self.fill);
-                frame.settle_groups(0, count, base, samples);
-            }
+/// Settles a frame into samples: over the picture that is held, where there is one, else over the
+/// fill.
+fn settle<A: Allocator>(
+    frame: &Frame<A>,
+    fill: [u16; 3],
+    held: Option<&Picture<A>>,
+    samples: &mut [u16],
+)
+    requires fits { AllByRecursion (FitsDepth frame.now.format) fill }
+    requires held { IfSome (option_copied held) (λ v. v.format ≡ frame.now.format) }
+    requires room { length samples.old ≡ sample_count frame.now.format }
+    ensures { samples.new
+        ≡ (settled_over fill (option_copied held.entry) frame.now).samples }
+{
+    let format = frame.format();
+    let count = format.height() as usize * format.row_groups() as usize;
+    match held {
+        Some(picture) => frame.settle_groups(0, count, Base::Hold(picture), samples),
+        None => {
+            let base: Base<'_, A> = Base::Fill(fill);
+            frame.settle_groups(0, count, base, samples);
         }
     }
 }

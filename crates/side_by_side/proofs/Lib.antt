@@ -3,3 +3,5 @@ pub mod Chosen
 pub mod Reading
 pub mod Told
 pub mod Sound
+pub mod Oldest
+pub mod Whole

@@ -257,11 +257,12 @@ unfailed_reads Ended none unended = absurd (unended refl)
 unfailed_reads (Failed f) none unended = absurd cc
 
 pub same_begun : {S : Type 0} (old new : FileReader S) → IsSameFile old new
-    → (let both : Option Flows × List ℕ = (new.flows, new.before.gave) in both)
-    ≡ (old.flows, old.before.gave)
+    → (let both : Option Flows × List ℕ = (new.flows, new.before.gave) in Some both)
+    ≡ Some (old.flows, old.before.gave)
 same_begun old new same =
-    ap (λ (f : Option Flows). (let b : Option Flows × List ℕ = (f, new.before.gave) in b)) same.flows
-    ∙ ap (λ (t : Told). (let b : Option Flows × List ℕ = (old.flows, t.gave) in b)) same.before
+    ap (λ (f : Option Flows). (let b : Option Flows × List ℕ = (f, new.before.gave) in Some b))
+    same.flows
+    ∙ ap (λ (t : Told). (let b : Option Flows × List ℕ = (old.flows, t.gave) in Some b)) same.before
 
 pub ruleset reading_on = (found_one, found_end, found_fault, reading_blames)
 

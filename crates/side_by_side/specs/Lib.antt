@@ -4,3 +4,4 @@ pub mod Strands
 pub mod Steps
 pub mod Side
 pub mod Sides
+pub mod Oldest

@@ -3,7 +3,7 @@ use Rattle.std.specs.Prelude.{◌≡◌, ℕ, ◌⊎◌, ⊤, List, [], ◌∷�
 use Rattle.flow.specs.declared.flows.Flows.{Flows}
 use Rattle.media_file.specs.Records.{Entry}
 use Rattle.recording_engines.specs.Faults.{reading_fault}
-use Rattle.recording_engines.specs.Files.{IsAt, IsUnread, begun_of}
+use Rattle.recording_engines.specs.Files.{IsAt, IsUnread}
 use Rattle.recording_engines.specs.declared.file.ImportFile.{ImportFile}
 use Rattle.recording_engines.specs.declared.file.ImportFile.TheVariants.{Closed, Open, Taken}
 use Rattle.recording_reader.specs.FileReader.{FileReader, fault_of}
@@ -139,6 +139,12 @@ pub record IsGiven {A S : Type 0} (old new : Side A S) : Type 0 where
   pub file : new.file ≡ old.file
   pub unread : new.going ≡ Unread
 
+-- by which flows it is read, and what its source had given before its first octet, where it is opened
+abbrev pub begun_at : {A S : Type 0} → ImportFile A S → Option (Option Flows × List ℕ)
+begun_at (Closed s) = None
+begun_at (Open r) = Some (r.flows, r.before.gave)
+begun_at Taken = None
+
 -- its text, where it is opened
 abbrev pub text_of : {A S : Type 0} → ImportFile A S → List ℕ
 text_of (Closed s) = []
@@ -149,7 +155,7 @@ text_of Taken = []
 -- of it was read behind that.
 pub record IsNewSide {A S : Type 0} (flows : Option Flows) (before text : List ℕ) (s : Side A S)
     : Type 0 where
-  pub begun : begun_of s.file ≡ (flows, before)
+  pub begun : begun_at s.file ≡ Some (flows, before)
   pub unread : IsUnread s.file
   pub going : s.going ≡ Unread
   pub text_is : text_of s.file ≡ text

@@ -1,23 +1,27 @@
 -- What is known of files that are read side by side (own).
 use Rattle.std.specs.Prelude.{◌≡◌, ℕ, ◌<◌, ◌⊎◌, ⊤, List, [], ◌∷◌, ◌++◌, map, take}
 use Rattle.std.specs.Prelude.{Option, None, Some}
-use Rattle.std.specs.List.{AllByRecursion, sum_by}
+use Rattle.std.specs.List.{AllByRecursion, AllZip, sum_by}
 use Rattle.std.specs.Option.{option_map}
 use Rattle.flow.specs.declared.flows.Flows.{Flows}
 use Rattle.media_file.specs.Records.{Entry}
-use Rattle.recording_engines.specs.Files.{IsAt, begun_of, failures_by}
+use Rattle.recording_engines.specs.Files.{IsAt, failures_by}
 use Rattle.recording_engines.specs.declared.file.ImportFile.{ImportFile}
 use Rattle.recording_engines.specs.declared.file.ImportFile.TheVariants.{Closed, Open, Taken}
+use Rattle.recording_engines.specs.Joining.{Strand}
+use Rattle.recording_engines.specs.Strands.{strand_in}
 use Rattle.recording_reader.specs.Files.{datagrams_of, source_fault}
 use Rattle.recording_reader.specs.declared.fault.ReadingFault.{ReadingFault}
 use Rattle.recording_reader.specs.declared.way.Standing.TheVariants.{Reads}
+use Rattle.st_format.specs.History.{IsRead}
 use Rattle.st_format.specs.declared.device.SourceFault.{SourceFault}
 use Rattle.st_format.specs.declared.device.Turn.{Turn}
 use Rattle.st_format.specs.declared.device.Turn.TheVariants.{Datagram, Quiet, End}
 use Rattle.st_format.specs.declared.path.Path.{Path}
 use Rattle.side_by_side.specs.Going.{IsReadBy}
-use Rattle.side_by_side.specs.Side.{IsSoundSide, IsUnfailed, standing_of}
-use Rattle.side_by_side.specs.Steps.{AllGoOn, HasGone, Over, Standing}
+use Rattle.side_by_side.specs.Side.{IsSoundSide, IsUnfailed, begun_at, standing_of}
+use Rattle.side_by_side.specs.Steps.{AllGoOn, HasGone, Over, Standing, nothing}
+use Rattle.side_by_side.specs.Strands.{GoesWhole}
 use Rattle.side_by_side.specs.declared.going.Going.TheVariants.{Unread}
 use Rattle.side_by_side.specs.declared.side.Side.{Side}
 use Rattle.side_by_side.specs.declared.steering.Steering.{Steering}
@@ -27,9 +31,10 @@ use Rattle.side_by_side.specs.declared.steering.Steering.{Steering}
 abbrev pub standings : {A S : Type 0} → List (Side A S) → List Standing
 standings sides = map standing_of sides
 
--- by which flows each is read, and what its source had given before its first octet
-abbrev pub begun_each : {A S : Type 0} → List (Side A S) → List (Option Flows × List ℕ)
-begun_each sides = map (λ s. begun_of s.file) sides
+-- by which flows each is read, and what its source had given before its first octet; none of one that
+-- isn't opened
+abbrev pub begun_each : {A S : Type 0} → List (Side A S) → List (Option (Option Flows × List ℕ))
+begun_each sides = map (λ s. begun_at s.file) sides
 
 -- how often their sources failed, all together
 abbrev pub failures_each : {A S : Type 0} → (S → ℕ) → List (Side A S) → ℕ
@@ -133,3 +138,36 @@ pub record IsSideBySide {A S : Type 0} (s : Sides A S) : Type 0 where
   pub gone : HasGone s.steering (standings s.sides) entries
   pub came_is : s.came ≡ datagrams_of entries
   pub stopped : IsStopped s.fault s.sides
+
+-- ---- the octets of files
+
+-- octets are what was read of a file since it was opened
+abbrev pub FileGave : {A S : Type 0} → (S → List ℕ) → (S → Type 0) → ImportFile A S → List ℕ
+    → Type 0
+FileGave gave ended (Closed s) octets = ⊤
+FileGave gave ended (Open r) octets =
+    IsRead r.before.gave (gave r.source) (ended r.source) octets
+FileGave gave ended Taken octets = ⊤
+
+abbrev pub SideGave : {A S : Type 0} → (S → List ℕ) → (S → Type 0) → Side A S → List ℕ → Type 0
+SideGave gave ended s octets = FileGave gave ended s.file octets
+
+-- the records that octets have as this file, and their fault; none of one that isn't opened
+abbrev pub strand_of : {A S : Type 0} → ImportFile A S → List ℕ → Strand
+strand_of (Closed s) octets = nothing
+strand_of (Open r) octets = strand_in r.flows octets
+strand_of Taken octets = nothing
+
+abbrev pub strands_of : {A S : Type 0} → List (Side A S) → List (List ℕ) → List Strand
+strands_of [] octets = []
+strands_of (s ∷ ss) [] = []
+strands_of (s ∷ ss) (o ∷ os) = strand_of s.file o ∷ strands_of ss os
+
+-- The datagrams that it gave are those of all records of what was read of the files, in the order in
+-- which these go.
+pub record HasGivenAll {A S : Type 0} (gave : S → List ℕ) (ended : S → Type 0) (s : Sides A S)
+    : Type 0 where
+  pub entries : List Entry
+  pub came_is : s.came ≡ datagrams_of entries
+  pub goes : (octets : List (List ℕ)) → AllZip (SideGave gave ended) s.sides octets
+      → GoesWhole s.steering (strands_of s.sides octets) entries

@@ -2,6 +2,7 @@
 use Rattle.std.specs.Prelude.{◌≡◌, ℕ, zero, suc, ⊤, List, [], ◌∷◌, map, Option, None, Some}
 use Rattle.std.specs.List.{AllByRecursion}
 use Rattle.media_file.specs.Records.{Entry}
+use Rattle.recording_engines.specs.Imported.{AreOver}
 use Rattle.recording_engines.specs.Joining.{Strand}
 use Rattle.recording_reader.specs.declared.fault.ReadingFault.{ReadingFault}
 use Rattle.side_by_side.specs.Going.{first_place, going_by}
@@ -51,3 +52,10 @@ abbrev pub Goes : Steering → List Strand → List Entry → List Strand → Ty
 Goes s strands [] left = left ≡ strands
 Goes s strands (e ∷ es) left =
     (behind : List Strand) × GoesNext s strands e behind × Goes s behind es left
+
+-- Records of files go in this order, up to the files' ends: all of all of them, and no file has a
+-- fault.
+pub record GoesWhole (s : Steering) (strands : List Strand) (entries : List Entry) : Type 0 where
+  pub left : List Strand
+  pub goes : Goes s strands entries left
+  pub over : AreOver left

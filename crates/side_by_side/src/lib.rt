@@ -7,6 +7,7 @@ mod came;
 mod choosing;
 mod giving;
 mod going;
+pub mod laws;
 mod side;
 mod sides;
 mod steering;

@@ -1,13 +1,14 @@
 //! One of the files that are read side by side.
 ghost use Rattle.std.specs.Prelude.{◌≡◌, ◌≤◌, ◌<◌, None, Some, IfErr, IfOk, MatchOption, OnErr, OnOk};
 ghost use Rattle.std.specs.Prelude.{IfSome, length, take};
-ghost use Rattle.recording_engines.specs.Files.{IsClosed, begun_of, ended_by, failures_by, gave_by};
+ghost use Rattle.recording_engines.specs.Files.{IsClosed, ended_by, failures_by, gave_by};
 ghost use Rattle.recording_engines.specs.Files.{is_recording_file, next_of, source_of};
 ghost use Rattle.recording_reader.specs.FileReader.{IsSameFile, TellsTurn, fault_of, record_seen};
 ghost use Rattle.recording_reader.specs.Opening.{CountsOpening, IsByFlows, StopsOpening};
 ghost use Rattle.side_by_side.specs.Side.{AccountsFor, HasRead, IsGiven, IsNewSide, IsSoundSide};
 ghost use Rattle.side_by_side.specs.Side.{IsUnfailed, IsUnfailedFile, ReadsFile, ReadsReader};
-ghost use Rattle.side_by_side.specs.Side.{StopsFile, StopsReader, StopsSide, closed_side};
+ghost use Rattle.side_by_side.specs.Side.{StopsFile, StopsReader, StopsSide, begun_at};
+ghost use Rattle.side_by_side.specs.Side.{closed_side};
 
 use crate::going::Going;
 use crate::steering::{Steering, stamp_of};
@@ -62,7 +63,7 @@ impl<A: Allocator, S: ByteSource> Side<A, S> {
     #[tactic(auto, using(crate::proofs::Reading::read_stays))]
     pub(crate) fn read_on(&mut self, steering: Steering) -> Result<(), ReadingFault>
         requires { IsSoundSide steering self.old }
-        ensures begun { begun_of self.new.file ≡ begun_of self.old.file }
+        ensures begun { begun_at self.new.file ≡ begun_at self.old.file }
         ensures read { OnOk result (HasRead steering self.old self.new) }
         ensures fault { IfErr result (λ f. StopsSide f self.old self.new) }
         ensures device { IsUnfailed self.old → AccountsFor result
@@ -77,7 +78,7 @@ impl<A: Allocator, S: ByteSource> Side<A, S> {
     /// The same where that isn't read yet.
     fn read_unread(&mut self, steering: Steering) -> Result<(), ReadingFault>
         requires unread { self.old.going ≡ Going.Unread }
-        ensures begun { begun_of self.new.file ≡ begun_of self.old.file }
+        ensures begun { begun_at self.new.file ≡ begun_at self.old.file }
         ensures read { OnOk result (HasRead steering self.old self.new) }
         ensures fault { IfErr result (λ f. StopsSide f self.old self.new) }
         ensures device { IsUnfailed self.old → AccountsFor result
@@ -174,7 +175,7 @@ fn read_file<A: Allocator, S: ByteSource>(
     steering: Steering,
     file: &mut ImportFile<A, S>,
 ) -> Result<Going, ReadingFault>
-    ensures begun { begun_of file.new ≡ begun_of file.old }
+    ensures begun { begun_at file.new ≡ begun_at file.old }
     ensures read { IfOk result (λ w. ReadsFile steering w file.old file.new) }
     ensures fault { IfErr result (λ f. StopsFile f file.old file.new) }
     ensures device { IsUnfailedFile file.old → AccountsFor result

@@ -3,8 +3,8 @@ ghost use Rattle.std.specs.Prelude.{◌≡◌, ◌≤◌, ◌↔◌, ◌++◌, N
 ghost use Rattle.std.specs.Prelude.{MatchResult, [], ◌∷◌, length};
 ghost use Rattle.std.specs.List.{AllByRecursion};
 ghost use Rattle.recording_engines.specs.Files.{IsKnown};
-ghost use Rattle.side_by_side.specs.Sides.{AllOver, AllUnfailed, IsBegun, IsSideBySide};
-ghost use Rattle.side_by_side.specs.Sides.{begun_each, failures_each, last_fault_of};
+ghost use Rattle.side_by_side.specs.Sides.{AllOver, AllUnfailed, HasGivenAll, IsBegun};
+ghost use Rattle.side_by_side.specs.Sides.{IsSideBySide, begun_each, failures_each, last_fault_of};
 ghost use Rattle.recording_reader.specs.Files.{source_fault};
 ghost use Rattle.recording_engines.specs.Faults.{reading_fault};
 ghost use Rattle.run_outcome.specs.Fault.{Blames, counts};
@@ -99,11 +99,12 @@ impl<A: Allocator, S: ByteSource> SideBySide<A, S> {
         let _failures = &self.failures;
     }
 
-    /// What is known of the octets of each file, by where its reader stands. A caller's proof learns
-    /// it from here; nothing is done.
+    /// What is known of the octets of each file, by where its reader stands; and where each is at its
+    /// end, that all of its records were given. A caller's proof learns it from here; nothing is done.
     #[inline(always)]
     pub fn history(&self)
-        ensures { AllByRecursion (λ s. IsKnown S.gave S.ended s.file) self.now.sides }
+        ensures known { AllByRecursion (λ s. IsKnown S.gave S.ended s.file) self.now.sides }
+        ensures all { AllOver self.now.sides → HasGivenAll S.gave S.ended self.now }
     {
         know_all(&self.sides);
     }

@@ -3,10 +3,10 @@ use Rattle.std.proofs.Common.{take}
 use Rattle.std.proofs.lemmas.List.{length-set, take_all}
 use Rattle.std.proofs.lemmas.Result.{err_from_is_err_and}
 use Rattle.std.specs.Prelude.{◌≤◌}
-use Rattle.recording_engines.specs.Files.{begun_of, failures_by}
+use Rattle.recording_engines.specs.Files.{failures_by}
 use Rattle.recording_engines.proofs.Taken.{map_set}
 use Rattle.side_by_side.specs.Going.{IsReadBy}
-use Rattle.side_by_side.specs.Side.{IsSoundSide, IsUnfailed}
+use Rattle.side_by_side.specs.Side.{IsSoundSide, IsUnfailed, begun_at}
 use Rattle.side_by_side.specs.Sides.{AllRead, standings}
 use Rattle.side_by_side.specs.declared.side.Side.{Side}
 use Rattle.side_by_side.proofs.Gone.{all_on, all_stay}
@@ -45,7 +45,7 @@ loop-place-preserved g c =
     let next : suc l.place ≡ l.place + 1 = omega arith in
     record {
       len = length-set l.sides l.place y ∙ l.invariant.len;
-      begun = map_set (λ s. begun_of s.file) l.sides l.place d y lt c.in_ok-read_on.ensures.begun
+      begun = map_set (λ s. begun_at s.file) l.sides l.place d y lt c.in_ok-read_on.ensures.begun
           ∙ l.invariant.begun;
       sound = all_set (λ s. IsSoundSide st s) l.sides l.place y l.invariant.sound has.sound;
       read = subst (λ (n : ℕ). AllRead (take n (set l.sides l.place y))) next
@@ -67,7 +67,7 @@ pub returns-in_err-read_on-clause-begun : goal.returns-in_err-read_on-clause-beg
 returns-in_err-read_on-clause-begun g c =
     let l = c.loop-place in
     let lt : l.place < length l.sides = omega (arith, c.loop-place-test.true, l.invariant.len) in
-    map_set (λ s. begun_of s.file) l.sides l.place c.index-sides-place.result c.read_on.new.self lt
+    map_set (λ s. begun_at s.file) l.sides l.place c.index-sides-place.result c.read_on.new.self lt
     c.read_on.ensures.begun ∙ l.invariant.begun
 
 pub returns-in_err-read_on-clause-fault : goal.returns-in_err-read_on-clause-fault
