@@ -1,4 +1,5 @@
 pub mod Parts
 pub mod Without
 pub mod Tells
+pub mod Leaving
 pub mod Whole

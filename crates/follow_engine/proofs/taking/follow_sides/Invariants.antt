@@ -8,8 +8,8 @@ use Rattle.st_format.specs.declared.path.Path.{Path}
 use Rattle.follow_engine.proofs.taking.follow_sides.Given as goal
 
 -- what came so far went into the stream
-abbrev pub invariant-loop-1 : goal.invariant-loop-1
-invariant-loop-1 g l = record {
+abbrev pub invariant-loop : goal.invariant-loop
+invariant-loop g l = record {
   room : length l.buf ≡ length l.initial.buf;
   run : IsRun l.run;
   settler : IsSettlerIn l.run.frame.format l.settler;
