@@ -21,8 +21,8 @@ abbrev pub AreNewSides : {A : Type 0} → List (Side A Replayed) → Type 0
 AreNewSides sides =
     AllClosedSides sides × AllByRecursion (λ s. gave_by replayed_gave s.file ≡ []) sides
 
--- The refusals before a file is read, in their order: of the words; of the SDP's length; of the words
--- for flows.
+-- The refusals before a file is read, in their order: of the words; of the SDP's length; of the
+-- words for flows.
 abbrev pub IsFollowOpening : FollowAsked → Option (List ℕ) → Option (List ℕ) → Files → Refusal
     → Type 0
 IsFollowOpening w a b files r = IsWordRefusal w.frames w.ssrc.now w.fill.now r

@@ -179,9 +179,9 @@ impl<'a> Command for FollowCommand<'a> {
         × IfErr c.opened (λ f. OfRefusal f (IsFollowOpening c.asked
         (option_copied c.flows.a) (option_copied c.flows.b) c.files)) };
 
-    // What is printed is a line for each frame that leaves a follower, of all records of the captures
-    // and recordings that were read as they go side by side, of recordings by their flows; and the
-    // totals of it.
+    // What is printed is a line for each frame that leaves a follower, of all records of the
+    // captures and recordings that were read as they go side by side, of recordings by their flows;
+    // and the totals of it.
     ghost does = { λ old new. FollowsFiles old.asked (said_text old.files.said)
         old.files.ways.items (zip old.sides.items new.sides.items)
         (output_took old.output) (output_took new.output) };

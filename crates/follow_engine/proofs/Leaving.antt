@@ -4,7 +4,8 @@ use Rattle.std.proofs.Common.{append_assoc}
 use Rattle.following.specs.Follower.{Following}
 use Rattle.following.specs.Following.{Handed, frames_in}
 use Rattle.st_format.specs.Picture.{Values}
-use Rattle.follow_engine.specs.Events.{Event, Left, Running, frames_with, late_left, leaving, without}
+use Rattle.follow_engine.specs.Events.{Event, Left, Running, frames_with, late_left, leaving}
+use Rattle.follow_engine.specs.Events.{without}
 use Rattle.follow_engine.specs.Running.{Told}
 use Rattle.follow_engine.specs.Settling.{Settling}
 use Rattle.follow_engine.proofs.Tells.{told_both, told_none}

@@ -1,11 +1,13 @@
 -- What was read of files that were opened as they are taken.
-use Rattle.std.proofs.Common.{◌≡◌, ℕ, List, [], ◌∷◌, Option, None, Some, Result, refl, sym, ap, subst}
+use Rattle.std.proofs.Common.{◌≡◌, ℕ, List, [], ◌∷◌, Option, None, Some, Result, refl, sym, ap}
+use Rattle.std.proofs.Common.{subst}
 use Rattle.std.proofs.Common.{◌∙◌, map}
 use Rattle.std.specs.List.{AllZip, zip}
 use Rattle.flow.specs.declared.flows.Flows.{Flows}
-use Rattle.capture_engines.specs.Files.{first_way, flows_in, other_ways}
+use Rattle.capture_engines.specs.Files.{fault_by, first_way, flows_in, other_ways}
 use Rattle.media_file.specs.Records.{Entry}
 use Rattle.recording_engines.proofs.Same.{no_less, no_more, same_head, same_tail}
+use Rattle.recording_engines.specs.Faults.{reading_fault}
 use Rattle.recording_engines.specs.Files.{ended_by, gave_by}
 use Rattle.recording_engines.specs.Joining.{Strand}
 use Rattle.recording_engines.specs.Strands.{strand_in}
@@ -13,6 +15,8 @@ use Rattle.recording_engines.specs.declared.file.ImportFile.{ImportFile}
 use Rattle.recording_engines.specs.declared.file.ImportFile.TheVariants.{Closed, Open, Taken}
 use Rattle.recording_reader.specs.FileReader.{FileReader}
 use Rattle.recording_reader.specs.Files.{datagrams_of}
+use Rattle.recording_reader.specs.declared.fault.ReadingFault.{ReadingFault}
+use Rattle.recording_reader.specs.declared.fault.ReadingFault.TheVariants.{Capture, Recording}
 use Rattle.run_outcome.specs.declared.refusal.Refusal.{Refusal}
 use Rattle.st_format.specs.History.{IsRead}
 use Rattle.st_format.specs.declared.path.Path.{Path}
@@ -98,3 +102,10 @@ pub datagrams_from : (came : List (Path × List ℕ)) (entries : List Entry)
     → came ≡ datagrams_of entries → datagrams_since [] came ≡ datagrams_in entries
 datagrams_from came entries is =
     ap (λ (l : List (Path × List ℕ)). datagrams_since [] l) is ∙ datagrams_all entries
+
+-- ---- faults
+
+-- a fault of a file ends a run by one and the same fault, whichever engine names it
+pub same_fault : (f : ReadingFault) → fault_by f ≡ reading_fault f
+same_fault (Capture f) = refl
+same_fault (Recording f) = refl

@@ -4,7 +4,8 @@ use Rattle.std.proofs.Common.{◌∙◌, append_assoc, append-nil, Option, None,
 use Rattle.std.proofs.lemmas.List.Elements.{filter_map-append}
 use Rattle.following.specs.Follower.{Following}
 use Rattle.following.specs.Following.{Handed, frames_in}
-use Rattle.following.specs.Turned.{answer_in, handed_all, handed_in, handed_while, state_behind, turned}
+use Rattle.following.specs.Turned.{answer_in, handed_all, handed_in, handed_while, state_behind}
+use Rattle.following.specs.Turned.{turned}
 use Rattle.follow_engine.specs.Events.{Anew, Event, Left, Running, anew, behind, behind_all}
 use Rattle.follow_engine.specs.Events.{events_at, events_end, events_in, events_of}
 use Rattle.follow_engine.specs.Events.{frames_of_events, handed_by, is_anew, late_with, leaving}

@@ -16,8 +16,8 @@ use Rattle.rtp_header.specs.Grammar.{Rtp}
 use Rattle.rtp_header.specs.Reading.{rtp_walk}
 use Rattle.rtp_header.specs.declared.header.RtpFault.{RtpFault}
 
--- What happens: a frame left, and so many datagrams came late since the one before; or the stream is
--- followed anew, from this timestamp on.
+-- What happens: a frame left, and so many datagrams came late since the one before; or the stream
+-- is followed anew, from this timestamp on.
 pub data Event : Type 0 where
   Left : Handed → ℕ → Event
   Anew : ℕ → Event

@@ -33,8 +33,8 @@ followed_run w o entries =
     run_end w.is_eager (running_from (opened o w.frames 900000)) (datagrams_in entries)
 
 -- So the stream that files have was followed: what was printed, and what was shown, where that is
--- wanted. It is that of the frames that leave a follower which is opened with what the SDP text says,
--- of all records of the files as they go side by side, up to their ends.
+-- wanted. It is that of the frames that leave a follower which is opened with what the SDP text
+-- says, of all records of the files as they go side by side, up to their ends.
 pub record FollowsWhole {S K : Type 0} (w : FollowAsked) (sdp : Option (List ℕ))
     (ways : List (Result Flows Refusal)) (told : S → List ℕ → Type 0) (files : List S)
     (takes : K → ℕ → Values → K → Type 0) (old new : K) (took took' : List ℕ) : Type 0 where

@@ -16,8 +16,8 @@ use Rattle.st_format.specs.History.{IsRead}
 use Rattle.follow_engine.specs.Events.{Running, running_from}
 use Rattle.follow_engine.specs.Settling.{Settling}
 
--- A stream of which nothing came, by what an SDP text says, of so many frames, and of a source where
--- one is pinned. A new timestamp may be ten seconds ahead, in ticks of the 90 kHz clock.
+-- A stream of which nothing came, by what an SDP text says, of so many frames, and of a source
+-- where one is pinned. A new timestamp may be ten seconds ahead, in ticks of the 90 kHz clock.
 pub record OpensRun (size : ℕ) (ssrc : Option ℕ) (text : List ℕ) (r : Running) : Type 0 where
   pub opening : Opening
   pub no_window : opening.window ≡ []

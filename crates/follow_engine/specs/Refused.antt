@@ -1,5 +1,6 @@
 -- Which refusal ends a run of `follow` (own).
-use Rattle.std.specs.Prelude.{◌≡◌, ℕ, ◌⊎◌, ◌<◌, List, [], ◌∷◌, Option, None, Some, MatchOption, Result}
+use Rattle.std.specs.Prelude.{◌≡◌, ℕ, ◌⊎◌, ◌<◌, List, [], ◌∷◌, Option, None, Some, MatchOption}
+use Rattle.std.specs.Prelude.{Result}
 use Rattle.std.specs.List.{AllByRecursion}
 use Rattle.flow.specs.declared.flows.Flows.{Flows}
 use Rattle.capture_engines.specs.Files.{HasFileText, fault_by, first_way, flows_in}

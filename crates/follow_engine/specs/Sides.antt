@@ -1,5 +1,5 @@
--- Files as `follow` reads them, as they were before a run, and as they are behind it; and a stream that
--- was begun.
+-- Files as `follow` reads them, as they were before a run, and as they are behind it; and a stream
+-- that was begun.
 use Rattle.std.specs.Prelude.{◌≡◌, ℕ, List}
 use Rattle.std.specs.List.{AllZip}
 use Rattle.media_file.specs.Records.{Entry}

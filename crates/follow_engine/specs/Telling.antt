@@ -1,5 +1,6 @@
 -- What `follow` prints (own).
-use Rattle.std.specs.Prelude.{ℕ, Bool, true, false, ◌&&◌, if◌then◌else◌, nat_lt, List, [], ◌∷◌, ◌++◌}
+use Rattle.std.specs.Prelude.{ℕ, Bool, true, false, ◌&&◌, if◌then◌else◌, nat_lt, List, [], ◌∷◌}
+use Rattle.std.specs.Prelude.{◌++◌}
 use Rattle.std.specs.List.{flat_map}
 use Rattle.following.specs.declared.tally.FollowTally.{FollowTally}
 use Rattle.frame_assembly.specs.Kinds.{counts_of}

@@ -1,5 +1,6 @@
 //! The engine of `follow`.
-ghost use Rattle.std.specs.Prelude.{◌≡◌, ◌⊎◌, ◌≤◌, ◌∷◌, [], None, IfErr, IfOk, IfSome, OnOk, length};
+ghost use Rattle.std.specs.Prelude.{◌≡◌, ◌⊎◌, ◌≤◌, ◌∷◌, [], None, IfErr, IfOk, IfSome, OnOk};
+ghost use Rattle.std.specs.Prelude.{length};
 ghost use Rattle.std.specs.Prelude.{MatchOption};
 ghost use Rattle.std.specs.List.{AllByRecursion, zip};
 ghost use Rattle.std.specs.Option.{option_copied};
@@ -36,20 +37,21 @@ use std::mem;
 ///
 /// The stream is what the SDP text `sdp` says, or, where none is given, that of the first file. A
 /// file that begins as a recording is taken by the flows of its place in `ways`, or refused so; one
-/// of which they say nothing is a capture. Each frame that leaves the window is settled and shown to
-/// `pictures`, where that is wanted, and then told to `output` by a line: `frame TS present P missing
-/// M contested C late L`, where L counts the datagrams that came late since the line before. Where
-/// only datagrams come that are late or too far ahead, for longer than ten seconds, all frames leave,
-/// and the stream is followed anew: `anew TS`. Last are the totals, and where datagrams came late
-/// that more frames would have held, how many: `late wants window N`.
+/// of which they say nothing is a capture. Each frame that leaves the window is settled and shown
+/// to `pictures`, where that is wanted, and then told to `output` by a line: `frame TS present P
+/// missing M contested C late L`, where L counts the datagrams that came late since the line
+/// before. Where only datagrams come that are late or too far ahead, for longer than ten seconds,
+/// all frames leave, and the stream is followed anew: `anew TS`. Last are the totals, and where
+/// datagrams came late that more frames would have held, how many: `late wants window N`.
 ///
 /// What was seen of each file is noted at its place in `seen`, where there is one.
 ///
 /// # Errors
 ///
-/// A refusal, in this order: of the words; of the SDP text that is given, the fill's values among it;
-/// of a file, before its records; of the first file's text; of a file's records, behind what was told
-/// and shown of those before the fault. And else that a device failed or memory was wanted.
+/// A refusal, in this order: of the words; of the SDP text that is given, the fill's values among
+/// it; of a file, before its records; of the first file's text; of a file's records, behind what
+/// was told and shown of those before the fault. And else that a device failed or memory was
+/// wanted.
 pub fn follow_files<A, S, P, O>(
     alloc: A,
     asked: FollowAsked<'_>,

@@ -201,8 +201,8 @@ pub(crate) fn open_all<A: Allocator + Copy, S: ByteSource + Drop>(
     Ok(count)
 }
 
-/// Opens a file that is taken so, and answers how many octets its text has, which stands at the front
-/// of `text` then.
+/// Opens a file that is taken so, and answers how many octets its text has, which stands at the
+/// front of `text` then.
 fn open_side<A: Allocator, S: ByteSource + Drop>(
     alloc: A,
     way: Way,

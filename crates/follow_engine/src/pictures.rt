@@ -5,7 +5,8 @@ ghost use Rattle.st_format.specs.Picture.{IsPicture, Values};
 
 use st_format::{DeviceFault, Format};
 
-/// Takes pictures, each whole or not at all. What it makes of them, as a file, it says by relations.
+/// Takes pictures, each whole or not at all. What it makes of them, as a file, it says by
+/// relations.
 pub trait PictureSink {
     /// What becomes of the sink by a call that takes a picture, of a timestamp. Where a sink of
     /// octets lies below it, this says what that is then written.

@@ -1,7 +1,8 @@
 //! A stream that is followed.
 ghost use Rattle.std.specs.Prelude.{◌≡◌, ◌≤◌, ◌∷◌, ◌++◌, [], IfErr, IfOk, OnOk};
 ghost use Rattle.follow_engine.specs.Events.{Anew, IsAnewAt, anew, anew_with, behind, events_at};
-ghost use Rattle.follow_engine.specs.Events.{late_with, leaving, noted_by, running_from, time_of, without};
+ghost use Rattle.follow_engine.specs.Events.{late_with, leaving, noted_by, running_from, time_of};
+ghost use Rattle.follow_engine.specs.Events.{without};
 ghost use Rattle.follow_engine.specs.Running.{IsRun, Told, running_of};
 ghost use Rattle.follow_engine.specs.Settled.{IsSettlerIn, settling_in};
 ghost use Rattle.following.specs.Follower.{opened};

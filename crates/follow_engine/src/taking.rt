@@ -7,7 +7,8 @@ ghost use Rattle.follow_engine.specs.Settled.{IsSettlerIn, settling_in};
 ghost use Rattle.path_receiver.specs.Took.{datagrams_since};
 ghost use Rattle.run_outcome.specs.Fault.{Accounts, counts};
 ghost use Rattle.run_outcome.specs.Refusing.{OfRefusal};
-ghost use Rattle.side_by_side.specs.Sides.{AllOver, AllUnfailed, begun_each, failures_each};
+ghost use Rattle.side_by_side.specs.Sides.{AllOver, AllUnfailed, IsStopped, begun_each};
+ghost use Rattle.side_by_side.specs.Sides.{failures_each};
 
 use crate::pictures::PictureSink;
 use crate::running::Run;
@@ -19,13 +20,13 @@ use side_by_side::SideBySide;
 use st_format::{ByteSink, ByteSource, DatagramSource, Turn};
 use std::alloc::Allocator;
 
-/// Takes all datagrams of files, in the order in which they go side by side: what leaves is shown and
-/// told. What is in at the end stays in. `buf` has room for any datagram.
+/// Takes all datagrams of files, in the order in which they go side by side: what leaves is shown
+/// and told. What is in at the end stays in. `buf` has room for any datagram.
 ///
 /// # Errors
 ///
-/// A refusal where a file is at fault, behind what happened before the fault; and else that a device
-/// failed.
+/// A refusal where a file is at fault, behind what happened before the fault; and else that a
+/// device failed.
 pub(crate) fn follow_sides<A: Allocator + Copy, S: ByteSource, P: PictureSink, O: ByteSink>(
     source: &mut SideBySide<A, S>,
     run: &mut Run<A>,
@@ -71,7 +72,8 @@ pub(crate) fn follow_sides<A: Allocator + Copy, S: ByteSource, P: PictureSink, O
 
 /// The fault of a file at which a source stays; where there is none, a device's.
 fn fault_of<A: Allocator, S: ByteSource>(source: &SideBySide<A, S>) -> Fault
-    ensures { result ≡ fault_in source.now.fault }
+    ensures fault { result ≡ fault_in source.now.fault }
+    ensures stopped { IsStopped source.now.fault source.now.sides }
 {
     match source.fault() {
         Some(fault) => of_reading(fault),

@@ -1,5 +1,6 @@
 -- How many frames a follower needs so that no datagram comes late (own).
-use Rattle.std.specs.Prelude.{ℕ, ◌+◌, ◌-◌, ◌==◌, Bool, true, false, if◌then◌else◌, nat_lt, max, List}
+use Rattle.std.specs.Prelude.{ℕ, ◌+◌, ◌-◌, ◌==◌, Bool, true, false, if◌then◌else◌, nat_lt, max}
+use Rattle.std.specs.Prelude.{List}
 use Rattle.std.specs.Prelude.{length, drop, Result, Ok, Err}
 use Rattle.std.specs.List.{insert}
 use Rattle.path_receiver.specs.declared.answer.Refusal.{Refusal}

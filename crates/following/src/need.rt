@@ -83,7 +83,8 @@ impl WindowNeed {
     }
 }
 
-/// Puts a timestamp at its place among the newest ones, of which the oldest goes where there are 16.
+/// Puts a timestamp at its place among the newest ones, of which the oldest goes where there are
+/// 16.
 fn put(newest: &mut ArrayVec<u32, MOST_FRAMES>, place: usize, timestamp: u32)
     requires { place ≤ length newest.old.items }
     ensures { newest.new.items ≡ newest_with newest.old.items place timestamp }

@@ -8,8 +8,8 @@ use crate::standing::beyond;
 use path_receiver::Refusal;
 
 /// Tells when a stream is to be followed anew: where only datagrams came that were late or too far
-/// ahead, for longer than a bound. So does a sender that begins anew with another base, and a stream
-/// that was first begun by a stray one.
+/// ahead, for longer than a bound. So does a sender that begins anew with another base, and a
+/// stream that was first begun by a stray one.
 ///
 /// How long is told by the datagrams' timestamps, from the first of them to the last.
 #[derive(Clone, Copy, Debug, PartialEq, Eq)]

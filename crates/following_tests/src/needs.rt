@@ -1,5 +1,5 @@
-//! Which window would have held late datagrams, and when a stream is to be followed anew: answers to
-//! timestamps, worked out by hand.
+//! Which window would have held late datagrams, and when a stream is to be followed anew: answers
+//! to timestamps, worked out by hand.
 use crate::checks::{met, none_fails};
 use following::{Followed, Restarts, WindowNeed};
 use std::test::Fail;
@@ -55,8 +55,8 @@ fn needs_fail_at() -> Option<u64> {
     None
 }
 
-/// The place of the first answer at which the stream is followed anew, and is not to be, or the other
-/// way round.
+/// The place of the first answer at which the stream is followed anew, and is not to be, or the
+/// other way round.
 fn anew_fails_at() -> Option<u64> {
     let mut restarts = Restarts::new(100);
     let mut place = 0u64;

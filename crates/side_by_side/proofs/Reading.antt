@@ -22,8 +22,10 @@ use Rattle.recording_reader.specs.declared.fault.ReadingFault.{ReadingFault}
 use Rattle.recording_reader.specs.declared.way.Standing.{Standing as Stand}
 use Rattle.recording_reader.specs.declared.way.Standing.TheVariants.{Reads, Ended, Failed}
 use Rattle.side_by_side.specs.Going.{IsReadBy, going_by}
-use Rattle.side_by_side.specs.Side.{HasRead, IsAtHand, IsSoundBy, IsSoundFile, IsSoundSide, ReadsReader}
-use Rattle.side_by_side.specs.Side.{IsUnfailed, IsUnfailedFile, StopsReader, ahead_by, ahead_of_hand}
+use Rattle.side_by_side.specs.Side.{HasRead, IsAtHand, IsSoundBy, IsSoundFile, IsSoundSide}
+use Rattle.side_by_side.specs.Side.{ReadsReader}
+use Rattle.side_by_side.specs.Side.{IsUnfailed, IsUnfailedFile, StopsReader, ahead_by}
+use Rattle.side_by_side.specs.Side.{ahead_of_hand}
 use Rattle.side_by_side.specs.Side.{goings, reader_standing, standing_by, standing_of}
 use Rattle.side_by_side.specs.Sides.{AllRead, AllSound, AllUnfailed, OneSideAt, standings}
 use Rattle.side_by_side.specs.Steering.{stamp_of}

@@ -1,5 +1,6 @@
 -- What is known of one of the files that are read side by side (own).
-use Rattle.std.specs.Prelude.{◌≡◌, ℕ, ◌⊎◌, ⊤, List, [], ◌∷◌, Option, None, Some, Result, Ok, Err, map}
+use Rattle.std.specs.Prelude.{◌≡◌, ℕ, ◌⊎◌, ⊤, List, [], ◌∷◌, Option, None, Some, Result, Ok, Err}
+use Rattle.std.specs.Prelude.{map}
 use Rattle.flow.specs.declared.flows.Flows.{Flows}
 use Rattle.media_file.specs.Records.{Entry}
 use Rattle.recording_engines.specs.Faults.{reading_fault}
@@ -139,7 +140,8 @@ pub record IsGiven {A S : Type 0} (old new : Side A S) : Type 0 where
   pub file : new.file ≡ old.file
   pub unread : new.going ≡ Unread
 
--- by which flows it is read, and what its source had given before its first octet, where it is opened
+-- by which flows it is read, and what its source had given before its first octet, where it is
+-- opened
 abbrev pub begun_at : {A S : Type 0} → ImportFile A S → Option (Option Flows × List ℕ)
 begun_at (Closed s) = None
 begun_at (Open r) = Some (r.flows, r.before.gave)

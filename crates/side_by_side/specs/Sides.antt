@@ -31,8 +31,8 @@ use Rattle.side_by_side.specs.declared.steering.Steering.{Steering}
 abbrev pub standings : {A S : Type 0} → List (Side A S) → List Standing
 standings sides = map standing_of sides
 
--- by which flows each is read, and what its source had given before its first octet; none of one that
--- isn't opened
+-- by which flows each is read, and what its source had given before its first octet; none of one
+-- that isn't opened
 abbrev pub begun_each : {A S : Type 0} → List (Side A S) → List (Option (Option Flows × List ℕ))
 begun_each sides = map (λ s. begun_at s.file) sides
 
@@ -130,8 +130,8 @@ abbrev pub IsStopped : {A S : Type 0} → Option ReadingFault → List (Side A S
 IsStopped None sides = ⊤
 IsStopped (Some f) sides = OneSideAt f sides
 
--- What is so of each: the datagrams that it gave are those of the files' records, each file's in its
--- order, always that of the file that goes first.
+-- What is so of each: the datagrams that it gave are those of the files' records, each file's in
+-- its order, always that of the file that goes first.
 pub record IsSideBySide {A S : Type 0} (s : Sides A S) : Type 0 where
   pub sound : AllSound s.steering s.sides
   pub entries : List Entry
@@ -163,8 +163,8 @@ strands_of [] octets = []
 strands_of (s ∷ ss) [] = []
 strands_of (s ∷ ss) (o ∷ os) = strand_of s.file o ∷ strands_of ss os
 
--- The datagrams that it gave are those of all records of what was read of the files, in the order in
--- which these go.
+-- The datagrams that it gave are those of all records of what was read of the files, in the order
+-- in which these go.
 pub record HasGivenAll {A S : Type 0} (gave : S → List ℕ) (ended : S → Type 0) (s : Sides A S)
     : Type 0 where
   pub entries : List Entry

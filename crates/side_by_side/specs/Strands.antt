@@ -37,8 +37,8 @@ TakesAt zero (s ∷ ss) e (l ∷ ls) =
     (s ≡ record { entries = e ∷ l.entries; fault = l.fault }) × (ls ≡ ss)
 TakesAt (suc place) (s ∷ ss) e (l ∷ ls) = (l ≡ s) × TakesAt place ss e ls
 
--- A record is the one that goes next: the first of the file that goes first, while no file is at its
--- fault. Without it, these are left.
+-- A record is the one that goes next: the first of the file that goes first, while no file is at
+-- its fault. Without it, these are left.
 pub record GoesNext (s : Steering) (strands : List Strand) (e : Entry) (left : List Strand) : Type 0
   where
     pub place : ℕ

@@ -1,5 +1,6 @@
 //! One of the files that are read side by side.
-ghost use Rattle.std.specs.Prelude.{◌≡◌, ◌≤◌, ◌<◌, None, Some, IfErr, IfOk, MatchOption, OnErr, OnOk};
+ghost use Rattle.std.specs.Prelude.{◌≡◌, ◌≤◌, ◌<◌, None, Some, IfErr, IfOk, MatchOption, OnErr};
+ghost use Rattle.std.specs.Prelude.{OnOk};
 ghost use Rattle.std.specs.Prelude.{IfSome, length, take};
 ghost use Rattle.recording_engines.specs.Files.{IsClosed, ended_by, failures_by, gave_by};
 ghost use Rattle.recording_engines.specs.Files.{is_recording_file, next_of, source_of};

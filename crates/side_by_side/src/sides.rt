@@ -4,7 +4,8 @@ ghost use Rattle.std.specs.Prelude.{MatchResult, [], ◌∷◌, length};
 ghost use Rattle.std.specs.List.{AllByRecursion};
 ghost use Rattle.recording_engines.specs.Files.{IsKnown};
 ghost use Rattle.side_by_side.specs.Sides.{AllOver, AllUnfailed, HasGivenAll, IsBegun};
-ghost use Rattle.side_by_side.specs.Sides.{IsSideBySide, begun_each, failures_each, last_fault_of};
+ghost use Rattle.side_by_side.specs.Sides.{IsSideBySide, IsStopped, begun_each, failures_each};
+ghost use Rattle.side_by_side.specs.Sides.{last_fault_of};
 ghost use Rattle.recording_reader.specs.Files.{source_fault};
 ghost use Rattle.recording_engines.specs.Faults.{reading_fault};
 ghost use Rattle.run_outcome.specs.Fault.{Blames, counts};
@@ -99,8 +100,9 @@ impl<A: Allocator, S: ByteSource> SideBySide<A, S> {
         let _failures = &self.failures;
     }
 
-    /// What is known of the octets of each file, by where its reader stands; and where each is at its
-    /// end, that all of its records were given. A caller's proof learns it from here; nothing is done.
+    /// What is known of the octets of each file, by where its reader stands; and where each is at
+    /// its end, that all of its records were given. A caller's proof learns it from here; nothing
+    /// is done.
     #[inline(always)]
     pub fn history(&self)
         ensures known { AllByRecursion (λ s. IsKnown S.gave S.ended s.file) self.now.sides }
@@ -111,7 +113,8 @@ impl<A: Allocator, S: ByteSource> SideBySide<A, S> {
 
     /// The fault of a file at which it stays, if it came to one.
     pub fn fault(&self) -> Option<ReadingFault>
-        ensures { result ≡ self.now.fault }
+        ensures fault { result ≡ self.now.fault }
+        ensures stopped { IsStopped result self.now.sides }
     {
         self.fault
     }
@@ -184,8 +187,8 @@ impl<A: Allocator, S: ByteSource> DatagramSource for SideBySide<A, S> {
         ensures ended { IfOk result (λ t. AllOver self.new.sides ↔ IsEnd t) }
         ensures kept { OnErr result (self.new.came ≡ self.old.came) }
 
-        // What stays, and whose failures they are: a fault of the device comes only where the source
-        // of a file failed in this call.
+        // What stays, and whose failures they are: a fault of the device comes only where the
+        // source of a file failed in this call.
         ensures steering { self.new.steering ≡ self.old.steering }
         ensures begun { begun_each self.new.sides ≡ begun_each self.old.sides }
         ensures fault { IfErr result
