@@ -26,3 +26,4 @@ pub mod Made
 pub mod Complete
 pub mod Handing
 pub mod LostSince
+pub mod Needed

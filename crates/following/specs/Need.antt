@@ -1,7 +1,7 @@
 -- How many frames a follower needs so that no datagram comes late (own).
 use Rattle.std.specs.Prelude.{ℕ, ◌+◌, ◌-◌, ◌==◌, Bool, true, false, if◌then◌else◌, nat_lt, max}
 use Rattle.std.specs.Prelude.{List}
-use Rattle.std.specs.Prelude.{length, drop, Result, Ok, Err}
+use Rattle.std.specs.Prelude.{[], ◌∷◌, length, drop, Result, Ok, Err}
 use Rattle.std.specs.List.{insert}
 use Rattle.path_receiver.specs.declared.answer.Refusal.{Refusal}
 use Rattle.following.specs.declared.answer.Followed.{Followed}
@@ -48,3 +48,13 @@ noted_at n timestamp =
 -- behind the answer to a datagram of a timestamp
 abbrev pub noted_after : Noted → ℕ → Result Followed Refusal → Noted
 noted_after n timestamp answer = if comes_of answer then noted_at n timestamp else n
+
+-- ---- what that says of a stream
+
+abbrev pub none_noted : Noted
+none_noted = record { newest = []; need = 0 }
+
+-- behind timestamps that come, one after the other
+abbrev pub noted_behind : Noted → List ℕ → Noted
+noted_behind n [] = n
+noted_behind n (t ∷ ts) = noted_behind (noted_at n t) ts
