@@ -1,9 +1,10 @@
 -- Frames that leave, one after the other.
 use Rattle.std.proofs.Common.{◌≡◌, ℕ, List, [], ◌∷◌, ◌++◌, Option, refl, sym, ap, subst, ◌∙◌}
-use Rattle.std.proofs.Common.{append_assoc}
-use Rattle.following.specs.Follower.{Following}
-use Rattle.following.specs.Following.{Handed, frames_in}
+use Rattle.std.proofs.Common.{append_assoc, append-nil, drop, take}
+use Rattle.following.specs.Follower.{Following, without_oldest}
+use Rattle.following.specs.Following.{Handed, frames_in, with_timestamps}
 use Rattle.st_format.specs.Picture.{Values}
+use Rattle.st_format.specs.Raster.{Raster}
 use Rattle.follow_engine.specs.Events.{Event, Left, Running, frames_with, late_left, leaving}
 use Rattle.follow_engine.specs.Events.{without}
 use Rattle.follow_engine.specs.Running.{Told}
@@ -83,3 +84,42 @@ left_more takes r r' r'' s s' s'' old mid new took took' took'' hs t left frames
           (leaving (late_left r.late left.gone) hs) left.told
           (subst (λ (n : ℕ). Told takes s' s'' mid new took' took'' (leaving n hs)) late told));
     }
+
+-- ---- one after the other
+
+no_frames : (w : List ℕ) → with_timestamps w [] ≡ []
+no_frames [] = refl
+no_frames (t ∷ w) = refl
+
+oldest_first : (w : List ℕ) (rs : List Raster)
+    → with_timestamps w rs
+    ≡ take 1 (with_timestamps w rs) ++ with_timestamps (drop 1 w) (drop 1 rs)
+oldest_first [] rs = refl
+oldest_first (t ∷ w) [] = sym (no_frames w)
+oldest_first (t ∷ w) (r ∷ rs) = refl
+
+-- the oldest, and those that are in behind it
+pub oldest_parts : (s t : Following) → t ≡ without_oldest s
+    → frames_in s ≡ take 1 (frames_in s) ++ frames_in t
+oldest_parts s t is =
+    oldest_first s.opening.window s.frames
+    ∙ ap (λ (x : Following). take 1 (frames_in s) ++ frames_in x) (sym is)
+
+left_end : (r' : Running) → r'.follower.opening.window ≡ [] → [] ≡ frames_in r'.follower
+left_end r' none = ap (λ (w : List ℕ). with_timestamps w r'.follower.frames) (sym none)
+
+-- all have left when none is in
+pub left_all : {K : Type 0} (takes : K → ℕ → Values → K → Type 0) (r r' : Running)
+    (s s' : Option Settling) (old new : K) (took took' : List ℕ)
+    → (left : HasLeft takes r r' s s' old new took took')
+    → r'.follower.opening.window ≡ []
+    → (r' ≡ without r (frames_in r.follower) r'.follower)
+    × Told takes s s' old new took took' (leaving r.late (frames_in r.follower))
+left_all takes r r' s s' old new took took' left none =
+    let all : left.gone ≡ frames_in r.follower =
+    sym (append-nil left.gone) ∙ ap (λ (l : List Handed). left.gone ++ l) (left_end r' none)
+    ∙ left.parts in (
+      left.running ∙ ap (λ (hs : List Handed). without r hs r'.follower) all,
+      subst (λ (hs : List Handed). Told takes s s' old new took took' (leaving r.late hs)) all
+          left.told,
+    )

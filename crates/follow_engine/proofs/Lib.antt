@@ -2,4 +2,5 @@ pub mod Parts
 pub mod Without
 pub mod Tells
 pub mod Leaving
+pub mod Turns
 pub mod Whole
