@@ -53,6 +53,38 @@ follows 'one address and port' 'frame 900 present 128 missing 0 contested 0 late
 frame 4500 present 128 missing 0 contested 0 late 0
 frames 2 kept 10 late 0 far 0 refused 0' --sdp "$recordings/alike.sdp" "$recordings/alike-a.pcap" "$recordings/alike-b.pcap"
 
+# Timestamps that go back, so that only late datagrams come: for longer than ten seconds of 90 kHz by their timestamps, which is
+# the first packet of the last frame, or exactly so long. And the other way round: too far ahead of the first frame.
+# stamped FIRST LAST: late-a.pcap with other timestamps in the packets of its first frame and its last, as stamped.pcap.
+stamped() {
+    cp "$recordings/late-a.pcap" stamped.pcap
+    for place in 86 224 362 1124 1262; do
+        digits=$1
+        [ "$place" -lt 1000 ] || digits=$2
+        {
+            head -c "$place" stamped.pcap
+            octets "$digits"
+            tail -c +"$((place + 5))" stamped.pcap
+        } >stamped.part
+        mv stamped.part stamped.pcap
+    done
+}
+stamped 001E8804 000DCD35
+follows 'timestamps that begin anew' 'frame 2000900 present 128 missing 0 contested 0 late 6
+anew 904501
+frame 904501 present 32 missing 96 contested 0 late 0
+frames 2 kept 4 late 6 far 0 refused 0
+late wants window 2' --sdp "$recordings/late.sdp" --window 1 stamped.pcap
+stamped 001E8804 000DCD34
+follows 'timestamps that lie ten seconds back' 'frame 2000900 present 128 missing 0 contested 0 late 7
+frames 1 kept 3 late 7 far 0 refused 0
+late wants window 2' --sdp "$recordings/late.sdp" --window 1 stamped.pcap
+stamped FFF00000 000DCD35
+follows 'timestamps too far ahead' 'frame 4293918720 present 128 missing 0 contested 0 late 0
+anew 904501
+frame 904501 present 32 missing 96 contested 0 late 0
+frames 2 kept 4 late 0 far 6 refused 0' --sdp "$recordings/late.sdp" stamped.pcap
+
 # Refusals, in their order: the words, the SDP, the files before their records, and their records. Where a record is at fault
 # the frames are not told that were still in.
 refuses_follow() {
