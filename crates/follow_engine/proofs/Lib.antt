@@ -3,4 +3,5 @@ pub mod Without
 pub mod Tells
 pub mod Leaving
 pub mod Turns
+pub mod Restarted
 pub mod Whole
