@@ -1,5 +1,5 @@
 -- What was read of files that were opened as they are taken.
-use Rattle.std.proofs.Common.{◌≡◌, ℕ, List, [], ◌∷◌, Option, None, Some, Result, refl, sym, ap}
+use Rattle.std.proofs.Common.{◌≡◌, ℕ, List, [], ◌∷◌, Option, Some, Result, refl, sym, ap}
 use Rattle.std.proofs.Common.{subst}
 use Rattle.std.proofs.Common.{◌∙◌, map}
 use Rattle.std.specs.List.{AllZip, zip}

@@ -1,15 +1,15 @@
 -- A stream that isn't followed anew: what leaves it.
-use Rattle.std.proofs.Common.{◌≡◌, ℕ, Bool, true, false, cond, List, [], ◌∷◌, ◌++◌, refl, sym, ap}
-use Rattle.std.proofs.Common.{◌∙◌, append_assoc, append-nil, Option, None, Some, subst}
+use Rattle.std.proofs.Common.{◌≡◌, ℕ, Bool, true, false, cond, List, [], ◌∷◌, ◌++◌, refl, ap}
+use Rattle.std.proofs.Common.{◌∙◌, append-nil}
 use Rattle.std.proofs.lemmas.List.Elements.{filter_map-append}
 use Rattle.following.specs.Follower.{Following}
 use Rattle.following.specs.Following.{Handed, frames_in}
 use Rattle.following.specs.Turned.{answer_in, handed_all, handed_in, handed_while, state_behind}
 use Rattle.following.specs.Turned.{turned}
-use Rattle.follow_engine.specs.Events.{Anew, Event, Left, Running, anew, behind, behind_all}
+use Rattle.follow_engine.specs.Events.{Anew, Event, Running, anew, behind, behind_all}
 use Rattle.follow_engine.specs.Events.{events_at, events_end, events_in, events_of}
 use Rattle.follow_engine.specs.Events.{frames_of_events, handed_by, is_anew, late_with, leaving}
-use Rattle.follow_engine.specs.Events.{running_from, time_of, time_or_zero, turn_left, turn_taken}
+use Rattle.follow_engine.specs.Events.{time_of, time_or_zero, turn_left, turn_taken}
 use Rattle.follow_engine.specs.Plain.{NoneAnew}
 
 pub leaving_frames : (late : ℕ) (hs : List Handed) → frames_of_events (leaving late hs) ≡ hs

@@ -3,7 +3,7 @@ use Rattle.std.specs.Prelude.{◌≡◌, ℕ, ◌⊎◌, ◌<◌, List, [], ◌�
 use Rattle.std.specs.Prelude.{Result}
 use Rattle.std.specs.List.{AllByRecursion}
 use Rattle.flow.specs.declared.flows.Flows.{Flows}
-use Rattle.capture_engines.specs.Files.{HasFileText, fault_by, first_way, flows_in}
+use Rattle.capture_engines.specs.Files.{HasFileText, fault_by, first_way}
 use Rattle.capture_engines.specs.Received.{OneFileIs, StopsFile}
 use Rattle.capture_engines.specs.Taking.{AnnouncesStream}
 use Rattle.media_file.specs.declared.fault.FileFault.TheVariants.{TooManyRecords}

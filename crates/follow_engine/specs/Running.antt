@@ -1,5 +1,5 @@
 -- What the code that follows a stream keeps, and what it tells.
-use Rattle.std.specs.Prelude.{◌≡◌, ℕ, ⊤, List, ◌++◌, Option, None, Some}
+use Rattle.std.specs.Prelude.{◌≡◌, ℕ, List, ◌++◌, Option}
 use Rattle.following.specs.Follower.{IsFollower}
 use Rattle.path_receiver.specs.Opening.{Opening}
 use Rattle.side_by_side.specs.declared.steering.Steering.{Steering}

@@ -1,5 +1,5 @@
 -- What the code that settles frames keeps.
-use Rattle.std.specs.Prelude.{◌≡◌, ℕ, ◌⊎◌, ⊤, Option, None, Some, length}
+use Rattle.std.specs.Prelude.{◌≡◌, ℕ, ⊤, Option, None, Some, length}
 use Rattle.std.specs.List.{AllByRecursion}
 use Rattle.st_format.specs.declared.format.Format.{Format}
 use Rattle.st_format.specs.Picture.{FitsDepth, IsPicture, Values}

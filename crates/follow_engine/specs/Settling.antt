@@ -1,5 +1,5 @@
 -- Frames that are settled one after the other, by a fill or by the picture before (own).
-use Rattle.std.specs.Prelude.{◌≡◌, ℕ, ⊤, Bool, true, false, if◌then◌else◌, List, [], ◌∷◌, map}
+use Rattle.std.specs.Prelude.{◌≡◌, ℕ, Bool, if◌then◌else◌, List, [], ◌∷◌, map}
 use Rattle.std.specs.Prelude.{Option, None, Some, slice_index}
 use Rattle.following.specs.Following.{Handed}
 use Rattle.frame_assembly.specs.Settled.{settled_cell}

@@ -1,8 +1,7 @@
 -- What `follow` prints (own).
-use Rattle.std.specs.Prelude.{ℕ, Bool, true, false, ◌&&◌, if◌then◌else◌, nat_lt, List, [], ◌∷◌}
+use Rattle.std.specs.Prelude.{ℕ, ◌&&◌, if◌then◌else◌, nat_lt, List, [], ◌∷◌}
 use Rattle.std.specs.Prelude.{◌++◌}
 use Rattle.std.specs.List.{flat_map}
-use Rattle.following.specs.declared.tally.FollowTally.{FollowTally}
 use Rattle.frame_assembly.specs.Kinds.{counts_of}
 use Rattle.run_outcome.specs.Line.{line_text}
 use Rattle.run_outcome.specs.declared.line.Line.{Line}

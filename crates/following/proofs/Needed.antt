@@ -1,5 +1,5 @@
 -- How many frames hold a stream of times that come in an order.
-use Rattle.std.proofs.Common.{◌≡◌, ℕ, zero, suc, ◌+◌, ◌-◌, ◌<◌, ◌≤◌, ◌⊎◌, inl, inr, Bool, true, false}
+use Rattle.std.proofs.Common.{◌≡◌, ℕ, suc, ◌+◌, ◌-◌, ◌<◌, ◌≤◌, ◌⊎◌, inl, inr, Bool, true, false}
 use Rattle.std.proofs.Common.{cond, eqb, List, [], ◌∷◌, ◌++◌, length, map, drop, Option, refl, sym, ap}
 use Rattle.std.proofs.Common.{subst, ◌∙◌, arith, append_assoc, append-nil}
 use Rattle.std.specs.Prelude.{nat_lt, max}
@@ -13,11 +13,11 @@ use Rattle.following.specs.Need.{Noted, need_at, newest_after, newest_with, none
 use Rattle.following.specs.Need.{noted_behind}
 use Rattle.following.specs.Serial.{wrapped}
 use Rattle.following.specs.Standing.{is_that, is_there, place_in}
-use Rattle.following.specs.Times.{AreWithin, IsNear, IsOrderly, in_order, newer_than, with_time}
+use Rattle.following.specs.Times.{AreWithin, IsOrderly, in_order, newer_than, with_time}
 use Rattle.following.proofs.Insertions.{AllNear, count_older, insert-map, not_there, place_near, there}
 use Rattle.following.proofs.Ordered.{Rises, few_newer, in_order-more, later, length-with_time}
-use Rattle.following.proofs.Ordered.{order_from, parts_rise, rises_behind, with_time-behind}
-use Rattle.following.proofs.Ordered.{with_time-there}
+use Rattle.following.proofs.Ordered.{order_from, parts_rise, rises_behind, rises_last}
+use Rattle.following.proofs.Ordered.{with_time-behind, with_time-there}
 use Rattle.following.proofs.Rising.{all_member}
 
 -- ---- members
@@ -158,10 +158,6 @@ inside_same : (u : ℕ) (win : List ℕ) → Rises win → IsMember u win
 inside_same u win h m =
     ap (λ (o : Option ℕ). is_that o (wrapped u)) (there u win h m) ∙ eq-eqb (wrapped u) (wrapped u) refl
 
-rises_right : (gone win : List ℕ) → Rises (gone ++ win) → Rises win
-rises_right [] win h = h
-rises_right (g ∷ gone) win h = rises_right gone win h.1
-
 holds_inside : (before newest : List ℕ) (u : ℕ) → (h : Holds before newest) → AllNear u h.win
     → IsMember u h.win
     → Holds (before ++ u ∷ [])
@@ -176,7 +172,7 @@ holds_inside before newest u h near m =
           in_order-more [] before u ∙ ap (with_time u) h.order
           ∙ with_time-there u (h.gone ++ h.win) rises (member_right u h.gone h.win m);
       noted = ap (λ (b : Bool). cond b w (newest_with w (count_older u h.win) (wrapped u)))
-          (inside_same u h.win (rises_right h.gone h.win rises) m);
+          (inside_same u h.win (rises_last h.gone h.win rises) m);
       few = h.few;
       full = h.full;
     }
@@ -347,7 +343,7 @@ need_inside : (before newest : List ℕ) (u : ℕ) → (h : Holds before newest)
     < need_at (map wrapped h.win) (count_older u h.win) (wrapped u)
 need_inside before newest u h m =
     let rises = rising before h.gone h.win h.order in
-    let right = rises_right h.gone h.win rises in
+    let right = rises_last h.gone h.win rises in
     let w : List ℕ = map wrapped h.win in
     let c : ℕ = count_older u h.win in
     let need : need_at w c (wrapped u) ≡ length h.win - c =

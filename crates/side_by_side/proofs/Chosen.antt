@@ -1,9 +1,9 @@
 -- The one that goes first, and the files that are not chosen.
-use Rattle.std.proofs.Common.{◌≡◌, ℕ, zero, suc, ◌+◌, ◌<◌, Bool, true, false, List, [], ◌∷◌, map}
-use Rattle.std.proofs.Common.{Option, None, Some, refl, sym, ap, subst, ◌∙◌, arith, add-one, cond}
+use Rattle.std.proofs.Common.{◌≡◌, ℕ, ◌+◌, ◌<◌, Bool, true, false, List, [], ◌∷◌}
+use Rattle.std.proofs.Common.{Option, None, Some, refl, sym, ap, subst, arith, add-one, cond}
 use Rattle.std.proofs.Common.{get_or, length}
 use Rattle.std.specs.Prelude.{IfSome, ◌≤◌}
-use Rattle.side_by_side.specs.Going.{first_place, goes, is_later, one_on, sooner}
+use Rattle.side_by_side.specs.Going.{first_place, goes, is_later, one_on}
 use Rattle.side_by_side.specs.declared.going.Going.{Going}
 
 -- the one of a place goes so

@@ -1,6 +1,6 @@
 -- Files that are read on.
 use Rattle.std.proofs.Common.{◌≡◌, ℕ, zero, suc, ◌<◌, Bool, true, false, inl, inr, List, [], ◌∷◌}
-use Rattle.std.proofs.Common.{◌++◌, map, Option, None, Some, Result, Ok, Err, refl, sym, ap, subst}
+use Rattle.std.proofs.Common.{Option, None, Some, Result, Ok, Err, refl, sym, ap, subst}
 use Rattle.std.proofs.Common.{◌∙◌, arith}
 use Rattle.std.proofs.Common.{get_or, set, length, take}
 use Rattle.std.specs.List.{AllByRecursion, sum_by}
@@ -29,13 +29,12 @@ use Rattle.side_by_side.specs.Side.{ahead_of_hand}
 use Rattle.side_by_side.specs.Side.{goings, reader_standing, standing_by, standing_of}
 use Rattle.side_by_side.specs.Sides.{AllRead, AllSound, AllUnfailed, OneSideAt, standings}
 use Rattle.side_by_side.specs.Steering.{stamp_of}
-use Rattle.side_by_side.specs.Steps.{Ahead, AllGoOn, Coming, GoesOn, Over, ReadsMore, Standing}
-use Rattle.side_by_side.specs.Steps.{Unknown}
+use Rattle.side_by_side.specs.Steps.{Ahead, AllGoOn, Coming, GoesOn, Over, ReadsMore}
 use Rattle.side_by_side.specs.declared.going.Going.{Going}
 use Rattle.side_by_side.specs.declared.going.Going.TheVariants.{Unread, AtOnce, By, Never}
 use Rattle.side_by_side.specs.declared.side.Side.{Side}
 use Rattle.side_by_side.specs.declared.steering.Steering.{Steering}
-use Rattle.side_by_side.proofs.Gone.{AllKnownAhead, IsKnownAhead, all_on, all_stay, going_ahead}
+use Rattle.side_by_side.proofs.Gone.{AllKnownAhead, IsKnownAhead, all_stay, going_ahead}
 use Rattle.side_by_side.proofs.Gone.{goings_ahead}
 
 -- ---- one file

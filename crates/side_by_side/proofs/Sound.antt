@@ -1,16 +1,16 @@
 -- A source over files, from one call to the next.
-use Rattle.std.proofs.Common.{◌≡◌, ℕ, List, [], ◌∷◌, ◌++◌, Option, None, Some, refl, sym, ap, ◌∙◌}
-use Rattle.std.proofs.Common.{append-nil, take}
+use Rattle.std.proofs.Common.{◌≡◌, ℕ, List, [], ◌∷◌, ◌++◌, Option, None, refl, sym, ap, ◌∙◌}
+use Rattle.std.proofs.Common.{take}
 use Rattle.std.specs.List.{AllByRecursion}
 use Rattle.media_file.specs.Records.{Entry}
 use Rattle.recording_reader.specs.Files.{datagrams_of}
 use Rattle.recording_reader.specs.declared.fault.ReadingFault.{ReadingFault}
 use Rattle.st_format.specs.declared.path.Path.{Path}
-use Rattle.side_by_side.specs.Sides.{IsBegun, IsSideBySide, IsStopped, Sides, StopsAll, TellsEnd}
+use Rattle.side_by_side.specs.Sides.{IsBegun, IsSideBySide, Sides}
 use Rattle.side_by_side.specs.Sides.{TellsOne, standings}
 use Rattle.side_by_side.specs.declared.side.Side.{Side}
 use Rattle.side_by_side.specs.declared.steering.Steering.{Steering}
-use Rattle.side_by_side.proofs.Gone.{gone_none, gone_on}
+use Rattle.side_by_side.proofs.Gone.{gone_none}
 use Rattle.side_by_side.proofs.Told.{all_fresh, begun_sound}
 
 abbrev pub seen : {A S : Type 0} → Steering → List (Side A S) → List (Path × List ℕ) → ℕ → ℕ

@@ -1,6 +1,6 @@
 -- The datagram of the file that goes first, which is given.
-use Rattle.std.proofs.Common.{◌≡◌, ℕ, zero, suc, ◌<◌, Bool, true, false, inl, inr, List, [], ◌∷◌}
-use Rattle.std.proofs.Common.{◌++◌, map, Option, None, Some, refl, sym, ap, subst, ◌∙◌, arith}
+use Rattle.std.proofs.Common.{◌≡◌, ℕ, zero, suc, ◌<◌, true, false, List, [], ◌∷◌}
+use Rattle.std.proofs.Common.{◌++◌, Option, None, Some, refl, sym, ap, subst, ◌∙◌, arith}
 use Rattle.std.proofs.Common.{get_or, set, length}
 use Rattle.std.specs.List.{AllByRecursion}
 use Rattle.media_file.specs.Records.{Entry}
@@ -14,19 +14,18 @@ use Rattle.side_by_side.specs.Going.{IsReadBy, first_place, going_by, goes, is_l
 use Rattle.side_by_side.specs.Side.{IsGiven, IsSoundSide, ahead_by, ahead_of_hand, goings}
 use Rattle.side_by_side.specs.Side.{standing_by, standing_of}
 use Rattle.side_by_side.specs.Sides.{AllOver, AllRead, AllSound, IsBegun, IsFreshFile, ReadsAll}
-use Rattle.side_by_side.specs.Sides.{TellsEnd, TellsNext, TellsOne, standings}
+use Rattle.side_by_side.specs.Sides.{TellsEnd, TellsNext, standings}
 use Rattle.side_by_side.specs.Steering.{stamp_of}
 use Rattle.side_by_side.specs.Steps.{Ahead, AllFresh, Coming, GivesAt, HasGone, IsFresh, Over}
-use Rattle.side_by_side.specs.Steps.{Standing, Unknown, left_by, whole_by}
+use Rattle.side_by_side.specs.Steps.{Standing, Unknown}
 use Rattle.side_by_side.specs.declared.going.Going.{Going}
 use Rattle.side_by_side.specs.declared.going.Going.TheVariants.{Unread, AtOnce, By, Never}
 use Rattle.side_by_side.specs.declared.side.Side.{Side}
 use Rattle.side_by_side.specs.declared.steering.Steering.{Steering}
 use Rattle.st_format.specs.declared.device.Turn.{Turn}
 use Rattle.st_format.specs.declared.device.Turn.TheVariants.{Datagram, Quiet, End}
-use Rattle.recording_engines.specs.Joining.{Strand}
 use Rattle.side_by_side.proofs.Chosen.{chosen, none_first}
-use Rattle.side_by_side.proofs.Gone.{IsKnownAhead, going_ahead, goings_ahead, gone_more, gone_on}
+use Rattle.side_by_side.proofs.Gone.{going_ahead, gone_more, gone_on}
 use Rattle.side_by_side.proofs.Reading.{IsKnownSide, all_get, all_known, all_set, goings_are}
 use Rattle.side_by_side.proofs.Reading.{known_side, sound_given}
 

@@ -12,12 +12,12 @@ use Rattle.recording_reader.specs.FileReader.{FileReader, IsKnownBy, HasGivenFil
 use Rattle.recording_reader.specs.declared.way.Standing.{Standing as Stand}
 use Rattle.recording_reader.specs.declared.way.Standing.TheVariants.{Reads, Ended, Failed}
 use Rattle.st_format.specs.History.{IsRead}
-use Rattle.side_by_side.specs.Side.{ahead_by, coming_by, reader_standing, standing_by, standing_of}
+use Rattle.side_by_side.specs.Side.{ahead_by, coming_by, reader_standing, standing_by}
 use Rattle.side_by_side.specs.Sides.{AllOver, FileGave, HasGivenAll, IsSideBySide, SideGave, Sides}
 use Rattle.side_by_side.specs.Sides.{standings, strand_of, strands_of}
-use Rattle.side_by_side.specs.Steps.{Ahead, Coming, Over, Unknown, lefts, nothing, whole, whole_by}
+use Rattle.side_by_side.specs.Steps.{Ahead, Over, lefts, nothing, whole, whole_by}
 use Rattle.side_by_side.specs.Steps.{wholes}
-use Rattle.side_by_side.specs.Strands.{Goes, GoesWhole}
+use Rattle.side_by_side.specs.Strands.{Goes}
 use Rattle.side_by_side.specs.declared.going.Going.{Going}
 use Rattle.side_by_side.specs.declared.going.Going.TheVariants.{Unread, AtOnce, By, Never}
 use Rattle.side_by_side.specs.declared.side.Side.{Side}

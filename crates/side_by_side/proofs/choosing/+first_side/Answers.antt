@@ -1,4 +1,4 @@
-use Rattle.std.proofs.Common.{◌∙◌, List, Option, ap, length, map, subst, sym}
+use Rattle.std.proofs.Common.{◌∙◌, List, Option, ap, length, subst, sym}
 use Rattle.std.specs.Prelude.{IfSome, ◌+◌, ◌≤◌, ℕ}
 use Rattle.std.proofs.lemmas.List.{length-map}
 use Rattle.side_by_side.specs.Going.{first_place, sooner}

@@ -1,7 +1,6 @@
 -- (the names of these goals are not looked at yet)
 use Rattle.std.proofs.Common.{◌∙◌, sym}
-use Rattle.side_by_side.proofs.Told.{told_end, told_first, within_first}
-use Rattle.side_by_side.specs.Side.{goings}
+use Rattle.side_by_side.proofs.Told.{told_end, told_first}
 use Rattle.side_by_side.proofs.giving.tell_next.Goals as goal
 
 pub returns-in-Some-clause-told : goal.returns-in-Some-clause-told
