@@ -1,5 +1,5 @@
 //! A stream that is followed.
-ghost use Rattle.std.specs.Prelude.{◌≡◌, ◌≤◌, ◌∷◌, ◌++◌, [], IfErr, IfOk, OnOk};
+ghost use Rattle.std.specs.Prelude.{◌≡◌, ◌≤◌, ◌∷◌, ◌++◌, [], IfErr, IfOk, IsErrOf, OnOk};
 ghost use Rattle.follow_engine.specs.Events.{Anew, IsAnewAt, anew, anew_with, behind, events_at};
 ghost use Rattle.follow_engine.specs.Events.{late_with, leaving, noted_by, running_from, time_of};
 ghost use Rattle.follow_engine.specs.Events.{without};
@@ -69,7 +69,7 @@ impl<A: Allocator + Copy> Run<A> {
           ssrc = ssrc;
           window = [];
         }) size 900000)) }
-        ensures size { result ≡ Err FollowFault.BadSize → IsWindowSize size → ⊥ }
+        ensures size { IsErrOf result FollowFault.BadSize → IsWindowSize size → ⊥ }
     {
         let follower = Follower::open(alloc, format, payload_type, ssrc, size, TEN_SECONDS)?;
         let frame = Frame::new(alloc, format)?;
