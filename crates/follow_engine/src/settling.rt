@@ -79,7 +79,8 @@ impl<A: Allocator + Copy> Settler<A> {
         requires settler { IsSettlerOf frame.now.format self.old }
         ensures settler { OnOk result (IsSettlerOf frame.now.format self.new) }
         ensures settling { OnOk result (settling_of self.new
-            ≡ settling_behind (settling_of self.old) (settled_with (settling_of self.old) frame.now)) }
+            ≡ settling_behind (settling_of self.old)
+            (settled_with (settling_of self.old) frame.now)) }
         ensures shown { OnOk result (P.takes pictures.old timestamp
             (settled_with (settling_of self.old) frame.now) pictures.new) }
         ensures unrefused { IfErr result (λ f. IfRefused f ⊥) }

@@ -16,8 +16,8 @@
 //! - What is handed out rises, whatever comes: `rising`.
 //! - Which window holds a stream of which datagrams came late: `needed_window`.
 //! - Since when only late datagrams came, where a stream is to be followed anew: `lost_since`.
-ghost use Rattle.std.specs.Prelude.{◌≡◌, ◌↔◌, ◌⊎◌, ◌++◌, ◌^◌, ◌<◌, ◌≤◌, ℕ, Bool, IsTrue, List, None};
-ghost use Rattle.std.specs.Prelude.{Some};
+ghost use Rattle.std.specs.Prelude.{◌≡◌, ◌↔◌, ◌⊎◌, ◌++◌, ◌^◌, ◌<◌, ◌≤◌, ℕ, Bool, IsTrue, List};
+ghost use Rattle.std.specs.Prelude.{None, Some};
 ghost use Rattle.std.specs.Prelude.{false, map};
 ghost use Rattle.st_format.specs.declared.cell.Cell.TheVariants.{Contested};
 ghost use Rattle.st_format.specs.Position.{IsPosition, Position};
@@ -217,9 +217,9 @@ pub fn lost_since()
         AreLostSince told since }
 {}
 
-/// Where all that came of a stream is noted, each near the newest before it and none too far ahead, a
-/// follower of as many frames as [`WindowNeed`](crate::WindowNeed) says, or more, would have had none
-/// come too late: times in such an order are all handed out, by `whole_stream`.
+/// Where all that came of a stream is noted, each near the newest before it and none too far
+/// ahead, a follower of as many frames as [`WindowNeed`](crate::WindowNeed) says, or more, would
+/// have had none come too late: times in such an order are all handed out, by `whole_stream`.
 pub fn needed_window()
     ensures { (size ahead : ℕ) (times : List ℕ) →
         AreNearby 16 times → AreWithin ahead times → size ≤ 16 →

@@ -52,8 +52,8 @@ pub enum Line {
     Left(u32, Counts, u64),
     /// The stream is followed anew from this timestamp on.
     Anew(u32),
-    /// How many frames left a stream that was followed, and how many datagrams were kept, came late,
-    /// were too far ahead, and were refused.
+    /// How many frames left a stream that was followed, and how many datagrams were kept, came
+    /// late, were too far ahead, and were refused.
     Totals(u64, u64, u64, u64, u64),
     /// The window of so many frames would have held the datagrams that came late.
     Wants(u64),
