@@ -34,7 +34,7 @@ use Rattle.script_engines.specs.Rehearsed.{PlaysSaid, scene_by}
 abbrev IsUncontested : Raster → Type 0
 IsUncontested r = (counts_of r).contested ≡ 0
 
-none_counted : (kind : Position → Bool) (ps : List Position) → ((p : Position) → kind p ≡ false)
+pub none_counted : (kind : Position → Bool) (ps : List Position) → ((p : Position) → kind p ≡ false)
     → count_by kind ps ≡ 0
 none_counted kind [] none = refl
 none_counted kind (p ∷ ps) none =
@@ -42,7 +42,7 @@ none_counted kind (p ∷ ps) none =
     ∙ ap (λ (b : Bool). cond b 1 0 + count_by kind ps) (none p)
     ∙ ap (λ (n : ℕ). 0 + n) (none_counted kind ps none)
 
-senders_cell : (c : Cell) (s : Sender) (ps : List Values) (ts : ℕ) (at : Position)
+pub senders_cell : (c : Cell) (s : Sender) (ps : List Values) (ts : ℕ) (at : Position)
     → IsSendersCell c s ps ts at → is_contested c ≡ false
 senders_cell Missing s ps ts at is = refl
 senders_cell (Value v) s ps ts at is = refl
