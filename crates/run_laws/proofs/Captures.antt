@@ -1,5 +1,5 @@
 -- What is a capture is read as its records and its text.
-use Rattle.std.proofs.Common.{◌≡◌, ℕ, ◌^◌, ◌<◌, Bool, true, false, cond, List, [], ◌∷◌, ◌++◌}
+use Rattle.std.proofs.Common.{◌≡◌, ℕ, ◌^◌, ◌<◌, Bool, false, cond, List, [], ◌∷◌, ◌++◌}
 use Rattle.std.proofs.Common.{length, Result, Ok, Err, append-nil, refl, sym, ap, ◌∙◌, subst}
 use Rattle.std.proofs.Common.{inl, inr, arith}
 use Rattle.st_format.specs.Device.{AreOctets}
@@ -138,7 +138,7 @@ said text records rest = Ok (content text records, rest)
 -- what is read as a capture of version 01 is one, with no text
 old_capture : (limit : ℕ) (octets : List ℕ) (records : List Entry) → AreOctets octets
     → old_at limit octets ≡ these records → IsCapture octets (content [] records)
-unfolding old_at, front_at, capture_walk
+unfolding old_at front_at capture_walk
 old_capture limit octets records bytes e =
     let a = bind_ok (kind_at capture_name octets) (λ x. old_by x.0 limit x.1) (records, []) e in
     let b = old_version a.0.0 limit a.0.1 records a.2 in

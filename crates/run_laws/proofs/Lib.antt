@@ -11,4 +11,4 @@ pub mod Uncontested
 pub mod Captures
 pub mod SentAgain
 pub mod Looped
-pub mod Unrefused
+pub mod NoRefusals

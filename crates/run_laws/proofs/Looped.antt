@@ -1,6 +1,6 @@
 -- Through a link that makes no datagram each sample is the picture's or missing.
-use Rattle.std.proofs.Common.{◌≡◌, ℕ, ◌+◌, ◌*◌, ◌/◌, ◌%◌, ◌^◌, ◌<◌, ◌≤◌, List, [], ◌∷◌, ◌++◌, map}
-use Rattle.std.proofs.Common.{length, Option, Some, append-nil, refl, sym, ap, ◌∙◌, subst, arith}
+use Rattle.std.proofs.Common.{◌≡◌, ℕ, ◌+◌, ◌*◌, ◌/◌, ◌%◌, ◌^◌, List, [], ◌∷◌, map}
+use Rattle.std.proofs.Common.{Option, append-nil, refl, sym, ap, ◌∙◌, subst, arith}
 use native.Mathlib.Nat.{zero-div}
 use Rattle.st_format.specs.declared.cell.Cell.{Cell}
 use Rattle.st_format.specs.declared.format.Format.{Format}
@@ -14,7 +14,7 @@ use Rattle.packet_plan.specs.Sender.{IsSenderList, Sender}
 use Rattle.packet_plan.specs.Sent.{IsSentPicture}
 use Rattle.packet_plan.specs.Text.{IsStamp, datagram_texts}
 use Rattle.packet_plan.proofs.Texts.{picture_sent}
-use Rattle.path_receiver.specs.Frames.{State, cell_if, cell_in}
+use Rattle.path_receiver.specs.Frames.{cell_if, cell_in}
 use Rattle.path_receiver.specs.Opening.{Opening}
 use Rattle.path_receiver.specs.Sender.{IsSendersCell}
 use Rattle.path_receiver.specs.TookSent.{TookOfSender}
@@ -51,13 +51,13 @@ module _ (max limit : ℕ) (told : List ℕ → Type 0) (before after : Link) (o
     (run : Loops max limit told before after old new) (is : IsPicture run.picture)
     (only : BringsOnly run.picture run.packets run.came.arrivals)
   where
-    p : Values
+    abbrev p : Values
     p = run.picture
 
-    s : Sender
+    abbrev s : Sender
     s = loop_sender p
 
-    texts : List (List ℕ)
+    abbrev texts : List (List ℕ)
     texts = datagram_texts p loop_stamp 0 run.packets
 
     sent : IsSentPicture texts p (stamp_at (timestamp_of p.format 0 0)) max run.packets

@@ -71,10 +71,10 @@ module _ (wanted : Sending) (text : List ℕ) (format : Format) (pictures : List
     (sent : IsSentFile wanted text format pictures capture)
     (received : IsReceivedFile window source said datagrams file)
   where
-    r : State
+    abbrev r : State
     r = received.receiver
 
-    s : Sender
+    abbrev s : Sender
     s = run_sender format wanted
 
     took : AreAmong datagrams sent.datagrams → format ≡ r.opening.format
@@ -93,6 +93,7 @@ module _ (wanted : Sending) (text : List ℕ) (format : Format) (pictures : List
         → Awaits r s pictures k p
         → frame_at r.opening.window r.frames (timestamp_of format wanted.base k)
         ≡ Some (picture_raster p)
+    unfolding took
     pictures_received k p same awaits =
         all_of_sender r s pictures k p (took same.back awaits.opened.format) awaits same.forth
 
@@ -107,7 +108,7 @@ module _ (text : List ℕ) (job : Job) (pictures : List Values) (size : ℕ) (st
     (file : List ℕ) (sent : TakesSaid text job pictures size stamp old new count)
     (received : IsReceivedFile window source said datagrams file)
   where
-    q : State
+    abbrev q : State
     q = received.receiver
 
     pub job_received : SameDatagrams sent.datagrams datagrams

@@ -1,6 +1,6 @@
 -- In a rehearsal no sample is contested.
-use Rattle.std.proofs.Common.{◌≡◌, ℕ, zero, suc, ◌+◌, Bool, true, false, cond, List, [], ◌∷◌, Some}
-use Rattle.std.proofs.Common.{refl, sym, ap, ◌∙◌, subst, arith, inl, inr, length}
+use Rattle.std.proofs.Common.{◌≡◌, ℕ, suc, ◌+◌, Bool, false, cond, List, [], ◌∷◌, Some}
+use Rattle.std.proofs.Common.{refl, sym, ap, ◌∙◌, subst, inl, inr}
 use Rattle.std.specs.Prelude.{count_by, slice_get}
 use Rattle.std.specs.List.{AllZip, flat_map}
 use Rattle.std.proofs.lemmas.List.Sums.{sum_by-cons}
@@ -10,9 +10,9 @@ use Rattle.st_format.specs.Cell.{is_contested}
 use Rattle.st_format.specs.Member.{IsMember}
 use Rattle.st_format.specs.Picture.{Values}
 use Rattle.st_format.specs.Position.{Position, places}
-use Rattle.st_format.specs.Raster.{IsWhole, Raster, cell_at, raster_of}
+use Rattle.st_format.specs.Raster.{IsWhole, Raster, cell_at}
 use Rattle.st_format.proofs.Rasters.{length-cells_of}
-use Rattle.frame_assembly.specs.Kinds.{counts_of, positions_of}
+use Rattle.frame_assembly.specs.Kinds.{counts_of}
 use Rattle.frame_assembly.proofs.Positions.{counts_of_positions}
 use Rattle.packet_plan.specs.Sender.{Sender}
 use Rattle.path_receiver.specs.Frames.{State}

@@ -1,4 +1,4 @@
-use Rattle.run_laws.proofs.Unrefused.{loop_refuses_none}
+use Rattle.run_laws.proofs.NoRefusals.{loop_refuses_none}
 use Rattle.run_laws.proofs.unrefused.loop_unrefused.Goals as goal
 
 pub returns : goal.returns

@@ -1,4 +1,4 @@
-use Rattle.run_laws.proofs.Unrefused.{merge_refuses_none}
+use Rattle.run_laws.proofs.NoRefusals.{merge_refuses_none}
 use Rattle.run_laws.proofs.unrefused.merge_unrefused.Goals as goal
 
 pub returns : goal.returns

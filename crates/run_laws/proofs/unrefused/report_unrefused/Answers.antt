@@ -1,4 +1,4 @@
-use Rattle.run_laws.proofs.Unrefused.{report_not}
+use Rattle.run_laws.proofs.NoRefusals.{report_not}
 use Rattle.run_laws.proofs.unrefused.report_unrefused.Goals as goal
 
 pub returns : goal.returns

@@ -1,5 +1,5 @@
 -- Against what a run read that ended well no refusal speaks.
-use Rattle.std.proofs.Common.{◌≡◌, ℕ, zero, suc, ◌+◌, ◌<◌, ◌≤◌, List, [], ◌∷◌, ◌++◌, length}
+use Rattle.std.proofs.Common.{◌≡◌, ℕ, zero, suc, ◌+◌, List, [], ◌∷◌, ◌++◌}
 use Rattle.std.proofs.Common.{Result, Ok, Err, inl, inr, refl, sym, ap, ◌∙◌, subst, arith}
 use Rattle.st_format.specs.Device.{AreOctets}
 use Rattle.st_format.specs.Member.{IsMember}
@@ -7,12 +7,12 @@ use Rattle.st_format.specs.Picture.{Values}
 use Rattle.st_format.specs.declared.format.Format.{Format}
 use Rattle.st_format.proofs.SameFields.{same_format}
 use Rattle.media_file.specs.PictureFaults.{IsPictureFault}
-use Rattle.media_file.specs.PictureFile.{IsPictureFile, Shown, picture_text, picture_walk, shown_of}
-use Rattle.media_file.specs.StateFile.{Kept, state_text}
+use Rattle.media_file.specs.PictureFile.{IsPictureFile, Shown, picture_walk, shown_of}
+use Rattle.media_file.specs.StateFile.{Kept}
 use Rattle.media_file.specs.declared.fault.FileFault.{FileFault}
 use Rattle.media_file.proofs.PictureFaults.{picture_tells}
 use Rattle.media_file.proofs.Seen.{picture_again, picture_once}
-use Rattle.packet_plan.specs.Plan.{IsSize, group_octets}
+use Rattle.packet_plan.specs.Plan.{IsSize}
 use Rattle.packet_plan.specs.declared.plan.PlanFault.{PlanFault}
 use Rattle.packet_plan.specs.declared.plan.PlanFault.TheVariants.{NoMemory, BadPacketSize}
 use Rattle.path_receiver.specs.Frames.{State}
@@ -23,7 +23,7 @@ use Rattle.receiver_file.proofs.Again.{state_again}
 use Rattle.receiver_file.proofs.Savable.{writable_saved}
 use Rattle.receiver_file.proofs.StateFaults.{state_tells}
 use Rattle.run_outcome.specs.Moments.{WasRead}
-use Rattle.run_outcome.specs.Pictures.{IsPlanFault, SaysPicture}
+use Rattle.run_outcome.specs.Pictures.{IsPlanFault}
 use Rattle.run_outcome.specs.declared.refusal.Refusal.{Refusal}
 use Rattle.run_outcome.specs.declared.refusal.Refusal.TheVariants as why
 use Rattle.capture_engines.specs.Looped.{IsLoopRefusal}
