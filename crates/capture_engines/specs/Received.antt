@@ -95,8 +95,8 @@ IsCaptureRefusal told (refusal.Capture f) =
     (octets : List ℕ) → told octets → HasCaptureFault octets f
 IsCaptureRefusal told r = ⊥
 
--- a file that is taken so is a capture: it begins as no recording, or is taken as a capture whatever
--- it begins with
+-- a file that is taken so is a capture: it begins as no recording, or is taken as a capture
+-- whatever it begins with
 abbrev pub IsCaptureBy : Way → List ℕ → Type 0
 IsCaptureBy way.Capture octets = ⊤
 IsCaptureBy w octets = is_recording octets ≡ false
@@ -155,7 +155,8 @@ abbrev pub FirstFileRefuses : {S : Type 0} → List ℕ → List (Result Flows R
 FirstFileRefuses window ways f [] r = r ≡ refusal.ReceiveNoSdp
 FirstFileRefuses window ways f (s ∷ ss) r = IsFileOpenedRefusal window (first_way ways) (f s) r
 
--- The refusals of files: what stops one; and of opening by the first, where no receiver is open yet.
+-- The refusals of files: what stops one; and of opening by the first, where no receiver is open
+-- yet.
 abbrev pub IsFilesRefusal : {S X : Type 0} → List ℕ → Option X → List (Result Flows Refusal)
     → (S → List ℕ → Type 0) → List S → Refusal → Type 0
 IsFilesRefusal window begun ways f files r = OneFileIs (λ w s. StopsFile w (f s) r) ways files

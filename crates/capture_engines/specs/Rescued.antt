@@ -29,9 +29,9 @@ pub record Front : Type 0 where
   pub text : List ℕ
   pub datagrams : List (List ℕ)
 
--- Of a file that ended by a fault this was taken: its text, and the first of its datagrams, whatever
--- is behind what was read of it. They are all that this has, but where the device of a recording
--- failed.
+-- Of a file that ended by a fault this was taken: its text, and the first of its datagrams,
+-- whatever is behind what was read of it. They are all that this has, but where the device of a
+-- recording failed.
 pub record IsFrontOf {S : Type 0} (w : Way) (gave : S → List ℕ) (ended : S → Type 0) (f : Fault)
     (s : S × S) (p : Front) : Type 0 where
   pub text : (octets : List ℕ) → WasRead gave ended s octets → text_of_file octets ≡ p.text

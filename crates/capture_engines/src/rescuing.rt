@@ -40,9 +40,9 @@ pub(crate) enum Rescue<A: Allocator> {
 
 /// Takes the datagrams of files into one receiver, as [`crate::receive`] does, by the SDP text
 /// `sdp`, where one is given. A file that begins as a recording of another tool is taken by the
-/// flows of its place in `ways`, or refused so; a file of which they say nothing is a capture. Where
-/// `is_sound`, what came before a file's fault is printed and saved too, and no file behind that one
-/// is read.
+/// flows of its place in `ways`, or refused so; a file of which they say nothing is a capture.
+/// Where `is_sound`, what came before a file's fault is printed and saved too, and no file behind
+/// that one is read.
 ///
 /// What was seen of each file that was opened is noted at its place in `seen`, where there is one.
 /// What a receiver was given is answered by `reception` once the receiver is written: where the run

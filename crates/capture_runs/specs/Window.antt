@@ -53,8 +53,8 @@ pub record IsWordRefusal (window source : List ℕ) (r : Refusal) : Type 0 where
   pub is : words.IsWordRefusal window source r
   pub other : r ≡ ReceiveWindow → (count : ℕ) → AsksFirst window count → ⊥
 
--- The refusals where the first timestamps are looked for, of what was read of files from their fronts
--- on, each taken so.
+-- The refusals where the first timestamps are looked for, of what was read of files from their
+-- fronts on, each taken so.
 pub record IsLookedRefusal (window source : List ℕ) (sdp : Option (List ℕ))
     (ways : List (Result Flows Refusal)) (looked : List Replayed) (r : Refusal) : Type 0 where
   pub count : ℕ

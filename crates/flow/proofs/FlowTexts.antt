@@ -1,5 +1,5 @@
--- A text spells one flow at most, whose parts are found before and behind its last @, its last > and
--- its last colon.
+-- A text spells one flow at most, whose parts are found before and behind its last @, its last >
+-- and its last colon.
 use Rattle.std.proofs.Common.{◌≡◌, ℕ, ◌<◌, ◌≤◌, ◌^◌, Bool, true, false, cond, ◌&&◌, List}
 use Rattle.std.proofs.Common.{[], ◌∷◌, ◌++◌, length, get_or, Option, Some, None, All, refl, sym, ap}
 use Rattle.std.proofs.Common.{drop, zero, suc, inl, inr, ◌∙◌, subst, arith, append_assoc, codes, decimal}

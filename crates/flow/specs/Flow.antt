@@ -1,5 +1,5 @@
--- Flows: where the datagrams of a path are sent to, where they come from (RFC 768, destination port;
--- RFC 791, 3.1, and RFC 8200, 3, destination and source address), and where they are taken.
+-- Flows: where the datagrams of a path are sent to, where they come from (RFC 768, destination
+-- port; RFC 791, 3.1, and RFC 8200, 3, destination and source address), and where they are taken.
 use Rattle.std.specs.Prelude.{◌≡◌, ◌<◌, ◌^◌, ℕ, Bool, true, false, ◌&&◌, ◌==◌, if◌then◌else◌, List}
 use Rattle.std.specs.Prelude.{Option}
 use Rattle.std.specs.Prelude.{Some, None, IfSome, bytes_eq}
@@ -13,8 +13,8 @@ use Rattle.st_format.specs.declared.path.Path.TheVariants.{A, B}
 use Rattle.flow.specs.declared.flows.Flow.{Flow}
 use Rattle.flow.specs.declared.flows.Flows.{Flows}
 
--- what the types keep of a flow: a name that has a text, addresses of their length, and a port of 16
--- bits
+-- what the types keep of a flow: a name that has a text, addresses of their length, and a port of
+-- 16 bits
 abbrev pub IsFlow : Flow → Type 0
 IsFlow f =
     IfSome f.interface IsInterfaceName

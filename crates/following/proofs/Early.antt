@@ -545,8 +545,8 @@ goes o size ahead some (Takes y ∷ acts) xs timed nearby =
 goes o size ahead some (Hands ∷ acts) xs timed nearby =
     step_early o size ahead xs acts (goes o size ahead some acts xs timed nearby)
 
--- Where no datagram was late, what was handed out, early or as it was due, is the frame of each time,
--- in rising order, of all datagrams of that time.
+-- Where no datagram was late, what was handed out, early or as it was due, is the frame of each
+-- time, in rising order, of all datagrams of that time.
 pub none_lost : (o : Opening) (size ahead : ℕ) (acts : List Act) → 0 < size
     → AreTimed o (taken_of acts) → AreNearby size (times_of o (taken_of acts))
     → NoneLost (opened o size ahead) acts

@@ -274,8 +274,8 @@ since_read s octets (Err e) ts ds is read came m =
 since_read s octets (Ok d) ts ds is read came m =
     since_at s octets d (standing_of s d.timestamp) ts ds is read refl came m
 
--- After a datagram the frame of a timestamp that is in is that of what came since it came in, and of
--- this one.
+-- After a datagram the frame of a timestamp that is in is that of what came since it came in, and
+-- of this one.
 pub since_more : (s t : Following) (octets : List ℕ) → IsFollower s → t ≡ state_after s octets
     → (ts : ℕ) (ds : List (List ℕ)) → CameSince s ts ds → IsMember ts t.opening.window
     → CameSince t ts (ds ++ octets ∷ [])

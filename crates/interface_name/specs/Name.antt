@@ -1,4 +1,5 @@
--- Names of interfaces: 1 to 64 characters of ASCII that print, besides space, > and @ (own; RFC 20).
+-- Names of interfaces: 1 to 64 characters of ASCII that print, besides space, > and @ (own; RFC
+-- 20).
 use Rattle.std.specs.Prelude.{◌≡◌, ◌≤◌, ℕ, ◌-◌, Bool, ◌&&◌, not, nat_le, true, ◌==◌, if◌then◌else◌}
 use Rattle.std.specs.Prelude.{List, [], ◌∷◌, ◌++◌, length, replicate, Option, Some, None}
 use Rattle.std.specs.List.{flat_map, list_all}

@@ -1,5 +1,5 @@
-//! Laws over the definitions alone: those of receivers, passed on, and those of schedules. Each is the
-//! contract of a function that does nothing.
+//! Laws over the definitions alone: those of receivers, passed on, and those of schedules. Each is
+//! the contract of a function that does nothing.
 mod schedules;
 
 pub use path_receiver::laws::{

@@ -1,5 +1,5 @@
-//! The merge of two redundant paths (SMPTE ST 2022-7): receivers, passed on from below, and schedules
-//! of receivers, played before they happen.
+//! The merge of two redundant paths (SMPTE ST 2022-7): receivers, passed on from below, and
+//! schedules of receivers, played before they happen.
 #![tactic(auto)]
 
 pub mod laws;

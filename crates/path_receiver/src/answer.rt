@@ -20,8 +20,8 @@ pub enum Taken {
 /// How many refusals there are.
 pub const REFUSAL_COUNT: usize = 14;
 
-/// Why a datagram was refused: the first reason, in this order. A number is part of texts and files:
-/// a new refusal comes last.
+/// Why a datagram was refused: the first reason, in this order. A number is part of texts and
+/// files: a new refusal comes last.
 #[derive(Clone, Copy, Debug, PartialEq, Eq, Error)]
 pub enum Refusal {
     /// 1 to 4: the RTP header is at fault (RFC 3550, 5.1).

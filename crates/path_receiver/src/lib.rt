@@ -1,6 +1,6 @@
 //! A receiver of one stream of datagrams by two redundant paths (SMPTE ST 2022-7): it holds the
-//! cells of all offers that it took, whatever their order, their paths and their repeats. The map of
-//! the packet numbers that came is passed on from below.
+//! cells of all offers that it took, whatever their order, their paths and their repeats. The map
+//! of the packet numbers that came is passed on from below.
 #![tactic(auto)]
 
 mod admitting;

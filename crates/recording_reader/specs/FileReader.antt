@@ -80,8 +80,8 @@ HasGivenRecords gave ended r = (octets : List ℕ)
     → IsRead r.before.gave (gave r.source) (ended r.source) octets
     → HasFirstRecords r.text r.records octets
 
--- Just what was given is known where a reader stands: but where its source failed within a packet of
--- a recording, of which it isn't said that the octets so far have no other record.
+-- Just what was given is known where a reader stands: but where its source failed within a packet
+-- of a recording, of which it isn't said that the octets so far have no other record.
 abbrev pub IsExact : Standing → Type 0
 IsExact Reads = ⊤
 IsExact Ended = ⊤
@@ -152,8 +152,8 @@ TellsNext (Datagram path count) buf old new = TellsOne path count buf old new
 TellsNext Quiet buf old new = ⊥
 TellsNext End buf old new = FindsNone old new
 
--- The datagram at hand was told, whose octets stand at the front of a buffer, or the end where there
--- is none.
+-- The datagram at hand was told, whose octets stand at the front of a buffer, or the end where
+-- there is none.
 abbrev pub TellsTurn : Option Entry → Turn → List ℕ → Type 0
 TellsTurn None End buf = ⊤
 TellsTurn (Some e) (Datagram path count) buf =

@@ -161,8 +161,8 @@ fn streams_of_a_capture(rt: HostRuntime) -> Result<(), Fail> {
     Ok(())
 }
 
-/// The paths one after the other, a capture each: B's numbers are those of A, however far A has come
-/// meanwhile. By A 65534 and 200000 came, by B 65534.
+/// The paths one after the other, a capture each: B's numbers are those of A, however far A has
+/// come meanwhile. By A 65534 and 200000 came, by B 65534.
 const AFTER: &[u8] = b"\
 {\"kind\":\"path\",\"payload_type\":96,\"ssrc\":7,\"path\":\"A\",\"datagrams\":2,\"lowest\":65534,\
 \"highest\":200000,\"lost\":134465,\"repeated\":0,\"late\":0}

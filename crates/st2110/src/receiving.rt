@@ -16,9 +16,9 @@ const NAMED: usize = 3;
 
 /// Takes the datagrams of captures and recordings into one receiver, and answers the exit status.
 /// Where none was kept, or more came to nothing than were kept, one line more says so and why; else
-/// packets that were left out are told by the reason where that is asked for. Where a flow was asked
-/// for of which no datagram came, standard error is told the flows that the recordings have. That
-/// this may fail changes nothing.
+/// packets that were left out are told by the reason where that is asked for. Where a flow was
+/// asked for of which no datagram came, standard error is told the flows that the recordings have.
+/// That this may fail changes nothing.
 pub fn receive(rt: &HostRuntime, words: &ReceiveWords<'_>, explains: bool, is_verbose: bool) -> u8 {
     let ended = run_command(rt, explains, ReceiveCommand::new(rt, words));
     let files = &ended.command.files;

@@ -23,8 +23,8 @@ abbrev pub FirstAnnounces : List (List ℕ) → Target → Type 0
 FirstAnnounces [] t = ⊥
 FirstAnnounces (octets ∷ files) t = Announces (text_of_file octets) t
 
--- By what a stream is looked for: by what is given; by what the SDP text says that is given; or else
--- by what that of the first file says.
+-- By what a stream is looked for: by what is given; by what the SDP text says that is given; or
+-- else by what that of the first file says.
 abbrev pub IsTarget : Wanted → Option (List ℕ) → List (List ℕ) → Target → Type 0
 IsTarget (Given u) sdp files t = t ≡ u
 IsTarget Said None files t = FirstAnnounces files t

@@ -60,8 +60,8 @@ abbrev pub packet_by : Target → Path → Result Rtp RtpFault → Option Packet
 packet_by t path (Ok rtp) = Some (packet_of t path rtp)
 packet_by t path (Err fault) = None
 
--- what a receiver of the format and the payload type, whatever the source and the timestamp, answers
--- to a datagram (own)
+-- what a receiver of the format and the payload type, whatever the source and the timestamp,
+-- answers to a datagram (own)
 abbrev pub answer_at : Target → List ℕ → Result Taken Refusal
 answer_at t octets =
     datagram_walk t.format t.payload_type None octets >>= λ d. Ok (Kept d.number)

@@ -13,8 +13,8 @@ use Rattle.stream_inspection.specs.declared.rows.SkewRow.{SkewRow}
 use Rattle.stream_inspection.specs.declared.rows.TimestampRow.{TimestampRow}
 use Rattle.stream_inspection.specs.declared.rows.TogetherRow.{TogetherRow}
 
--- members: of a stream; of what came by a path, and what is wrong there; of what never came; of what
--- came of a timestamp; of a refusal
+-- members: of a stream; of what came by a path, and what is wrong there; of what never came; of
+-- what came of a timestamp; of a refusal
 abbrev pub key_json : StreamKey → List ℕ
 key_json k =
     codes "\"payload_type\":" ++ (decimal k.payload_type

@@ -69,8 +69,8 @@ pub record HasRecords (w : Way) (octets : List ℕ) (records : List Entry)
   pub has_text : HasFileText w octets text
   pub ends : EndsBy (flows_in w) octets records end
 
--- Files, each taken so, have these records, one file's behind the other's: each all that it has, and
--- the last as many as it has up to this end.
+-- Files, each taken so, have these records, one file's behind the other's: each all that it has,
+-- and the last as many as it has up to this end.
 abbrev pub HaveRecords : List (Result Flows Refusal) → List (List ℕ) → List Entry
     → Option ReadingFault → Type 0
 HaveRecords ways [] records end = (records ≡ []) × (end ≡ None)

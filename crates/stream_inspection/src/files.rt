@@ -24,15 +24,15 @@ use run_outcome::{Fault, Refusal};
 use st_format::ByteSource;
 use std::alloc::Allocator;
 
-/// Notes files, each taken as `ways` say, one after the other, up to the end of the last or the first
-/// fault behind a file's front, which is answered; no file behind it is read. Where no target was
-/// begun with, the text of the first file says it. What was seen of them is noted in `seen`. `said`
-/// is room for a text.
+/// Notes files, each taken as `ways` say, one after the other, up to the end of the last or the
+/// first fault behind a file's front, which is answered; no file behind it is read. Where no target
+/// was begun with, the text of the first file says it. What was seen of them is noted in `seen`.
+/// `said` is room for a text.
 ///
 /// # Errors
 ///
-/// A refusal where a file's front is at fault, a recording is not taken, or the first file's text is
-/// refused; and else that a front's source failed or memory was wanted.
+/// A refusal where a file's front is at fault, a recording is not taken, or the first file's text
+/// is refused; and else that a front's source failed or memory was wanted.
 pub(crate) fn note_files<A: Allocator + Copy, S: ByteSource>(
     alloc: A,
     begun: &mut Option<Target>,

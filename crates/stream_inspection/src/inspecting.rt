@@ -22,9 +22,9 @@ use std::alloc::Allocator;
 
 /// Prints what came of the streams of files, as they came, whether or not they are of the wanted
 /// format: of each stream, in the order in which they first came, what came of it by each path and
-/// what both lost; of each timestamp of the wanted payload type how many datagrams came; the skew of
-/// the paths; how many datagrams a receiver of the format refuses, by the reason; and last a window
-/// of the first timestamps, at most sixteen.
+/// what both lost; of each timestamp of the wanted payload type how many datagrams came; the skew
+/// of the paths; how many datagrams a receiver of the format refuses, by the reason; and last a
+/// window of the first timestamps, at most sixteen.
 ///
 /// The skew of a timestamp is that of one packet number, the one of the first packet of it that
 /// came: by how much later that number first came by B than by A. The middle is that of the
@@ -33,14 +33,14 @@ use std::alloc::Allocator;
 /// `sdp` is an SDP text, where one is given; it is read only where it says what is wanted. A file
 /// that begins as a recording of another tool is taken by the flows of its place in `ways`, or
 /// refused so; a file of which they say nothing is a capture. Each file is read once, one after the
-/// other, up to the first fault behind a file's front. What was seen of each file that was opened is
-/// noted at its place in `seen`, where there is one.
+/// other, up to the first fault behind a file's front. What was seen of each file that was opened
+/// is noted at its place in `seen`, where there is one.
 ///
 /// # Errors
 ///
 /// The refusal of the SDP text, or of the front of a file, and then nothing is printed. The refusal
-/// of the first file that is at fault behind its front, and then all that came before is printed; no
-/// file behind it is read. Else that a device failed, or that memory was wanted.
+/// of the first file that is at fault behind its front, and then all that came before is printed;
+/// no file behind it is read. Else that a device failed, or that memory was wanted.
 pub fn inspect_streams<A, S, O>(
     alloc: A,
     wanted: Wanted,

@@ -62,8 +62,8 @@ impl<A: Allocator + Copy> Inspection<A> {
         }
     }
 
-    /// Notes one more datagram, by the path by which it came and the moment, in nanoseconds, 0 where
-    /// none is known.
+    /// Notes one more datagram, by the path by which it came and the moment, in nanoseconds, 0
+    /// where none is known.
     ///
     /// # Errors
     ///

@@ -19,8 +19,8 @@ pub(crate) struct Look {
     pub(crate) packet: Option<Packet>,
 }
 
-/// Whether a datagram is one of RTCP: of version 2, and with a packet type from 200 to 204 where RTP
-/// has the marker and the payload type (RFC 5761, 4).
+/// Whether a datagram is one of RTCP: of version 2, and with a packet type from 200 to 204 where
+/// RTP has the marker and the payload type (RFC 5761, 4).
 pub(crate) fn is_control(octets: &[u8]) -> bool
     ensures { result ≡ is_control octets.now }
 {

@@ -30,8 +30,8 @@ pub record IsFirstWindow (count : ℕ) (ssrc : Option ℕ) (said : Option (List 
   pub announced : (text : List ℕ) → said ≡ Some text → AnnouncesType text payload_type
   pub first : window ≡ first_timestamps count payload_type ssrc datagrams
 
--- So it is of what was read of files, each taken so, whatever is behind that: by the SDP text that is
--- given, or, where none is, by that of the first file.
+-- So it is of what was read of files, each taken so, whatever is behind that: by the SDP text that
+-- is given, or, where none is, by that of the first file.
 pub record FindsFirst {S : Type 0} (count : ℕ) (ssrc : Option ℕ) (sdp : Option (List ℕ))
     (ways : List (Result Flows Refusal)) (told : S → List ℕ → Type 0) (files : List S)
     (window : List ℕ) : Type 0 where

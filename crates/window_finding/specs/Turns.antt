@@ -1,4 +1,5 @@
--- The datagrams of a file that are looked at until as many timestamps are found as are sought (own).
+-- The datagrams of a file that are looked at until as many timestamps are found as are sought
+-- (own).
 use Rattle.std.specs.Prelude.{◌≡◌, ℕ, ◌⊎◌}
 use Rattle.capture_engines.specs.Stopping.{IsReadingStop}
 use Rattle.recording_reader.specs.declared.way.Standing.{Standing}
