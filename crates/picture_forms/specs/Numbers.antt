@@ -1,5 +1,6 @@
 -- A number of a pixmap's head, read octet by octet: white space, decimal digits and one octet of
--- white space. A comment may stand anywhere in it, and says nothing (Netpbm, ppm and pbm).
+-- white space. A comment may stand anywhere before that last one, also among the digits, and says
+-- nothing: its end is no white space (Netpbm, pbm and ppm).
 use Rattle.std.specs.Prelude.{◌≡◌, ℕ, zero, suc, ◌+◌, ◌-◌, ◌*◌, ◌<◌, ◌≤◌, ◌==◌, ◌&&◌, ◌||◌}
 use Rattle.std.specs.Prelude.{nat_lt, nat_le, not, if◌then◌else◌, Bool, true, false, List, []}
 use Rattle.std.specs.Prelude.{◌∷◌, ◌++◌, length, ⊤, Option, None, Some, Result, Ok, Err}

@@ -20,7 +20,8 @@ const NUMBER: usize = 1024;
 
 /// Reads the head of a pixmap, and answers the format of its picture at a rate of `n / d` pictures
 /// a second, which a pixmap does not say. A comment, from `#` through the next LF or CR, may stand
-/// anywhere behind `P6`, and says nothing (Netpbm, ppm). No memory is taken.
+/// anywhere behind `P6`, also among the digits of a number or right behind them. It says nothing,
+/// and its end parts no numbers (Netpbm, pbm and ppm). No memory is taken.
 ///
 /// # Errors
 ///

@@ -132,6 +132,7 @@ pub use Rattle.picture_forms.specs.Faults as PictureFormFaults
 pub use Rattle.picture_forms.specs.Frames as FormFrames
 pub use Rattle.picture_forms.specs.Heads as FormHeads
 pub use Rattle.picture_forms.specs.Layouts as FormLayouts
+pub use Rattle.picture_forms.specs.Numbers as FormNumbers
 pub use Rattle.picture_forms.specs.Pixmaps as FormPixmaps
 pub use Rattle.picture_forms.specs.Planes as FormPlanes
 pub use Rattle.picture_forms.specs.Streams as FormStreams
