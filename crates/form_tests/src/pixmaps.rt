@@ -77,11 +77,12 @@ fn each_form(rt: HostRuntime) -> Result<(), Fail> {
 
 #[test]
 fn faults(rt: HostRuntime) -> Result<(), Fail> {
-    let cases: [(&[u8], FormFault); 11] = [
+    let cases: [(&[u8], FormFault); 12] = [
         (b"P", FormFault::Truncated),
         (b"P5 4 1 255 ", FormFault::BadMagic),
         (b"P64 1 255 ", FormFault::BadHeader),
         (b"P6#\n4 1 255 ", FormFault::BadHeader),
+        (b"P6\x0B4 1 255 ", FormFault::BadHeader),
         (b"P6 4 1 #255 ", FormFault::Truncated),
         (b"P6 4x1 255 ", FormFault::BadHeader),
         (b"P6 123456 1 255 ", FormFault::BadHeader),

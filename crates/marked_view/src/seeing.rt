@@ -1,9 +1,8 @@
 //! The marked view of a frame.
-ghost use Rattle.std.specs.Prelude.{◌≡◌, ◌<◌, ◌≤◌, ◌*◌, ◌-◌, ◌^◌, IfOk, length};
+ghost use Rattle.std.specs.Prelude.{◌≡◌, ◌<◌, ◌*◌, ◌-◌, IfOk};
 ghost use Rattle.st_format.specs.Fields.{fields_of};
-ghost use Rattle.st_format.specs.Pgroup.{bits_of};
 ghost use Rattle.st_format.specs.Picture.{IsPicture};
-ghost use Rattle.marked_view.specs.Marked.{cell_there, eight_bits, has_all, pixel_seen};
+ghost use Rattle.marked_view.specs.Marked.{eight_bits, has_all, pixel_seen};
 ghost use Rattle.marked_view.specs.Marked.{pixels_seen, seen_cells, shown, view_fields};
 
 use frame_assembly::Frame;

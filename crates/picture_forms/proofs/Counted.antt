@@ -1,8 +1,7 @@
 -- The text of a number is read as its value, and what is read as a value is such a text.
 use Rattle.std.proofs.Common.{◌≡◌, ℕ, zero, suc, ◌+◌, ◌-◌, ◌*◌, ◌<◌, ◌≤◌, Bool, true, false, cond}
-use Rattle.std.proofs.Common.{◌&&◌, eqb, ltb, not, List, [], ◌∷◌, ◌++◌, length, Option, None, Some}
+use Rattle.std.proofs.Common.{eqb, ltb, not, List, [], ◌∷◌, ◌++◌, length, Option, None, Some}
 use Rattle.std.proofs.Common.{Result, Ok, Err, append_assoc, refl, sym, ap, ◌∙◌, arith, rules}
-use Rattle.std.specs.Prelude.{⊤}
 use Rattle.std.specs.Char.{is_ascii_digit}
 use Rattle.std.specs.List.{list_all}
 use Rattle.std.specs.Option.{option_map}
@@ -20,7 +19,7 @@ use Rattle.picture_forms.specs.declared.number_part.NumberStep.TheVariants.{More
 use Rattle.picture_forms.specs.declared.number_part.Stage.{Stage}
 use Rattle.picture_forms.specs.declared.number_part.Stage.TheVariants.{Front, Gap, Digits}
 use Rattle.picture_forms.specs.Numbers.{IsCount, IsGapOf, count_at, digit_step, ends_comment}
-use Rattle.picture_forms.specs.Numbers.{is_white, number_by, number_step, number_then, part_at}
+use Rattle.picture_forms.specs.Numbers.{is_white, number_by, number_step}
 use Rattle.picture_forms.specs.Numbers.{uncommented, value_step, white_step}
 use Rattle.picture_forms.proofs.Numbered.{none_on, one_on, over_on}
 use Rattle.picture_forms.proofs.Walked.{same_value}

@@ -1,5 +1,5 @@
 -- A head is read exactly as what it says.
-use Rattle.std.proofs.Common.{◌≡◌, ◌≢◌, ◌⊎◌, ℕ, zero, suc, ◌+◌, ◌^◌, ◌<◌, ◌≤◌, Bool, true, false}
+use Rattle.std.proofs.Common.{◌≡◌, ◌≢◌, ◌⊎◌, ℕ, suc, ◌+◌, ◌<◌, ◌≤◌, Bool, true, false}
 use Rattle.std.proofs.Common.{cond, ◌&&◌, eqb, ltb, List, [], ◌∷◌, ◌++◌, length, take, drop, Option}
 use Rattle.std.proofs.Common.{None, Some, Result, Ok, Err, codes, inl, inr, append_assoc}
 use Rattle.std.proofs.Common.{refl, sym, ap, subst, ◌∙◌, arith}
@@ -31,7 +31,7 @@ use Rattle.picture_forms.specs.Heads.{colour_at, colour_named, colour_word, head
 use Rattle.picture_forms.specs.Heads.{last_of, limited, name_at, name_of, needed, number_at}
 use Rattle.picture_forms.specs.Heads.{rate_at, rate_parts, scan_at, told, told_last, words}
 use Rattle.picture_forms.specs.Layouts.{IsYcc}
-use Rattle.picture_forms.specs.Walks.{field_at, line_at, line_by}
+use Rattle.picture_forms.specs.Walks.{field_at, line_at}
 use Rattle.picture_forms.proofs.Lined.{Plain, line_again}
 use Rattle.picture_forms.proofs.PixmapAgain.{field_found, limited_found}
 use Rattle.picture_forms.proofs.Walked.{field_again, same_value}

@@ -1,5 +1,5 @@
 -- A pixmap's head is read exactly as what it says, and one that is written says its format.
-use Rattle.std.proofs.Common.{◌≡◌, ℕ, zero, ◌-◌, ◌^◌, ◌<◌, ◌≤◌, Bool, true, false, cond, eqb, ltb}
+use Rattle.std.proofs.Common.{◌≡◌, ℕ, ◌-◌, ◌^◌, ◌<◌, ◌≤◌, Bool, true, false, cond, eqb, ltb}
 use Rattle.std.proofs.Common.{List, [], ◌∷◌, ◌++◌, length, take, drop, Some, Option, Result}
 use Rattle.std.proofs.Common.{Ok, Err}
 use Rattle.std.proofs.Common.{append_assoc, codes, decimal, refl, sym, ap, subst, ◌∙◌, lit<, arith}
@@ -29,17 +29,17 @@ use Rattle.st_format.proofs.Decimals.{digits}
 use Rattle.st_format.proofs.Made.{format_at-fields}
 use Rattle.st_format.proofs.Readings.{bind_ok}
 use Rattle.picture_forms.specs.declared.fault.FormFault.{FormFault}
-use Rattle.picture_forms.specs.declared.fault.FormFault.TheVariants.{BadFormat, BadMagic, Truncated}
+use Rattle.picture_forms.specs.declared.fault.FormFault.TheVariants.{BadMagic, Truncated}
 use Rattle.picture_forms.specs.declared.fault.FormFault.TheVariants.{UnsupportedForm}
 use Rattle.picture_forms.specs.declared.number_part.Stage.{Stage}
-use Rattle.picture_forms.specs.declared.number_part.Stage.TheVariants.{Front, Gap, Digits}
+use Rattle.picture_forms.specs.declared.number_part.Stage.TheVariants.{Front, Gap}
 use Rattle.picture_forms.specs.Heads.{limited}
 use Rattle.picture_forms.specs.Layouts.{IsRgb, pixmap_head}
 use Rattle.picture_forms.specs.Numbers.{IsCount, IsGapOf, count_at, is_white, uncommented}
 use Rattle.picture_forms.specs.Pixmaps.{HasPixmapHead, IsPixmapHead, depth_by, magic_at, magic_of}
 use Rattle.picture_forms.specs.Pixmaps.{pixmap_format, pixmap_head_walk}
 use Rattle.picture_forms.specs.Walks.{field_at}
-use Rattle.picture_forms.proofs.Counted.{AreDigits, IsCounted, count_says, first_counted}
+use Rattle.picture_forms.proofs.Counted.{AreDigits, count_says, first_counted}
 use Rattle.picture_forms.proofs.Counted.{next_counted}
 use Rattle.picture_forms.proofs.Walked.{field_again, same_value}
 

@@ -1,8 +1,8 @@
 -- A number of a pixmap's head, read octet by octet: white space, decimal digits and one octet of
 -- white space. A comment may stand anywhere before that last one, also among the digits, and says
 -- nothing: its end is no white space (Netpbm, pbm and ppm).
-use Rattle.std.specs.Prelude.{◌≡◌, ℕ, zero, suc, ◌+◌, ◌-◌, ◌*◌, ◌<◌, ◌≤◌, ◌==◌, ◌&&◌, ◌||◌}
-use Rattle.std.specs.Prelude.{nat_lt, nat_le, not, if◌then◌else◌, Bool, true, false, List, []}
+use Rattle.std.specs.Prelude.{◌≡◌, ℕ, zero, suc, ◌+◌, ◌-◌, ◌*◌, ◌<◌, ◌≤◌, ◌==◌, ◌||◌, nat_lt}
+use Rattle.std.specs.Prelude.{not, if◌then◌else◌, Bool, true, false, List, []}
 use Rattle.std.specs.Prelude.{◌∷◌, ◌++◌, length, ⊤, Option, None, Some, Result, Ok, Err}
 use Rattle.std.specs.Char.{is_ascii_digit}
 use Rattle.std.specs.List.{list_all}
@@ -16,9 +16,9 @@ use Rattle.picture_forms.specs.declared.number_part.NumberStep.TheVariants.{More
 use Rattle.picture_forms.specs.declared.number_part.Stage.{Stage}
 use Rattle.picture_forms.specs.declared.number_part.Stage.TheVariants.{Front, Gap, Digits}
 
--- a space, and tab, LF, VT, FF and CR
+-- white space: a space, tab, LF and CR
 abbrev pub is_white : ℕ → Bool
-is_white octet = octet == 32 || (nat_le 9 octet && nat_le octet 13)
+is_white octet = octet == 32 || octet == 9 || octet == 10 || octet == 13
 
 -- the last octet of a comment, which begins with `#`: LF or CR
 abbrev pub ends_comment : ℕ → Bool

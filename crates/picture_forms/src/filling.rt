@@ -1,5 +1,5 @@
 //! Octets put into every step-th of a picture's samples.
-ghost use Rattle.std.specs.Prelude.{◌≡◌, ◌≤◌, ◌<◌, ◌+◌, ◌*◌, length};
+ghost use Rattle.std.specs.Prelude.{◌≡◌, ◌+◌, ◌*◌, length};
 ghost use Rattle.picture_forms.specs.Planes.{Inside, KeepsOthers, every_text, sample_size};
 
 use crate::planes::{Spelling, Stride};

@@ -1,5 +1,5 @@
 //! Lines of a header, read.
-ghost use Rattle.std.specs.Prelude.{◌≡◌, ◌≤◌, ◌∷◌, [], length, take, IfErr, IfOk, OnOk};
+ghost use Rattle.std.specs.Prelude.{◌≡◌, ◌≤◌, ◌∷◌, [], length, take, IfErr, IfOk};
 ghost use Rattle.picture_forms.specs.Faults.{CountsDevice};
 ghost use Rattle.picture_forms.specs.Walks.{Gives, IsCut, Reads, Refuses, line_at};
 

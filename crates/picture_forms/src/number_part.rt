@@ -120,9 +120,9 @@ fn ends_comment(octet: u8) -> bool
     octet == b'\n' || octet == b'\r'
 }
 
-/// Whether an octet is white space: a space, tab, LF, VT, FF or CR.
+/// Whether an octet is white space: a space, tab, LF or CR (Netpbm, ppm).
 fn is_white(octet: u8) -> bool
     ensures { result ≡ is_white octet }
 {
-    octet == b' ' || (9 <= octet && octet <= 13)
+    octet == b' ' || octet == b'\t' || octet == b'\n' || octet == b'\r'
 }

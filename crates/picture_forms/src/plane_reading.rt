@@ -1,5 +1,5 @@
 //! Reading every step-th of a picture's samples.
-ghost use Rattle.std.specs.Prelude.{◌≡◌, ◌≤◌, ◌<◌, ◌+◌, ◌*◌, length, IfErr, OnOk};
+ghost use Rattle.std.specs.Prelude.{◌≡◌, ◌<◌, ◌+◌, ◌*◌, length, IfErr, OnOk};
 ghost use Rattle.picture_forms.specs.Faults.{CountsDevice};
 ghost use Rattle.picture_forms.specs.Planes.{Inside, KeepsOthers, every_text, sample_size};
 ghost use Rattle.picture_forms.specs.Walks.{Gives, IsCut};

@@ -3,9 +3,9 @@ ghost use Rattle.std.specs.Prelude.{◌≡◌, ◌≤◌, ◌<◌, ◌++◌, ◌
 ghost use Rattle.std.specs.Io.KnownBytes.{Appends};
 ghost use Rattle.std.specs.List.{All};
 ghost use Rattle.st_format.specs.Device.{AppendsPrefix, CountsFaults, GrowsPart};
-ghost use Rattle.st_format.specs.Picture.{IsPicture, Values};
+ghost use Rattle.st_format.specs.Picture.{IsPicture};
 ghost use Rattle.picture_forms.specs.Faults.{CountsDevice, IsDevice};
-ghost use Rattle.picture_forms.specs.Layouts.{IsYcc, depth_word, frame_line, frame_text};
+ghost use Rattle.picture_forms.specs.Layouts.{IsYcc, depth_word, frame_text};
 ghost use Rattle.picture_forms.specs.Layouts.{plane_count, plane_first, plane_step};
 ghost use Rattle.picture_forms.specs.Layouts.{plane_text};
 ghost use Rattle.picture_forms.specs.Layouts.{planes_text, sampling_word, y4m_head};
