@@ -65,7 +65,7 @@ says 'export: the longest datagram' 0 'exported 1 left out 3' ''
 run export --a '[ff3e::1]:5004' --out exported.pcap long.cap
 says 'export: the longest datagram over IPv6' 0 'exported 3 left out 1' ''
 for words in '--a 5004' '--a ff3e::1:5004' '--a [ff3e::1]:5004 --b 5004' '--a 239.1.1.1:5004 --b 239.1.1.2' \
-    '--a [fe80::1]>239.1.1.1:5004' '--a 192.0.2.1>5004'; do
+    '--a [fe80::1]>239.1.1.1:5004' '--a 192.0.2.1>5004' '--a eth0@239.1.1.1:5004' '--a 239.1.1.1:5004 --b eth0@239.1.1.1:5004'; do
     # shellcheck disable=SC2086
     run export $words --out no-export.pcap again.cap
     says "export: $words" 1 '' 'st2110: export 1 BadFlow'

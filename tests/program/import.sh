@@ -143,7 +143,62 @@ options='--b 239.1.1.1:5004 --a 239.1.1.2:5006'
 comes 8 8 two-cards 239.1.1.2,5006 239.1.1.1,5004 two-cards.pcapng
 gives 'the paths exchanged' 900,4500 "delivered 16
 $cards"
+options='--a a1@5004 --b b1@239.1.1.2:5006'
+comes 8 8 two-cards 239.1.1.1,5004 239.1.1.2,5006 two-cards.pcapng
+gives 'two cards by their interfaces' 900,4500 "delivered 16
+$cards"
+options='--a b1@239.1.1.1:5004 --b 5006'
+comes 0 8 two-cards - 239.1.1.2,5006 two-cards.pcapng
 options=
+
+# The same where path B goes to A's group and port: the interfaces alone tell the paths.
+octets "$(od -An -v -tx1 "$recordings/two-cards.pcapng" | tr -d ' \n' | sed 's/ef010102\(....\)138e/ef010101\1138c/g')" \
+    >one-place.pcapng
+run import --sdp "$recordings/two-cards.sdp" --out want.cap "$recordings/two-cards.pcapng"
+for words in '--a a1@239.1.1.1:5004 --b b1@239.1.1.1:5004' '--a a1@5004 --b 5004'; do
+    # shellcheck disable=SC2086
+    run import --sdp "$recordings/two-cards.sdp" $words --out named.cap one-place.pcapng
+    says "import: one group and port: $words" 0 'recorded A 8 B 8 left out 0' ''
+    alike "import: one group and port: $words: the capture" named.cap want.cap
+    # shellcheck disable=SC2086
+    run receive --sdp "$recordings/two-cards.sdp" $words --window 900,4500 --state named.rcv one-place.pcapng
+    untold
+    says "receive: one group and port: $words" 0 "delivered 16
+$cards" ''
+done
+run import --sdp "$recordings/two-cards.sdp" --a 5004 --b b1@5004 --out named.cap one-place.pcapng
+says 'import: one group and port: an interface of packets that A has' 0 'recorded A 16 B 0 left out 0' ''
+run import --sdp "$recordings/two-cards.sdp" --a 5004 --b 5004 --out no-import.cap one-place.pcapng
+says 'import: one group and port' 1 '' 'st2110: import 3 OnePlace'
+run import --sdp "$recordings/two-cards.sdp" --a a1@5004 --b a1@5004 --out no-import.cap one-place.pcapng
+says 'import: one interface, group and port' 1 '' 'st2110: import 3 OnePlace'
+
+# By hand, the least significant octet first: interfaces eth0, eth1 with a zero behind, and one without a name. At each a
+# datagram of one octet comes to 239.1.1.1:5004, at 5, 6 and 7 microseconds, and last at eth1 one to 239.1.1.2:5006.
+section='0A0D0D0A 1C000000 4D3C2B1A 01000000 FFFFFFFF FFFFFFFF 1C000000'
+named_so='01000000 1C000000 65000000 00000000 02000400 65746830 1C000000'
+ended_so='01000000 20000000 65000000 00000000 02000500 65746831 00000000 20000000'
+unnamed='01000000 14000000 65000000 00000000 14000000'
+# at INTERFACE MOMENT PLACE OCTET: a packet at the interface of this number.
+at() {
+    printf '%s' "06000000 40000000 0${1}000000 00000000 0${2}000000 1D000000 1D000000
+        4500001D 00004000 40110000 C0000201 $3 00090000 0$4 000000 40000000"
+}
+one='EF010101 138C 138C'
+octets "$section $named_so $ended_so $unnamed" "$(at 0 5 "$one" 1)" "$(at 1 6 "$one" 2)" "$(at 2 7 "$one" 3)" \
+    "$(at 1 8 'EF010102 138C 138E' 4)" >interfaces.pcapng
+for words in '--a eth0@239.1.1.1:5004 --b eth1@239.1.1.1:5004' '--a eth0@192.0.2.1>5004 --b eth1@5004'; do
+    # shellcheck disable=SC2086
+    run import --sdp "$recordings/two-cards.sdp" $words --out named.cap interfaces.pcapng
+    says "import: interfaces: $words" 0 'recorded A 1 B 1 left out 2' ''
+    tail -c 24 named.cap >named.records
+    holds "import: interfaces: $words: the records" named.records '00 0000000000001388 0001 01 01 0000000000001770 0001 02'
+done
+run import --sdp "$recordings/two-cards.sdp" --a eth1@239.1.1.1:5004 --b 239.1.1.1:5004 --out named.cap interfaces.pcapng
+says 'import: an interface, and any' 0 'recorded A 1 B 2 left out 1' ''
+tail -c 36 named.cap >named.records
+holds 'import: an interface, and any: the records' named.records '01 0000000000001388 0001 01
+    00 0000000000001770 0001 02 01 0000000000001B58 0001 03'
 
 # A recording for each path, joined by time; that of B begins with the third frame. A in microseconds, B in
 # nanoseconds. Then both of them merged into one, whose cards have units of time of their own.
@@ -463,7 +518,7 @@ says 'import: standard input' 0 'recorded A 8 B 8 left out 0' ''
 run import --sdp "$recordings/two-cards.sdp" --out again.cap "$recordings/two-cards.pcapng"
 alike 'import: standard input, the capture' piped.cap again.cap
 for words in '--a 500x4' '--b 239.1.1.256:5006' '--a 239.1.1.1' '--b 65536' '--a >5004' '--a 192.0.2.1>239.1.1.1' \
-    '--b studio>5004'; do
+    '--b studio>5004' '--a @5004' '--b eth0@' '--a eth0@eth1@5004' '--b 192.0.2.1>eth0@5004'; do
     # shellcheck disable=SC2086
     run import --sdp "$recordings/two-cards.sdp" $words --out no-import.cap "$recordings/two-cards.pcapng"
     says "import: $words" 1 '' 'st2110: import 2 BadFlow'

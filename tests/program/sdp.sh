@@ -302,4 +302,5 @@ done <<END
 --b <ADDR:PORT>|camera.example:5004|$place
 --b <ADDR:PORT>|5004|$place
 --a <ADDR:PORT>|192.0.2.1>239.1.1.1:5004|$place
+--b <ADDR:PORT>|eth0@239.1.1.1:5004|$place
 END

@@ -1,43 +1,48 @@
--- Captures that are taken one after the other.
-use Rattle.std.proofs.Common.{◌≡◌, ℕ, ◌+◌, List, [], ◌∷◌, ◌++◌, length, Option, None, Some}
+-- Files that are taken one after the other.
+use Rattle.std.proofs.Common.{◌≡◌, ℕ, ◌+◌, List, [], ◌∷◌, ◌++◌, length, Option, None, Some, Result}
 use Rattle.std.proofs.Common.{refl, sym, ap, subst, ◌∙◌, arith, append_assoc}
 use Rattle.std.proofs.Common.{zero, suc, ◌≤◌, append-nil, drop, take}
-use Rattle.std.proofs.lemmas.Grind.{flat_map-append}
 use Rattle.std.proofs.lemmas.List.{take_all}
 use Rattle.capture_engines.specs.Sent.{FirstIs}
 use Rattle.capture_engines.proofs.OneOf.{zip_drop}
-use Rattle.std.specs.List.{flat_map}
 use Rattle.media_file.specs.StateFile.{state_text}
 use Rattle.receiver_file.specs.Saved.{kept_of}
 use Rattle.run_outcome.specs.Sources.{IsSourceText}
 use Rattle.run_outcome.specs.Timestamps.{AreTimestamps}
 use Rattle.capture_engines.specs.Printed.{received_text, tally_text}
 use Rattle.capture_engines.specs.Taking.{AreRead, AnnouncesStream, ReceivesFiles}
-use Rattle.capture_engines.specs.Taking.{SavesHolding, Stands, TakesFile, TakesFiles}
+use Rattle.capture_engines.specs.Taking.{FileGoes, FilesGo, Holding, SavesHolding, Stands}
+use Rattle.capture_engines.specs.Taking.{TakesFiles}
 use Rattle.std.specs.List.{zip}
-use Rattle.capture_engines.specs.Taking.{capture_datagrams, said_behind}
+use Rattle.flow.specs.declared.flows.Flows.{Flows}
+use Rattle.run_outcome.specs.declared.refusal.Refusal.{Refusal}
+use Rattle.capture_engines.specs.Files.{file_datagrams, files_datagrams, first_way, other_ways}
+use Rattle.capture_engines.specs.Files.{way_at}
+use Rattle.capture_engines.specs.Taking.{said_behind}
 use Rattle.capture_engines.specs.declared.receiving.Asked.{Asked}
 use Rattle.capture_engines.specs.declared.intake.Intake.{Intake}
 use Rattle.capture_engines.proofs.Printed.{received_text_is}
 use Rattle.std.proofs.Common.{Bool}
 
--- ---- captures that were taken so far
+-- ---- files that were taken so far
 
-pub none_taken : {S A : Type 0} (o : Asked A) (f : S → List ℕ → Type 0) (b : Option (Intake A))
-    → TakesFiles o f [] b b
-none_taken o f b = record { stands = λ octets said ds tell. none octets said ds tell }
+pub none_taken : {S : Type 0} (ways : List (Result Flows Refusal))
+    (f : S → List ℕ → Type 0) (B : Holding) → FilesGo ways f [] B B
+none_taken ways f B = record {
+  stands = λ octets said ds tell. none ways octets said ds tell;
+}
   where
     said_none : (said : Option (List ℕ)) → said ≡ said_behind said []
     said_none None = refl
     said_none (Some text) = refl
 
-    none : (octets : List (List ℕ)) (said : Option (List ℕ)) (ds : List (List ℕ))
-        → AreRead f [] octets → Stands o b said ds
-        → Stands o b (said_behind said octets) (ds ++ flat_map capture_datagrams octets)
-    none [] said ds tell stands =
-        subst (λ (t : Option (List ℕ)). Stands o b t (ds ++ [])) (said_none said)
-        (subst (λ (xs : List (List ℕ)). Stands o b said xs) (sym (append-nil ds)) stands)
-    none (p ∷ ps) said ds tell stands = absurd tell
+    none : (ways : List (Result Flows Refusal)) (octets : List (List ℕ))
+        (said : Option (List ℕ)) (ds : List (List ℕ)) → AreRead f [] octets → B said ds
+        → B (said_behind said octets) (ds ++ files_datagrams ways octets)
+    none ways [] said ds tell stands =
+        subst (λ (t : Option (List ℕ)). B t (ds ++ [])) (said_none said)
+        (subst (λ (xs : List (List ℕ)). B said xs) (sym (append-nil ds)) stands)
+    none ways (p ∷ ps) said ds tell stands = absurd tell
 
 -- the octets of some sources and of one more
 record Split {S : Type 0} (f : S → List ℕ → Type 0) (xs : List S) (x : S)
@@ -45,14 +50,21 @@ record Split {S : Type 0} (f : S → List ℕ → Type 0) (xs : List S) (x : S)
   pub front : List (List ℕ)
   pub last : List ℕ
   pub whole : octets ≡ front ++ last ∷ []
+  pub counted : length front ≡ length xs
   pub tell : AreRead f xs front
   pub one : f x last
 
 split_tell : {S : Type 0} (f : S → List ℕ → Type 0) (xs : List S) (x : S)
     (octets : List (List ℕ)) → AreRead f (xs ++ x ∷ []) octets → Split f xs x octets
 split_tell f [] x [] tell = absurd tell
-split_tell f [] x (p ∷ []) tell =
-    record { front = []; last = p; whole = refl; tell = tt; one = tell.0 }
+split_tell f [] x (p ∷ []) tell = record {
+  front = [];
+  last = p;
+  whole = refl;
+  counted = refl;
+  tell = tt;
+  one = tell.0;
+}
 split_tell f [] x (p ∷ (q ∷ ps)) tell = absurd tell.1
 split_tell f (y ∷ xs) x [] tell = absurd tell
 split_tell f (y ∷ xs) x (p ∷ ps) tell =
@@ -61,41 +73,53 @@ split_tell f (y ∷ xs) x (p ∷ ps) tell =
       front = p ∷ rest.front;
       last = rest.last;
       whole = ap (λ (l : List (List ℕ)). p ∷ l) rest.whole;
+      counted = ap suc rest.counted;
       tell = (tell.0, rest.tell);
       one = rest.one;
     }
 
--- the text is that behind some captures, and then behind one more
+-- the text is that behind some files, and then behind one more
 pub said_then : (said : Option (List ℕ)) (ps : List (List ℕ)) (p : List ℕ)
     → said_behind (said_behind said ps) (p ∷ []) ≡ said_behind said (ps ++ p ∷ [])
 said_then None [] p = refl
 said_then None (q ∷ ps) p = refl
 said_then (Some text) ps p = refl
 
-pub datagrams_then : (ds : List (List ℕ)) (ps : List (List ℕ)) (p : List ℕ)
-    → (ds ++ flat_map capture_datagrams ps) ++ capture_datagrams p
-    ≡ ds ++ flat_map capture_datagrams (ps ++ p ∷ [])
-datagrams_then ds ps p =
-    append_assoc ds (flat_map capture_datagrams ps) (capture_datagrams p)
-    ∙ ap (λ (l : List (List ℕ)). ds ++ l)
-    (sym (flat_map-append capture_datagrams ps (p ∷ [])
-    ∙ ap (λ (l : List (List ℕ)). flat_map capture_datagrams ps ++ l)
-    (append-nil (capture_datagrams p))))
+-- and so are the datagrams
+files_then : (ways : List (Result Flows Refusal)) (ps : List (List ℕ)) (p : List ℕ)
+    → files_datagrams ways ps ++ file_datagrams (way_at ways (length ps)) p
+    ≡ files_datagrams ways (ps ++ p ∷ [])
+files_then ways [] p = sym (append-nil (file_datagrams (first_way ways) p))
+files_then ways (q ∷ ps) p =
+    append_assoc (file_datagrams (first_way ways) q) (files_datagrams (other_ways ways) ps)
+    (file_datagrams (way_at (other_ways ways) (length ps)) p)
+    ∙ ap (λ (l : List (List ℕ)). file_datagrams (first_way ways) q ++ l)
+    (files_then (other_ways ways) ps p)
 
-pub one_more : {S A : Type 0} (o : Asked A) (f : S → List ℕ → Type 0) (xs : List S) (x : S)
-    (before b a : Option (Intake A)) → TakesFiles o f xs before b → TakesFile o (f x) b a
-    → TakesFiles o f (xs ++ x ∷ []) before a
-one_more o f xs x before b a files file = record {
+pub datagrams_then : (ways : List (Result Flows Refusal)) (ds : List (List ℕ))
+    (ps : List (List ℕ)) (p : List ℕ) (place : ℕ) → length ps ≡ place
+    → (ds ++ files_datagrams ways ps) ++ file_datagrams (way_at ways place) p
+    ≡ ds ++ files_datagrams ways (ps ++ p ∷ [])
+datagrams_then ways ds ps p place is =
+    ap (λ (k : ℕ). (ds ++ files_datagrams ways ps) ++ file_datagrams (way_at ways k) p) (sym is)
+    ∙ append_assoc ds (files_datagrams ways ps) (file_datagrams (way_at ways (length ps)) p)
+    ∙ ap (λ (l : List (List ℕ)). ds ++ l) (files_then ways ps p)
+
+pub one_more : {S : Type 0} (ways : List (Result Flows Refusal))
+    (f : S → List ℕ → Type 0) (xs : List S) (x : S) (Before B A : Holding)
+    → FilesGo ways f xs Before B → FileGoes (way_at ways (length xs)) (f x) B A
+    → FilesGo ways f (xs ++ x ∷ []) Before A
+one_more ways f xs x Before B A files file = record {
   stands = λ octets said ds tell stands.
       let s : Split f xs x octets = split_tell f xs x octets tell in
-      let all : List (List ℕ) = ds ++ flat_map capture_datagrams s.front in
-      subst (λ (l : List (List ℕ)). Stands o a (said_behind said l)
-      (ds ++ flat_map capture_datagrams l)) (sym s.whole)
-      (subst (λ (t : Option (List ℕ)). Stands o a t
-      (ds ++ flat_map capture_datagrams (s.front ++ s.last ∷ []))) (said_then said s.front s.last)
-      (subst (λ (l : List (List ℕ)). Stands o a
+      let all : List (List ℕ) = ds ++ files_datagrams ways s.front in
+      subst (λ (l : List (List ℕ)). A (said_behind said l)
+      (ds ++ files_datagrams ways l)) (sym s.whole)
+      (subst (λ (t : Option (List ℕ)). A t
+      (ds ++ files_datagrams ways (s.front ++ s.last ∷ []))) (said_then said s.front s.last)
+      (subst (λ (l : List (List ℕ)). A
       (said_behind (said_behind said s.front) (s.last ∷ [])) l)
-      (datagrams_then ds s.front s.last)
+      (datagrams_then ways ds s.front s.last (length xs) s.counted)
       (file.stands s.last (said_behind said s.front) all s.one
       (files.stands s.front said ds s.tell stands))));
 }
@@ -115,12 +139,14 @@ pub record NextPair {S : Type 0} (Is : S × S → Type 0) (start now : List S) (
     pub is : Is next
     pub whole : zip (take (suc k) start) (take (suc k) now)
         ≡ zip (take k start) (take k now) ++ next ∷ []
+    pub counted : length (zip (take k start) (take k now)) ≡ k
 
 next_pair : {S : Type 0} (Is : S × S → Type 0) (start now : List S) (k : ℕ)
     → FirstIs Is (zip (drop k start) (drop k now)) → NextPair Is start now k
 next_pair Is [] now zero is = absurd is
 next_pair Is (s ∷ ss) [] zero is = absurd is
-next_pair Is (s ∷ ss) (t ∷ ts) zero is = record { next = (s, t); is = is; whole = refl }
+next_pair Is (s ∷ ss) (t ∷ ts) zero is =
+    record { next = (s, t); is = is; whole = refl; counted = refl }
 next_pair Is [] now (suc k) is = absurd is
 next_pair Is (s ∷ ss) [] (suc k) is = absurd (no_pairs Is (drop k ss) is)
   where
@@ -133,35 +159,41 @@ next_pair {S} Is (s ∷ ss) (t ∷ ts) (suc k) is =
       next = n.next;
       is = n.is;
       whole = ap (λ (l : List (S × S)). (s, t) ∷ l) n.whole;
+      counted = ap suc n.counted;
     }
 
--- so the captures up to there were taken
-pub more_taken : {S A : Type 0} (o : Asked A) (f : S × S → List ℕ → Type 0)
-    (start now new : List S) (k : ℕ) (before b a : Option (Intake A))
-    → TakesFiles o f (zip (take k start) (take k now)) before b → take k new ≡ take k now
+-- so the files up to there were taken
+pub more_taken : {S : Type 0} (ways : List (Result Flows Refusal))
+    (f : S × S → List ℕ → Type 0) (start now new : List S) (k : ℕ)
+    (Before B A : Holding)
+    → FilesGo ways f (zip (take k start) (take k now)) Before B → take k new ≡ take k now
     → drop k now ≡ drop k start
-    → FirstIs (λ s. TakesFile o (f s) b a) (zip (drop k now) (drop k new))
-    → TakesFiles o f (zip (take (k + 1) start) (take (k + 1) new)) before a
-more_taken {S} {A} o f start now new k before b a files front behind one =
-    let Is : S × S → Type 0 = λ s. TakesFile o (f s) b a in
+    → FirstIs (λ s. FileGoes (way_at ways k) (f s) B A) (zip (drop k now) (drop k new))
+    → FilesGo ways f (zip (take (k + 1) start) (take (k + 1) new)) Before A
+more_taken {S} ways f start now new k Before B A files front behind one =
+    let Is : S × S → Type 0 = λ s. FileGoes (way_at ways k) (f s) B A in
     let n : NextPair Is start new k =
     next_pair Is start new k
     (subst (λ (l : List S). FirstIs Is (zip l (drop k new))) behind one) in
+    let so_far : List (S × S) = zip (take k start) (take k new) in
+    let earlier : FilesGo ways f so_far Before B =
+    subst (λ (l : List S). FilesGo ways f (zip (take k start) l) Before B) (sym front)
+    files in
+    let next : FileGoes (way_at ways (length so_far)) (f n.next) B A =
+    subst (λ (m : ℕ). FileGoes (way_at ways m) (f n.next) B A) (sym n.counted) n.is in
     let one_on : suc k ≡ k + 1 = omega arith in
-    subst (λ (m : ℕ). TakesFiles o f (zip (take m start) (take m new)) before a) one_on
-    (subst (λ (l : List (S × S)). TakesFiles o f l before a) (sym n.whole)
-    (subst (λ (l : List S). TakesFiles o f (zip (take k start) l ++ n.next ∷ []) before a)
-    (sym front)
-    (one_more o f (zip (take k start) (take k now)) n.next before b a files n.is)))
+    subst (λ (m : ℕ). FilesGo ways f (zip (take m start) (take m new)) Before A) one_on
+    (subst (λ (l : List (S × S)). FilesGo ways f l Before A) (sym n.whole)
+    (one_more ways f so_far n.next Before B A earlier next))
 
 -- all of them
-pub all_taken : {S A : Type 0} (o : Asked A) (f : S × S → List ℕ → Type 0)
-    (start now : List S) (k : ℕ) (before b : Option (Intake A))
-    → TakesFiles o f (zip (take k start) (take k now)) before b → length start ≤ k
-    → length now ≡ length start → TakesFiles o f (zip start now) before b
-all_taken {S} o f start now k before b files all same =
-    subst (λ (l : List S). TakesFiles o f (zip l now) before b) (take_all k start all)
-    (subst (λ (l : List S). TakesFiles o f (zip (take k start) l) before b)
+pub all_taken : {S : Type 0} (ways : List (Result Flows Refusal))
+    (f : S × S → List ℕ → Type 0) (start now : List S) (k : ℕ) (Before B : Holding)
+    → FilesGo ways f (zip (take k start) (take k now)) Before B → length start ≤ k
+    → length now ≡ length start → FilesGo ways f (zip start now) Before B
+all_taken {S} ways f start now k Before B files all same =
+    subst (λ (l : List S). FilesGo ways f (zip l now) Before B) (take_all k start all)
+    (subst (λ (l : List S). FilesGo ways f (zip (take k start) l) Before B)
     (take_all k now (omega (arith, same, all))) files)
 
 -- those that are left are behind those that were taken
@@ -204,20 +236,20 @@ saves_held o window source Is (Some said) s ds wanted shown shown' old new is_wi
     }
 
 pub receives : {S A : Type 0} (o : Asked A) (window source : List ℕ) (sdp : Option (List ℕ))
-    (f : S → List ℕ → Type 0) (captures : List S)
+    (ways : List (Result Flows Refusal)) (f : S → List ℕ → Type 0) (files : List S)
     (begun : Option (Intake A)) (s : Intake A) (wanted : Bool)
     (shown shown' old new : List ℕ)
     → AreTimestamps window o.window.items → IsSourceText source o.ssrc → Stands o begun sdp []
-    → TakesFiles o f captures begun (Some s)
+    → TakesFiles o ways f files begun (Some s)
     → shown' ≡ shown ++ received_text wanted s.delivered (tally_text s.tally) s.receiver
     → new ≡ old ++ state_text (kept_of s.receiver)
-    → ReceivesFiles window source sdp f captures wanted shown shown' old new
-receives o window source sdp f captures begun s wanted shown shown' old new is_window is_source
-    begins files printed taken =
+    → ReceivesFiles window source sdp ways f files wanted shown shown' old new
+receives o window source sdp ways f files begun s wanted shown shown' old new is_window is_source
+    begins taken printed written =
     record {
       saved = λ octets tell.
           saves_held o window source (λ text. said_behind sdp octets ≡ Some text)
-          (said_behind sdp octets) s (flat_map capture_datagrams octets) wanted shown shown' old new
-          is_window is_source (files.stands octets sdp [] tell begins) (λ text is. is) printed
-          taken;
+          (said_behind sdp octets) s (files_datagrams ways octets) wanted shown shown' old new
+          is_window is_source (taken.stands octets sdp [] tell begins) (λ text is. is) printed
+          written;
     }

@@ -6,7 +6,6 @@ pub mod SentRefusals
 pub mod ReceivedRefusals
 pub mod MigrateRefusals
 pub mod LoopRefusals
-pub mod Tallies
 pub mod Sendings
 pub mod Printed
 pub mod Leaving
@@ -16,4 +15,8 @@ pub mod Coming
 pub mod Rescues
 pub mod TypedTexts
 pub mod Said
+pub mod Untaken
+pub mod Readings
+pub mod Ways
+pub mod Blaming
 pub mod Quiet

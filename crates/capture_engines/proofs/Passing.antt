@@ -3,8 +3,8 @@ use Rattle.std.proofs.Common.{◌≡◌, ℕ, ◌+◌, ◌≤◌, List, [], ◌�
 use Rattle.std.proofs.Common.{refl, sym, ap, ◌∙◌, subst, arith, append-nil, append_assoc}
 use Rattle.std.proofs.lemmas.List.{length-append, map-append}
 use Rattle.st_format.specs.declared.path.Path.{Path}
-use Rattle.path_merge.specs.Frames.{Holds, State}
-use Rattle.path_merge.specs.Took.{CountsAll}
+use Rattle.path_receiver.specs.Frames.{Holds, State}
+use Rattle.path_receiver.specs.Took.{CountsAll}
 use Rattle.capture_engines.specs.Looping.{Came}
 
 abbrev Arrivals : Type 0

@@ -3,12 +3,12 @@ use Rattle.std.proofs.Common.{◌≡◌, ℕ, ◌+◌, ◌<◌, List, [], ◌∷
 use Rattle.std.proofs.Common.{Option, ap, subst, sym, ◌∙◌, ◌≢◌, zero, suc, Bool, Result, arith, map}
 use Rattle.std.proofs.Common.{append-nil, refl, slice_index}
 use Rattle.std.specs.List.{flat_map}
-use Rattle.path_merge.specs.Frames.{State}
+use Rattle.path_receiver.specs.Frames.{State}
 use Rattle.st_format.specs.Device.{GrowsPart}
-use Rattle.path_merge.specs.Answers.{refusal_number, taken_at}
-use Rattle.path_merge.specs.declared.answer.Refusal.{Refusal}
-use Rattle.path_merge.specs.declared.answer.Refusal.TheVariants.{Header, WrongPayloadType}
-use Rattle.path_merge.specs.declared.answer.Refusal.TheVariants.{WrongSource, Payload}
+use Rattle.path_receiver.specs.Answers.{refusal_number, taken_at}
+use Rattle.path_receiver.specs.declared.answer.Refusal.{Refusal}
+use Rattle.path_receiver.specs.declared.answer.Refusal.TheVariants.{Header, WrongPayloadType}
+use Rattle.path_receiver.specs.declared.answer.Refusal.TheVariants.{WrongSource, Payload}
 use Rattle.payload_header.specs.declared.payload.PayloadFault.{PayloadFault}
 use Rattle.payload_header.specs.declared.payload.PayloadFault.TheVariants as payload
 use Rattle.rtp_header.specs.declared.header.RtpFault.{RtpFault}
@@ -16,11 +16,11 @@ use Rattle.rtp_header.specs.declared.header.RtpFault.TheVariants as rtp
 use Rattle.run_outcome.specs.Line.{line_text}
 use Rattle.capture_engines.specs.Printed.{counted_line, refusal_line, answers_text, received_text}
 use Rattle.capture_engines.specs.Printed.{refusals, taken_text, tally_text}
-use Rattle.capture_engines.specs.Tallied.{Tallies, fitting, is_refusal, place_of}
+use Rattle.path_receiver.specs.Tallied.{Tallies, fitting, is_refusal, place_of}
 use Rattle.run_outcome.specs.declared.line.Line.{Line}
 use Rattle.run_outcome.specs.declared.line.Line.TheVariants.{OutsideCount, RefusedCount}
-use Rattle.capture_engines.specs.declared.tally.Tally.{Tally}
-use Rattle.path_merge.specs.declared.answer.Taken.{Taken}
+use Rattle.path_receiver.specs.declared.tally.Tally.{Tally}
+use Rattle.path_receiver.specs.declared.answer.Taken.{Taken}
 use Rattle.run_outcome.proofs.Printed.{texts_before, texts_more, texts_cut}
 
 -- ---- texts of the items of a list

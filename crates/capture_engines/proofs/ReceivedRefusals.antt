@@ -1,46 +1,286 @@
 -- Which refusal ends a run of `receive`.
-use Rattle.std.proofs.Common.{◌≡◌, ℕ, ◌≤◌, ◌⊎◌, inl, inr, List, [], ◌∷◌, length, Option, None, Some}
-use Rattle.std.proofs.Common.{refl, sym, ap, subst, ◌∙◌, arith, drop}
+use Rattle.std.proofs.Common.{◌≡◌, ℕ, zero, suc, ◌≤◌, ◌⊎◌, inl, inr, List, [], ◌∷◌, ◌++◌, length}
+use Rattle.std.proofs.Common.{Option, None, Result, Ok, Err, refl, sym, ap, subst, ◌∙◌, arith}
+use Rattle.std.proofs.Common.{Bool, cond, drop, true, false, append-nil}
+use Rattle.std.specs.Prelude.{IfErr, IsSome}
+use Rattle.flow.specs.declared.flows.Flows.{Flows}
 use Rattle.media_file.specs.Fronts.{front_at}
-use Rattle.std.proofs.Common.{◌++◌, append_assoc}
-use Rattle.st_format.specs.History.{GrewFrom, IsRead, since}
-use Rattle.st_format.proofs.Histories.{since_is}
+use Rattle.media_file.specs.Records.{Entry, records_text}
 use Rattle.media_file.specs.declared.fault.FileFault.{FileFault}
-use Rattle.media_file.specs.declared.fault.FileFault.TheVariants.{Device, BadName}
-use Rattle.media_file.specs.declared.fault.FileFault.TheVariants.{BadVersion, Truncated}
-use Rattle.media_file.specs.Faults.{IsOfFront}
-use Rattle.media_file.specs.Fields.{GaveFault}
-use Rattle.st_format.specs.Given.{GaveValue}
-use Rattle.media_file.proofs.Gave.{fault_read}
-use Rattle.run_outcome.specs.LowerFaults.{capture_fault}
+use Rattle.media_file.specs.declared.fault.FileFault.TheVariants as file
+use Rattle.pcap_file.specs.declared.fault.RecordingFault.TheVariants as recording
+use Rattle.recording_reader.specs.FileReader.{FileReader, HasGivenFile, HasGivenRecords, IsKnownBy}
+use Rattle.recording_reader.specs.Files.{AreFirst, HasFirstRecords, HasWrongPart, HaveFileRecords}
+use Rattle.recording_reader.specs.Files.{IfFile, IsFileFault, records_of_file, text_before}
+use Rattle.recording_reader.specs.Files.{text_of_file}
+use Rattle.recording_reader.specs.declared.fault.ReadingFault.{ReadingFault}
+use Rattle.recording_reader.specs.declared.fault.ReadingFault.TheVariants.{Capture, Recording}
+use Rattle.recording_reader.specs.declared.way.Standing.{Standing}
+use Rattle.recording_reader.specs.declared.way.Standing.TheVariants.{Reads, Failed}
 use Rattle.run_outcome.specs.Refusing.{OfRefusal}
-use Rattle.run_outcome.proofs.Refusals.{if_err_map, of_refusal_map}
+use Rattle.run_outcome.proofs.Refusals.{of_refusal_map}
 use Rattle.run_outcome.specs.declared.fault.Fault.{Fault}
-use Rattle.std.proofs.Common.{IfErr, Result}
-use Rattle.std.specs.Prelude.{OnOk}
-use Rattle.capture_engines.specs.Taking.{TakesFile}
-use Rattle.capture_engines.specs.declared.receiving.Asked.{Asked}
-use Rattle.capture_engines.specs.declared.intake.Intake.{Intake}
-use Rattle.capture_engines.proofs.Taken.{HasText, file_read_if}
-use Rattle.capture_engines.specs.Received.{HasBehind, HasCaptureFault, HasRecordFault}
-use Rattle.capture_engines.specs.Received.{IsFrontRefusal}
-use Rattle.capture_engines.specs.Received.{FirstRefuses, IsCapturesRefusal, IsFileRefusal}
-use Rattle.capture_engines.specs.Received.{IsOpenedRefusal, IsTakeRefusal}
-use Rattle.capture_engines.specs.Sent.{FirstIs, OneIs}
 use Rattle.run_outcome.specs.declared.refusal.Refusal.{Refusal}
 use Rattle.run_outcome.specs.declared.refusal.Refusal.TheVariants as why
-use Rattle.capture_engines.proofs.OneOf.{first_one, one_behind}
+use Rattle.recording_reader.specs.Kinds.{is_recording}
+use Rattle.st_format.specs.History.{IsRead, since}
+use Rattle.capture_engines.specs.Files.{HasFileText, fault_by, first_way, flows_in, other_ways}
+use Rattle.capture_engines.specs.Files.{way_at}
+use Rattle.capture_engines.specs.Received.{FirstFileRefuses, HasCaptureFault}
+use Rattle.capture_engines.specs.Received.{IsCaptureBy, IsFileOpenedRefusal, IsFilesRefusal}
+use Rattle.capture_engines.specs.Received.{IsFrontRefusal}
+use Rattle.capture_engines.specs.Received.{IsTakeRefusal, OneFileIs, StopsFile}
+use Rattle.capture_engines.specs.Sent.{FirstIs}
+use Rattle.capture_engines.specs.Stopping.{IsReadingStop}
+use Rattle.capture_engines.specs.declared.way.Way.{Way}
+use Rattle.capture_engines.specs.declared.way.Way.TheVariants as way
 
--- ---- captures
+-- ---- a file
+
+-- what is known of a file at its reader's fault
+at_fault : {S : Type 0} (gave : S → List ℕ) (ended : S → Type 0) (r : FileReader S)
+    (g : ReadingFault) → r.standing ≡ Failed g → HasGivenFile gave ended r
+    → (octets : List ℕ) → IsRead r.before.gave (gave r.source) (ended r.source) octets
+    → IfFile g (HaveFileRecords r.flows octets r.records r.left_out × IsFileFault g octets)
+at_fault gave ended r g failed given octets read =
+    (subst (λ (s : Standing). IsKnownBy r.flows s octets r.records r.left_out) failed
+    (given octets read).known).1
+
+-- what was read, and nothing behind it
+read_itself : (before now : List ℕ) (ended : Type 0) → IsRead before now ended (since before now)
+read_itself before now ended =
+    record { behind = []; parts = sym (append-nil (since before now)); all = λ over. refl }
+
+-- a recording is read only by flows
+flows_there : {S : Type 0} (gave : S → List ℕ) (ended : S → Type 0) (r : FileReader S) (w : Way)
+    → r.flows ≡ flows_in w → (r.is_recording ≡ true → IsSome r.flows) → HasGivenFile gave ended r
+    → ((octets : List ℕ) → IsRead r.before.gave (gave r.source) (ended r.source) octets
+    → is_recording octets ≡ true) → IsSome (flows_in w)
+flows_there gave ended r w by kind given are =
+    let octets : List ℕ = since r.before.gave (gave r.source) in
+    let read : IsRead r.before.gave (gave r.source) (ended r.source) octets =
+    read_itself r.before.gave (gave r.source) (ended r.source) in
+    subst (λ (f : Option Flows). IsSome f) by
+    (kind (sym (given octets read).kind ∙ are octets read))
+
+-- what is wrong with a capture
+capture_wrong : (octets : List ℕ) (f : FileFault) → HasWrongPart octets f
+    → HasCaptureFault octets f
+capture_wrong octets f (inl front) = inl front
+capture_wrong octets f (inr (x, front, wrong)) = inr (
+  x,
+  front,
+  record {
+    records = wrong.records;
+    behind = wrong.behind;
+    fit = wrong.fit;
+    parts = wrong.parts;
+    fault = inl wrong.fault;
+  },
+)
+
+-- what begins as no recording is a capture, however it is taken
+pub plain_by : (w : Way) (octets : List ℕ) → is_recording octets ≡ false → IsCaptureBy w octets
+plain_by way.Capture octets kind = tt
+plain_by (way.Flows flows) octets kind = kind
+plain_by (way.Refused r) octets kind = kind
+
+-- its fault stops it
+fault_stops : {S : Type 0} (gave : S → List ℕ) (ended : S → Type 0) (r : FileReader S)
+    (w : Way) (g : ReadingFault) → r.flows ≡ flows_in w
+    → (r.is_recording ≡ true → IsSome r.flows) → HasGivenFile gave ended r
+    → ((octets : List ℕ) → IsRead r.before.gave (gave r.source) (ended r.source) octets
+    → IfFile g (HaveFileRecords r.flows octets r.records r.left_out × IsFileFault g octets))
+    → OfRefusal (fault_by g)
+    (StopsFile w (IsRead r.before.gave (gave r.source) (ended r.source)))
+fault_stops gave ended r w (Capture file.NoMemory) by kind given known = tt
+fault_stops gave ended r w (Capture file.Device) by kind given known = tt
+fault_stops gave ended r w (Capture f) by kind given known =
+    inl (
+      λ octets read. capture_wrong octets f (known octets read).1.1,
+      λ octets read. plain_by w octets (known octets read).1.0,
+    )
+fault_stops gave ended r w (Recording recording.Device) by kind given known = tt
+fault_stops gave ended r w (Recording f) by kind given known =
+    inr (inl (
+      flows_there gave ended r w by kind given (λ octets read. (known octets read).1.0),
+      λ octets read. (known octets read).1,
+    ))
+
+-- ---- a file's front, and its records
+
+-- a capture has as many as are taken
+capture_many : (octets text : List ℕ) (records : List Entry) → length records ≡ 16777216
+    → HasFirstRecords text records octets → HasCaptureFault octets file.TooManyRecords
+capture_many octets text records count has = inr (
+  (text, records_text records ++ has.behind),
+  has.front,
+  record {
+    records = records;
+    behind = has.behind;
+    fit = has.fit;
+    parts = refl;
+    fault = inr (refl, count);
+  },
+)
+
+-- a recording has no text
+no_text : (octets text : List ℕ) → is_recording octets ≡ true → text_of_file octets ≡ text
+    → text ≡ []
+no_text octets text kind same =
+    sym same ∙ ap (λ (b : Bool). cond b [] (text_before (front_at octets))) kind
+
+module _ {S : Type 0} (gave : S → List ℕ) (ended : S → Type 0) (r : FileReader S) (w : Way)
+    (by : r.flows ≡ flows_in w) (flows : r.is_recording ≡ true → IsSome r.flows)
+    (given : HasGivenFile gave ended r)
+    (parts : r.is_recording ≡ false → HasGivenRecords gave ended r) where
+  abbrev told : List ℕ → Type 0
+  told = IsRead r.before.gave (gave r.source) (ended r.source)
+
+  -- as many records as are taken stop it
+  pub many_stop : r.standing ≡ Reads → length r.records ≡ 16777216
+      → StopsFile w told (why.Capture file.TooManyRecords)
+  many_stop reads count = by_kind r.is_recording refl
+    where
+      by_kind : (b : Bool) → r.is_recording ≡ b
+          → StopsFile w told (why.Capture file.TooManyRecords)
+      by_kind false kind =
+          inl (
+            λ octets read. capture_many octets r.text r.records count (parts kind octets read),
+            λ octets read. plain_by w octets ((given octets read).kind ∙ kind),
+          )
+      by_kind true kind =
+          inr (inr (inl (
+            refl,
+            subst (λ (f : Option Flows). IsSome f) by (flows kind),
+            λ octets read. record {
+              records = r.records;
+              kind = (given octets read).kind ∙ kind;
+              first =
+                  subst (λ (f : Option Flows). AreFirst r.records (records_of_file f octets)) by
+                  (subst (λ (s : Standing). IsKnownBy r.flows s octets r.records r.left_out) reads
+                  (given octets read).known);
+              count = count;
+            },
+          )))
+
+  -- its octets have the text that was read
+  has_text : (octets : List ℕ) → told octets → HasFileText w octets r.text
+  has_text octets read = by_kind r.is_recording refl
+    where
+      by_kind : (b : Bool) → r.is_recording ≡ b → HasFileText w octets r.text
+      by_kind false kind =
+          inr (
+            records_text r.records ++ (parts kind octets read).behind,
+            (given octets read).kind ∙ kind,
+            (parts kind octets read).front,
+          )
+      by_kind true kind =
+          let is : is_recording octets ≡ true = (given octets read).kind ∙ kind in
+          inl (
+            is,
+            subst (λ (f : Option Flows). IsSome f) by (flows kind),
+            no_text octets r.text is (given octets read).text,
+          )
+
+  -- so a refusal of opening by it is one of the file
+  pub text_opens : (x : Refusal) (window text : List ℕ) → text ≡ r.text
+      → IsFrontRefusal window text x → IsFileOpenedRefusal window w told x
+  text_opens (why.Capture f) window text same is = absurd is
+  text_opens x window text same is = λ octets read. (
+    text,
+    subst (λ (t : List ℕ). HasFileText w octets t) (sym same) (has_text octets read),
+    is,
+  )
+
+-- what ended the reading of a file refuses it
+pub stop_refused : {S X : Type 0} (window : List ℕ) (w : Way) (begun : Option X)
+    (gave : S → List ℕ) (ended : S → Type 0) (r : FileReader S) (f : Fault)
+    → r.flows ≡ flows_in w → (r.is_recording ≡ true → IsSome r.flows)
+    → HasGivenFile gave ended r → (r.is_recording ≡ false → HasGivenRecords gave ended r)
+    → IsReadingStop r.standing (length r.records) f
+    → OfRefusal f (IsTakeRefusal window w begun
+    (IsRead r.before.gave (gave r.source) (ended r.source)))
+stop_refused window w begun gave ended r f by kind given parts (inl (g, failed, is)) =
+    let told : List ℕ → Type 0 = IsRead r.before.gave (gave r.source) (ended r.source) in
+    subst (λ (x : Fault). OfRefusal x (IsTakeRefusal window w begun told)) (sym is)
+    (of_refusal_map (fault_by g) (λ x stops. inl stops)
+    (fault_stops gave ended r w g by kind given (at_fault gave ended r g failed given)))
+stop_refused window w begun gave ended r f by kind given parts (inr (reads, is, count)) =
+    let told : List ℕ → Type 0 = IsRead r.before.gave (gave r.source) (ended r.source) in
+    subst (λ (x : Fault). OfRefusal x (IsTakeRefusal window w begun told)) (sym is)
+    (inl (many_stop gave ended r w by kind given parts reads count))
+
+-- and so does opening by its text
+pub text_refused : {S X : Type 0} (window text : List ℕ) (w : Way) (begun : Option X)
+    (gave : S → List ℕ) (ended : S → Type 0) (r : FileReader S) (f : Fault) → r.flows ≡ flows_in w
+    → (r.is_recording ≡ true → IsSome r.flows) → text ≡ r.text → HasGivenFile gave ended r
+    → (r.is_recording ≡ false → HasGivenRecords gave ended r)
+    → OfRefusal f (λ x. (begun ≡ None) × IsFrontRefusal window text x)
+    → OfRefusal f (IsTakeRefusal window w begun
+    (IsRead r.before.gave (gave r.source) (ended r.source)))
+text_refused window text w begun gave ended r f by kind same given parts of =
+    of_refusal_map f
+    (λ x is. inr (
+      is.0,
+      text_opens gave ended r w by kind given parts x window text same is.1,
+    ))
+    of
+
+-- so of a source that is lent to the reader, and is as it was left
+pub file_refused : {S T X V : Type 0} (window text : List ℕ) (w : Way) (begun : Option X)
+    (r : FileReader S) (at : S → T) (gave : T → List ℕ) (ended : T → Type 0) (old new : T)
+    (Taken Same : Type 0) (result : Result V Fault) → r.before.gave ≡ gave old
+    → new ≡ at r.source → r.flows ≡ flows_in w → (r.is_recording ≡ true → IsSome r.flows)
+    → text ≡ r.text → HasGivenFile (λ (s : S). gave (at s)) (λ (s : S). ended (at s)) r
+    → (r.is_recording ≡ false
+    → HasGivenRecords (λ (s : S). gave (at s)) (λ (s : S). ended (at s)) r)
+    → IfErr result (λ f. (Taken × IsReadingStop r.standing (length r.records) f)
+    ⊎ (Same × OfRefusal f (λ x. (begun ≡ None) × IsFrontRefusal window text x)))
+    → IfErr result (λ f. OfRefusal f (IsTakeRefusal window w begun
+    (IsRead (gave old) (gave new) (ended new))))
+file_refused window text w begun r at gave ended old new Taken Same (Ok v) before now by kind same
+    given parts stop = tt
+file_refused {S} {T} window text w begun r at gave ended old new Taken Same (Err f) before now by
+    kind same given parts stop =
+    subst (λ (t : T). OfRefusal f (IsTakeRefusal window w begun
+    (IsRead (gave old) (gave t) (ended t)))) (sym now)
+    (subst (λ (l : List ℕ). OfRefusal f (IsTakeRefusal window w begun
+    (IsRead l (gave (at r.source)) (ended (at r.source))))) before (refused stop))
+  where
+    refused : (Taken × IsReadingStop r.standing (length r.records) f)
+        ⊎ (Same × OfRefusal f (λ x. (begun ≡ None) × IsFrontRefusal window text x))
+        → OfRefusal f (IsTakeRefusal window w begun
+        (IsRead r.before.gave (gave (at r.source)) (ended (at r.source))))
+    refused (inl stop) =
+        stop_refused window w begun (λ (s : S). gave (at s)) (λ (s : S). ended (at s)) r f by kind
+        given parts stop.1
+    refused (inr of) =
+        text_refused window text w begun (λ (s : S). gave (at s)) (λ (s : S). ended (at s)) r f by
+        kind same given parts of.1
+
+-- what stopped a file before its records refuses it
+pub unopened_refused : {T X : Type 0} (window : List ℕ) (w : Way) (begun : Option X)
+    (gave : T → List ℕ) (ended : T → Type 0) (old new now : T) (f : Fault) → new ≡ now
+    → OfRefusal f (StopsFile w (IsRead (gave old) (gave now) (ended now)))
+    → OfRefusal f (IsTakeRefusal window w begun (IsRead (gave old) (gave new) (ended new)))
+unopened_refused {T} window w begun gave ended old new now f same stops =
+    subst (λ (t : T). OfRefusal f (IsTakeRefusal window w begun
+    (IsRead (gave old) (gave t) (ended t)))) (sym same)
+    (of_refusal_map f (λ x is. inl is) stops)
+
+-- ---- files, one after the other
 
 -- either none was taken yet, or a receiver is open
 abbrev pub HasStarted : {X : Type 0} → ℕ → Option X → Option X → Type 0
 HasStarted k before now = ((k ≡ 0) × (now ≡ before)) ⊎ (now ≡ None → ⊥)
 
-first_refuses : {S : Type 0} (window : List ℕ) (f : S → List ℕ → Type 0) (xs : List S)
-    (r : Refusal) → FirstIs (λ s. IsOpenedRefusal window (f s) r) xs → FirstRefuses window f xs r
-first_refuses window f [] r is = absurd is
-first_refuses window f (x ∷ xs) r is = is
+first_refuses : {S : Type 0} (window : List ℕ) (ways : List (Result Flows Refusal))
+    (f : S → List ℕ → Type 0) (xs : List S) (r : Refusal)
+    → FirstIs (λ s. IsFileOpenedRefusal window (first_way ways) (f s) r) xs
+    → FirstFileRefuses window ways f xs r
+first_refuses window ways f [] r is = absurd is
+first_refuses window ways f (x ∷ xs) r is = is
 
 -- the first is so, and something else holds
 both_first : {S : Type 0} (P : Type 0) (Is : S → Type 0) (xs : List S)
@@ -48,117 +288,59 @@ both_first : {S : Type 0} (P : Type 0) (Is : S → Type 0) (xs : List S)
 both_first P Is [] is = absurd is
 both_first P Is (x ∷ xs) is = is
 
-opened_first : {S X : Type 0} (window : List ℕ) (f : S → List ℕ → Type 0) (k : ℕ)
-    (start rest : List S) (before now : Option X) → rest ≡ drop k start → HasStarted k before now
-    → (r : Refusal) → (now ≡ None) × FirstIs (λ s. IsOpenedRefusal window (f s) r) rest
-    → (before ≡ None) × FirstRefuses window f start r
-opened_first {S} window f k start rest before now same (inl started) r is = (
+-- the first is one of two
+either_first : {S : Type 0} (Is Are : S → Type 0) (xs : List S) → FirstIs (λ s. Is s ⊎ Are s) xs
+    → FirstIs Is xs ⊎ FirstIs Are xs
+either_first Is Are [] is = absurd is
+either_first Is Are (x ∷ xs) is = is
+
+-- the one of a place is one of all
+one_at : {S : Type 0} (Is : Way → S → Type 0) (ways : List (Result Flows Refusal)) (k : ℕ)
+    (start : List S) → FirstIs (Is (way_at ways k)) (drop k start) → OneFileIs Is ways start
+one_at Is ways zero [] is = absurd is
+one_at Is ways (suc k) [] is = absurd is
+one_at Is ways zero (s ∷ ss) is = inl is
+one_at Is ways (suc k) (s ∷ ss) is = inr (one_at Is (other_ways ways) k ss is)
+
+opened_first : {S X : Type 0} (window : List ℕ) (ways : List (Result Flows Refusal))
+    (f : S → List ℕ → Type 0) (k : ℕ) (start rest : List S) (before now : Option X)
+    → rest ≡ drop k start → HasStarted k before now → (r : Refusal)
+    → (now ≡ None) × FirstIs (λ s. IsFileOpenedRefusal window (way_at ways k) (f s) r) rest
+    → (before ≡ None) × FirstFileRefuses window ways f start r
+opened_first {S} window ways f k start rest before now same (inl started) r is = (
   sym started.1 ∙ is.0,
-  first_refuses window f start r
-      (subst (λ (ys : List S). FirstIs (λ s. IsOpenedRefusal window (f s) r) ys)
-      (same ∙ ap (λ (n : ℕ). drop n start) started.0) is.1),
+  first_refuses window ways f start r
+      (subst (λ (n : ℕ). FirstIs (λ s. IsFileOpenedRefusal window (way_at ways n) (f s) r) start)
+      started.0
+      (subst (λ (ys : List S). FirstIs (λ s. IsFileOpenedRefusal window (way_at ways k) (f s) r)
+      ys) (same ∙ ap (λ (n : ℕ). drop n start) started.0) is.1)),
 )
-opened_first window f k start rest before now same (inr started) r is = absurd (started is.0)
-
--- a refusal of the records behind a capture's front is one of the capture
-pub records_refused : {X : Type 0} (window : List ℕ) (begun : Option X) (left : List ℕ → Type 0)
-    (text : List ℕ) (r : Refusal) → IsFileRefusal HasRecordFault left r
-    → IsTakeRefusal window begun (HasBehind left text) r
-records_refused window begun left text (why.Capture f) is = λ octets known.
-    inr ((text, known.0), known.2, is known.0 known.1)
-records_refused window begun left text r is = absurd is
-
--- and so is one of opening by its text, where no receiver is open
-pub text_refused : {X : Type 0} (window : List ℕ) (begun : Option X) (left : List ℕ → Type 0)
-    (text : List ℕ) → begun ≡ None → (r : Refusal) → IsFrontRefusal window text r
-    → IsTakeRefusal window begun (HasBehind left text) r
-text_refused window begun left text none (why.Capture f) is = absurd is
-text_refused window begun left text none r is =
-    (none, λ octets known. ((text, known.0), known.2, is))
-
--- what refuses all such captures refuses one that was read
-pub read_refused : {X : Type 0} (window : List ℕ) (begun : Option X)
-    (told left : List ℕ → Type 0) (text : List ℕ) → HasText told left text → (r : Refusal)
-    → IsTakeRefusal window begun (HasBehind left text) r → IsTakeRefusal window begun told r
-read_refused window begun told left text gives (why.Capture f) is = λ octets known.
-    is octets (gives octets known)
-read_refused window begun told left text gives r is =
-    (is.0, λ octets known. is.1 octets (gives octets known))
-
--- a fault of a capture's front
-pub front_refused : {X : Type 0} (window : List ℕ) (begun : Option X) (before now : List ℕ)
-    (ended : Type 0) (f : FileFault) → IsOfFront f → GaveFault front_at before now ended f
-    → OfRefusal (capture_fault f) (IsTakeRefusal window begun (IsRead before now ended))
-front_refused window begun before now ended Device named g = tt
-front_refused window begun before now ended BadName named g = λ octets q.
-    inl (fault_read front_at before now ended BadName octets g q)
-front_refused window begun before now ended BadVersion named g = λ octets q.
-    inl (fault_read front_at before now ended BadVersion octets g q)
-front_refused window begun before now ended Truncated named g = λ octets q.
-    inl (fault_read front_at before now ended Truncated octets g q)
-front_refused window begun before now ended f named g = absurd named
-
--- behind its front what was read has its text
-pub text_read : (before mid now text : List ℕ) (ended : Type 0)
-    → GaveValue front_at before mid text → GrewFrom mid now
-    → HasText (IsRead before now ended) (IsRead mid now ended) text
-text_read before mid now text ended g grew octets q =
-    let more : List ℕ = since mid now in
-    let rest : List ℕ = more ++ q.behind in
-    let parts : octets ≡ g.part ++ rest =
-    q.parts
-    ∙ ap (λ (l : List ℕ). l ++ q.behind)
-    (since_is before now (g.part ++ more)
-    (grew ∙ ap (λ (l : List ℕ). l ++ more) g.grown ∙ append_assoc before g.part more))
-    ∙ append_assoc g.part more q.behind in (
-      rest,
-      record { behind = q.behind; parts = refl; all = q.all },
-      ap front_at parts ∙ g.says rest,
-    )
-
--- what was taken behind a front that was read, of a source that is as it was left
-pub taken_read : {S A V E : Type 0} (o : Asked A) (gave : S → List ℕ) (ended : S → Type 0)
-    (old new now : S) (mid text : List ℕ) (b a : Option (Intake A)) (r : Result V E) → new ≡ now
-    → GaveValue front_at (gave old) mid text → GrewFrom mid (gave now)
-    → OnOk r (TakesFile o (HasBehind (IsRead mid (gave now) (ended now)) text) b a)
-    → OnOk r (TakesFile o (IsRead (gave old) (gave new) (ended new)) b a)
-taken_read {S} o gave ended old new now mid text b a r same g grew taken =
-    subst (λ (s : S). OnOk r (TakesFile o (IsRead (gave old) (gave s) (ended s)) b a)) (sym same)
-    (file_read_if o (IsRead (gave old) (gave now) (ended now))
-    (IsRead mid (gave now) (ended now)) text b a r
-    (text_read (gave old) mid (gave now) text (ended now) g grew) taken)
-
--- and what refused it
-pub refused_read : {S X V : Type 0} (window : List ℕ) (begun : Option X) (gave : S → List ℕ)
-    (ended : S → Type 0) (old new now : S) (mid text : List ℕ) (r : Result V Fault) → new ≡ now
-    → GaveValue front_at (gave old) mid text → GrewFrom mid (gave now)
-    → IfErr r (λ f. OfRefusal f
-    (IsTakeRefusal window begun (HasBehind (IsRead mid (gave now) (ended now)) text)))
-    → IfErr r (λ f. OfRefusal f
-    (IsTakeRefusal window begun (IsRead (gave old) (gave new) (ended new))))
-refused_read {S} window begun gave ended old new now mid text r same g grew refused =
-    subst (λ (s : S). IfErr r (λ f. OfRefusal f
-    (IsTakeRefusal window begun (IsRead (gave old) (gave s) (ended s))))) (sym same)
-    (if_err_map r
-    (λ e. of_refusal_map e
-    (read_refused window begun (IsRead (gave old) (gave now) (ended now))
-    (IsRead mid (gave now) (ended now)) text
-    (text_read (gave old) mid (gave now) text (ended now) g grew))) refused)
+opened_first window ways f k start rest before now same (inr started) r is =
+    absurd (started is.0)
 
 -- a refusal of the one that is taken next is one of all
-pub next_refuses : {S X : Type 0} (window : List ℕ) (f : S → List ℕ → Type 0) (k : ℕ)
-    (start rest : List S) (before begun : Option X) → rest ≡ drop k start
-    → HasStarted k before begun → (r : Refusal)
-    → FirstIs (λ s. IsTakeRefusal window begun (f s) r) rest
-    → IsCapturesRefusal window before f start r
-next_refuses {S} window f k start rest before begun behind started (why.Capture e) is =
-    let Is : S → Type 0 = λ s. IsFileRefusal HasCaptureFault (f s) (why.Capture e) in
-    one_behind Is k start (subst (λ (ys : List S). OneIs Is ys) behind (first_one Is rest is))
-next_refuses window f k start rest before begun behind started r is =
-    opened_first window f k start rest before begun behind started r
-    (both_first (begun ≡ None) (λ s. IsOpenedRefusal window (f s) r) rest is)
+pub next_refuses : {S X : Type 0} (window : List ℕ) (ways : List (Result Flows Refusal))
+    (f : S → List ℕ → Type 0) (k : ℕ) (start rest : List S) (before begun : Option X)
+    → rest ≡ drop k start → HasStarted k before begun → (r : Refusal)
+    → FirstIs (λ s. IsTakeRefusal window (way_at ways k) begun (f s) r) rest
+    → IsFilesRefusal window before ways f start r
+next_refuses {S} window ways f k start rest before begun behind started r is =
+    by (either_first (λ s. StopsFile (way_at ways k) (f s) r)
+    (λ s. (begun ≡ None) × IsFileOpenedRefusal window (way_at ways k) (f s) r) rest is)
+  where
+    by : FirstIs (λ s. StopsFile (way_at ways k) (f s) r) rest
+        ⊎ FirstIs (λ s. (begun ≡ None) × IsFileOpenedRefusal window (way_at ways k) (f s) r) rest
+        → IsFilesRefusal window before ways f start r
+    by (inl stops) =
+        inl (one_at (λ w s. StopsFile w (f s) r) ways k start
+        (subst (λ (ys : List S). FirstIs (λ s. StopsFile (way_at ways k) (f s) r) ys) behind
+        stops))
+    by (inr opened) =
+        inr (opened_first window ways f k start rest before begun behind started r
+        (both_first (begun ≡ None)
+        (λ s. IsFileOpenedRefusal window (way_at ways k) (f s) r) rest opened))
 
--- where no receiver is open at the end, no capture was there
+-- where no receiver is open at the end, no file was there
 pub none_started : {S X : Type 0} (k : ℕ) (start : List S) (before now : Option X)
     → HasStarted k before now → length start ≤ k → now ≡ None → (before ≡ None) × (start ≡ [])
 none_started k start before now (inl started) all none =
@@ -169,9 +351,10 @@ none_started k start before now (inl started) all none =
     empty (x ∷ xs) is = absurd (omega arith)
 none_started k start before now (inr started) all none = absurd (started none)
 
--- a refusal of the captures where none has begun is one where no SDP is given
-pub captures_refused : {S X Y : Type 0} (window : List ℕ) (begun : Option X) (sdp : Option Y)
-    (f : S → List ℕ → Type 0) (captures : List S) → (begun ≡ None → sdp ≡ None) → (r : Refusal)
-    → IsCapturesRefusal window begun f captures r → IsCapturesRefusal window sdp f captures r
-captures_refused window begun sdp f captures none (why.Capture e) is = is
-captures_refused window begun sdp f captures none r is = (none is.0, is.1)
+-- a refusal of the files where none has begun is one where no SDP is given
+pub files_refused : {S X Y : Type 0} (window : List ℕ) (begun : Option X) (sdp : Option Y)
+    (ways : List (Result Flows Refusal)) (f : S → List ℕ → Type 0) (files : List S)
+    → (begun ≡ None → sdp ≡ None) → (r : Refusal) → IsFilesRefusal window begun ways f files r
+    → IsFilesRefusal window sdp ways f files r
+files_refused window begun sdp ways f files none r (inl stops) = inl stops
+files_refused window begun sdp ways f files none r (inr (is, first)) = inr (none is, first)

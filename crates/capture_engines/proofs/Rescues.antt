@@ -1,12 +1,10 @@
--- Captures that are taken up to a fault.
-use Rattle.std.proofs.Common.{◌≡◌, ℕ, zero, suc, ◌⊎◌, inl, inr, List, [], ◌∷◌, ◌++◌, Option}
-use Rattle.std.proofs.Common.{None, Some, refl, sym, ap, subst, ◌∙◌, append-nil, drop}
+-- Files that are taken up to a fault.
+use Rattle.std.proofs.Common.{◌≡◌, ℕ, zero, suc, inl, inr, List, [], ◌∷◌, ◌++◌, Option}
+use Rattle.std.proofs.Common.{None, Some, refl, sym, ap, subst, ◌∙◌, append-nil, drop, length}
 use Rattle.std.proofs.Common.{take, Bool}
-use Rattle.std.specs.List.{flat_map, zip}
-use Rattle.std.specs.Prelude.{IfErr, MatchOption, OnErr, OnOk, Result, Ok, Err, ⊤}
-use Rattle.st_format.specs.History.{GrewFrom, IsRead, since}
-use Rattle.st_format.specs.Given.{GaveValue}
-use Rattle.media_file.specs.Fronts.{front_at}
+use Rattle.std.specs.List.{zip}
+use Rattle.std.specs.Prelude.{IfErr, MatchOption, OnOk, Result, Ok, Err, ⊤}
+use Rattle.flow.specs.declared.flows.Flows.{Flows}
 use Rattle.media_file.specs.StateFile.{state_text}
 use Rattle.receiver_file.specs.Saved.{kept_of}
 use Rattle.run_outcome.specs.Fault.{IfRefused}
@@ -18,20 +16,19 @@ use Rattle.run_outcome.specs.declared.fault.Fault.{Fault}
 use Rattle.run_outcome.specs.declared.fault.Fault.TheVariants.{Refused, Device, Memory}
 use Rattle.run_outcome.specs.declared.refusal.Refusal.{Refusal}
 use Rattle.capture_engines.specs.Counted.{CountsHolding, CountsReceived}
+use Rattle.capture_engines.specs.Files.{files_datagrams, way_at}
 use Rattle.capture_engines.specs.Printed.{received_text, tally_text}
-use Rattle.capture_engines.specs.Received.{HasBehind}
-use Rattle.capture_engines.specs.Rescued.{Rescues, TakesPart, TakesUpTo}
+use Rattle.capture_engines.specs.Rescued.{Front, IsFrontOf, Rescues, TakesPart, TakesUpTo}
+use Rattle.capture_engines.specs.Rescued.{datagrams_if, said_if}
 use Rattle.capture_engines.specs.Sent.{FirstIs}
-use Rattle.capture_engines.specs.Taking.{AnnouncesStream, AreRead, HoldsBy}
-use Rattle.capture_engines.specs.Taking.{Stands, TakesFile, TakesFiles, TakesRecords}
-use Rattle.capture_engines.specs.Taking.{capture_datagrams, said_behind}
+use Rattle.capture_engines.specs.Taking.{AnnouncesStream, AreRead, Stands, TakesFiles}
+use Rattle.capture_engines.specs.declared.way.Way.{Way}
+use Rattle.capture_engines.specs.Taking.{said_behind}
 use Rattle.capture_engines.specs.declared.intake.Intake.{Intake}
 use Rattle.capture_engines.specs.declared.receiving.Asked.{Asked}
 use Rattle.capture_engines.specs.declared.reception.Reception.{Reception}
-use Rattle.capture_engines.proofs.InOrder.{datagrams_then, said_then, saves_held, some_is}
+use Rattle.capture_engines.proofs.InOrder.{saves_held, some_is}
 use Rattle.capture_engines.proofs.OneOf.{zip_none}
-use Rattle.capture_engines.proofs.ReceivedRefusals.{text_read}
-use Rattle.capture_engines.proofs.Taken.{file_read, file_taken, first_taken}
 
 -- ---- facts of what went well
 
@@ -51,12 +48,18 @@ counted_if {X = X} (Ok v) o x Is is same =
     subst (λ (y : Option X). MatchOption y ⊥ Is) (sym same) is
 counted_if (Err e) o x Is is same = tt
 
-pub rescued_if : {V E X : Type 0} (r : Result V E) (o : Option X) (P Q : Type 0) (x : X)
-    (Is : X → Type 0) → (P → Q → (y : X) → y ≡ x → Is y) → MatchOption o ⊤ (λ _. P)
-    → MatchOption o ⊤ (λ _. Q) → MatchOption o ⊤ (λ y. y ≡ x) → OnErr r (MatchOption o ⊤ Is)
-rescued_if (Ok v) o P Q x Is then p q is = tt
-rescued_if (Err e) None P Q x Is then p q is = tt
-rescued_if (Err e) (Some y) P Q x Is then p q is = then p q y is
+err_is : {V : Type 0} (r : Result V Fault) (a b : Fault) → r ≡ Err a → r ≡ Err b → a ≡ b
+err_is r a b here there = cc
+
+pub rescued_if : {V X : Type 0} (r : Result V Fault) (o : Option X) (fault : Fault)
+    (P Q : Type 0) (x : X) (Is : Fault → X → Type 0)
+    → (P → Q → (y : X) → y ≡ x → Is fault y) → MatchOption o ⊤ (λ _. P)
+    → MatchOption o ⊤ (λ _. Q) → MatchOption o ⊤ (λ y. y ≡ x)
+    → MatchOption o ⊤ (λ _. r ≡ Err fault) → IfErr r (λ f. MatchOption o ⊤ (Is f))
+rescued_if (Ok v) o fault P Q x Is then p q is same = tt
+rescued_if (Err e) None fault P Q x Is then p q is same = tt
+rescued_if (Err e) (Some y) fault P Q x Is then p q is same =
+    subst (λ (f : Fault). Is f y) (err_is (Err e) fault e same refl) (then p q y is)
 
 -- a fault that came behind others, where it is a refusal the first
 pub part_refused : {V : Type 0} (r : Result V Fault) (fault : Fault) (P : Refusal → Type 0)
@@ -67,35 +70,7 @@ part_refused (Err (Refused x)) fault P of is = subst (λ (f : Fault). OfRefusal 
 part_refused (Err Device) fault P of is = tt
 part_refused (Err Memory) fault P of is = tt
 
--- ---- one capture
-
-pub file_part : {A : Type 0} (o : Asked A) (begun : Option (Intake A)) (b a : Intake A)
-    (left : List ℕ → Type 0) (text : List ℕ) → begun ≡ Some b → TakesRecords left b a
-    → TakesFile o (HasBehind left text) begun (Some a)
-file_part {A} o begun b a left text is taken =
-    subst (λ (s : Option (Intake A)). TakesFile o (HasBehind left text) s (Some a)) (sym is)
-    (file_taken o b a (HasBehind left text) left text (λ octets is. is) taken)
-
-pub first_part : {A : Type 0} (o : Asked A) (begun : Option (Intake A)) (b a : Intake A)
-    (left : List ℕ → Type 0) (text : List ℕ) → begun ≡ None → HoldsBy o text b []
-    → TakesRecords left b a → TakesFile o (HasBehind left text) begun (Some a)
-first_part {A} o begun b a left text is opened taken =
-    subst (λ (s : Option (Intake A)). TakesFile o (HasBehind left text) s (Some a)) (sym is)
-    (first_taken o b a (HasBehind left text) left text (λ octets is. is) taken opened)
-
--- what was taken behind a front that was read, of a source that is as it was left
-pub part_read : {S A : Type 0} (o : Asked A) (gave : S → List ℕ) (old new now : S)
-    (mid text : List ℕ) (b a : Option (Intake A)) → new ≡ now → GaveValue front_at (gave old) mid text
-    → GrewFrom mid (gave now)
-    → TakesFile o (HasBehind (IsRead mid (gave now) ⊤) text) b a ⊎ (a ≡ b)
-    → TakesPart o gave b a (old, new)
-part_read {S} o gave old new now mid text b a same g grew (inl taken) =
-    inl (subst (λ (s : S). TakesFile o (IsRead (gave old) (gave s) ⊤) b a) (sym same)
-    (file_read o (IsRead (gave old) (gave now) ⊤) (IsRead mid (gave now) ⊤) text b a
-    (text_read (gave old) mid (gave now) text ⊤ g grew) taken))
-part_read o gave old new now mid text b a same g grew (inr none) = inr none
-
--- ---- captures
+-- ---- files
 
 zip_parts : {S : Type 0} (k : ℕ) (xs ys : List S)
     → zip xs ys ≡ zip (take k xs) (take k ys) ++ zip (drop k xs) (drop k ys)
@@ -115,15 +90,30 @@ opened : {S : Type 0} (Is : S → Type 0) (xs : List S) → FirstIs Is xs → Op
 opened Is [] is = absurd is
 opened Is (x ∷ xs) is = record { first = x; rest = xs; whole = refl; is = is }
 
-pub taken_up_to : {S A : Type 0} (o : Asked A) (gave : S → List ℕ) (ended : S → Type 0)
-    (start now new : List S) (k : ℕ) (before b a : Option (Intake A))
-    → TakesFiles o (WasRead gave ended) (zip (take k start) (take k now)) before b
+-- so many are there before it
+parts_counted : {S : Type 0} (Is : S × S → Type 0) (k : ℕ) (xs ys : List S)
+    → FirstIs Is (zip (drop k xs) (drop k ys)) → length (zip (take k xs) (take k ys)) ≡ k
+parts_counted Is zero xs ys is = refl
+parts_counted Is (suc k) [] ys is = absurd is
+parts_counted {S} Is (suc k) (x ∷ xs) [] is =
+    absurd (subst (FirstIs Is) (zip_none (drop k xs)) is)
+parts_counted Is (suc k) (x ∷ xs) (y ∷ ys) is = ap suc (parts_counted Is k xs ys is)
+
+pub taken_up_to : {S A : Type 0} (o : Asked A) (ways : List (Result Flows Refusal))
+    (gave : S → List ℕ) (ended : S → Type 0) (f : Fault) (start now new : List S) (k : ℕ)
+    (before b a : Option (Intake A))
+    → TakesFiles o ways (WasRead gave ended) (zip (take k start) (take k now)) before b
     → take k new ≡ take k now → drop k now ≡ drop k start
-    → FirstIs (TakesPart o gave b a) (zip (drop k now) (drop k new))
-    → TakesUpTo o gave ended (zip start new) before a
-taken_up_to {S} o gave ended start now new k before b a files front behind one =
-    let x : Opened (TakesPart o gave b a) (zip (drop k now) (drop k new)) =
-    opened (TakesPart o gave b a) (zip (drop k now) (drop k new)) one in
+    → FirstIs (TakesPart o (way_at ways k) gave ended f b a) (zip (drop k now) (drop k new))
+    → TakesUpTo o ways gave ended f (zip start new) before a
+taken_up_to {S} o ways gave ended f start now new k before b a files front behind one =
+    let Is : S × S → Type 0 = TakesPart o (way_at ways k) gave ended f b a in
+    let x : Opened Is (zip (drop k now) (drop k new)) =
+    opened Is (zip (drop k now) (drop k new)) one in
+    let counted : length (zip (take k start) (take k now)) ≡ k =
+    ap (λ (l : List S). length (zip (take k start) l)) (sym front)
+    ∙ parts_counted Is k start new
+    (subst (λ (l : List S). FirstIs Is (zip l (drop k new))) behind one) in
     record {
       front = zip (take k start) (take k now);
       at = x.first;
@@ -134,49 +124,47 @@ taken_up_to {S} o gave ended start now new k before b a files front behind one =
           ∙ ap (λ (l : List (S × S)). zip (take k start) (take k now) ++ l) x.whole;
       between = b;
       whole = files;
-      part = x.is;
+      part = subst (λ (m : ℕ). TakesPart o (way_at ways m) gave ended f b a x.first) (sym counted)
+          x.is;
     }
 
 -- ---- the receiver that took them is written
 
--- a receiver stands by what was read of the captures before a fault, and of the one that has it
-record PartStands {S A : Type 0} (o : Asked A) (gave : S → List ℕ) (ended : S → Type 0)
-    (front : List (S × S)) (at : S × S) (said : Option (List ℕ)) (s : Intake A) : Type 0 where
-  pub part : List (List ℕ)
-  pub part_is : (part ≡ since (gave at.0) (gave at.1) ∷ []) ⊎ (part ≡ [])
+-- a receiver stands by what was read of the files before a fault, and of the one that has it
+record PartStands {S A : Type 0} (o : Asked A) (ways : List (Result Flows Refusal)) (w : Way)
+    (gave : S → List ℕ) (ended : S → Type 0) (f : Fault) (front : List (S × S)) (at : S × S)
+    (said : Option (List ℕ)) (s : Intake A) : Type 0 where
+  pub part : Option Front
+  pub part_is : MatchOption part ⊤ (IsFrontOf w gave ended f at)
   pub stands : (octets : List (List ℕ)) → AreRead (WasRead gave ended) front octets
-      → Stands o (Some s) (said_behind said (octets ++ part))
-      (flat_map capture_datagrams (octets ++ part))
+      → Stands o (Some s) (said_if (said_behind said octets) part)
+      (files_datagrams ways octets ++ datagrams_if part)
 
-part_stands : {S A : Type 0} (o : Asked A) (gave : S → List ℕ) (ended : S → Type 0)
-    (front : List (S × S)) (at : S × S) (said : Option (List ℕ)) (begun between : Option (Intake A))
-    (s : Intake A) → Stands o begun said [] → TakesFiles o (WasRead gave ended) front begun between
-    → TakesPart o gave between (Some s) at → PartStands o gave ended front at said s
-part_stands o gave ended front at said begun between s begins files (inl file) =
-    let p : List ℕ = since (gave at.0) (gave at.1) in
-    let given : IsRead (gave at.0) (gave at.1) ⊤ p =
-    record { behind = []; parts = sym (append-nil p); all = λ over. refl } in
+part_stands : {S A : Type 0} (o : Asked A) (ways : List (Result Flows Refusal)) (w : Way)
+    (gave : S → List ℕ) (ended : S → Type 0) (f : Fault) (front : List (S × S)) (at : S × S)
+    (said : Option (List ℕ)) (begun between : Option (Intake A)) (s : Intake A)
+    → Stands o begun said [] → TakesFiles o ways (WasRead gave ended) front begun between
+    → TakesPart o w gave ended f between (Some s) at
+    → PartStands o ways w gave ended f front at said s
+part_stands o ways w gave ended f front at said begun between s begins files (inl (p, is, taken)) =
     record {
-      part = p ∷ [];
-      part_is = inl refl;
+      part = Some p;
+      part_is = is;
       stands = λ octets tell.
-          subst (λ (t : Option (List ℕ)). Stands o (Some s) t
-          (flat_map capture_datagrams (octets ++ p ∷ []))) (said_then said octets p)
-          (subst (λ (l : List (List ℕ)). Stands o (Some s)
-          (said_behind (said_behind said octets) (p ∷ [])) l) (datagrams_then [] octets p)
-          (file.stands p (said_behind said octets) (flat_map capture_datagrams octets) given
-          (files.stands octets said [] tell begins)));
+          taken.stands (said_behind said octets) (files_datagrams ways octets)
+          (files.stands octets said [] tell begins);
     }
-part_stands {A = A} o gave ended front at said begun between s begins files (inr same) = record {
-  part = [];
-  part_is = inr refl;
-  stands = λ octets tell.
-      subst (λ (l : List (List ℕ)). Stands o (Some s) (said_behind said l)
-      (flat_map capture_datagrams l)) (sym (append-nil octets))
-      (subst (λ (x : Option (Intake A)). Stands o x (said_behind said octets)
-      (flat_map capture_datagrams octets)) (sym same)
-      (files.stands octets said [] tell begins));
-}
+part_stands {A = A} o ways w gave ended f front at said begun between s begins files (inr same) =
+    record {
+      part = None;
+      part_is = tt;
+      stands = λ octets tell.
+          subst (λ (l : List (List ℕ)). Stands o (Some s) (said_behind said octets) l)
+          (sym (append-nil (files_datagrams ways octets)))
+          (subst (λ (x : Option (Intake A)). Stands o x (said_behind said octets)
+          (files_datagrams ways octets)) (sym same)
+          (files.stands octets said [] tell begins));
+    }
 
 counts_held : {A : Type 0} (o : Asked A) (window source : List ℕ) (Is : List ℕ → Type 0)
     (said : Option (List ℕ)) (s : Intake A) (ds : List (List ℕ)) (r : Reception)
@@ -198,31 +186,35 @@ counts_held o window source Is (Some said) s ds r is_window is_source stands ope
     })
 
 pub counts : {S A : Type 0} (o : Asked A) (window source : List ℕ) (sdp : Option (List ℕ))
-    (f : S → List ℕ → Type 0) (captures : List S) (begun : Option (Intake A)) (s : Intake A)
-    (r : Reception) → AreTimestamps window o.window.items → IsSourceText source o.ssrc
-    → Stands o begun sdp [] → TakesFiles o f captures begun (Some s)
+    (ways : List (Result Flows Refusal)) (f : S → List ℕ → Type 0) (files : List S)
+    (begun : Option (Intake A)) (s : Intake A) (r : Reception)
+    → AreTimestamps window o.window.items → IsSourceText source o.ssrc
+    → Stands o begun sdp [] → TakesFiles o ways f files begun (Some s)
     → r ≡ record { delivered = s.delivered; tally = s.tally }
-    → CountsReceived window source sdp f captures r
-counts o window source sdp f captures begun s r is_window is_source begins files is = record {
+    → CountsReceived window source sdp ways f files r
+counts o window source sdp ways f files begun s r is_window is_source begins taken is = record {
   counted = λ octets tell.
       counts_held o window source (λ text. said_behind sdp octets ≡ Some text)
-      (said_behind sdp octets) s (flat_map capture_datagrams octets) r is_window is_source
-      (files.stands octets sdp [] tell begins) (λ text is. is) is;
+      (said_behind sdp octets) s (files_datagrams ways octets) r is_window is_source
+      (taken.stands octets sdp [] tell begins) (λ text is. is) is;
 }
 
 pub rescues : {S A : Type 0} (o : Asked A) (window source : List ℕ) (sdp : Option (List ℕ))
-    (gave : S → List ℕ) (ended : S → Type 0) (captures : List (S × S))
-    (begun : Option (Intake A)) (s : Intake A) (wanted : Bool) (shown shown' old new : List ℕ)
-    (r : Reception) → AreTimestamps window o.window.items → IsSourceText source o.ssrc
-    → Stands o begun sdp [] → TakesUpTo o gave ended captures begun (Some s)
+    (ways : List (Result Flows Refusal)) (gave : S → List ℕ) (ended : S → Type 0) (f : Fault)
+    (files : List (S × S)) (begun : Option (Intake A)) (s : Intake A) (wanted : Bool)
+    (shown shown' old new : List ℕ) (r : Reception) → AreTimestamps window o.window.items
+    → IsSourceText source o.ssrc → Stands o begun sdp []
+    → TakesUpTo o ways gave ended f files begun (Some s)
     → shown' ≡ shown ++ received_text wanted s.delivered (tally_text s.tally) s.receiver
     → new ≡ old ++ state_text (kept_of s.receiver)
     → r ≡ record { delivered = s.delivered; tally = s.tally }
-    → Rescues window source sdp gave ended captures wanted shown shown' old new r
-rescues o window source sdp gave ended captures begun s wanted shown shown' old new r is_window
+    → Rescues window source sdp ways gave ended f files wanted shown shown' old new r
+rescues o window source sdp ways gave ended f files begun s wanted shown shown' old new r is_window
     is_source begins up printed taken is =
-    let x : PartStands o gave ended up.front up.at sdp s =
-    part_stands o gave ended up.front up.at sdp begun up.between s begins up.whole up.part in
+    let w : Way = way_at ways (length up.front) in
+    let x : PartStands o ways w gave ended f up.front up.at sdp s =
+    part_stands o ways w gave ended f up.front up.at sdp begun up.between s begins up.whole up.part
+    in
     record {
       front = up.front;
       at = up.at;
@@ -231,13 +223,15 @@ rescues o window source sdp gave ended captures begun s wanted shown shown' old 
       part = x.part;
       part_is = x.part_is;
       saved = λ octets tell.
-          saves_held o window source (λ text. said_behind sdp (octets ++ x.part) ≡ Some text)
-          (said_behind sdp (octets ++ x.part)) s
-          (flat_map capture_datagrams (octets ++ x.part)) wanted shown shown' old new is_window
-          is_source (x.stands octets tell) (λ text is. is) printed taken;
+          saves_held o window source
+          (λ text. said_if (said_behind sdp octets) x.part ≡ Some text)
+          (said_if (said_behind sdp octets) x.part) s
+          (files_datagrams ways octets ++ datagrams_if x.part) wanted shown shown' old new
+          is_window is_source (x.stands octets tell) (λ text is. is) printed taken;
       counted = λ octets tell.
-          counts_held o window source (λ text. said_behind sdp (octets ++ x.part) ≡ Some text)
-          (said_behind sdp (octets ++ x.part)) s
-          (flat_map capture_datagrams (octets ++ x.part)) r is_window is_source
+          counts_held o window source
+          (λ text. said_if (said_behind sdp octets) x.part ≡ Some text)
+          (said_if (said_behind sdp octets) x.part) s
+          (files_datagrams ways octets ++ datagrams_if x.part) r is_window is_source
           (x.stands octets tell) (λ text is. is) is;
     }

@@ -1,180 +1,150 @@
--- What was taken of one capture.
-use Rattle.std.proofs.Common.{◌≡◌, ℕ, ◌+◌, ◌-◌, ◌^◌, min, List, [], ◌∷◌, ◌++◌, length}
-use Rattle.std.proofs.Common.{Option, None, Some, Result, Ok, Err, refl, sym, ap}
-use Rattle.std.proofs.Common.{map, subst, ◌∙◌, arith, append-nil, length-append}
+-- What was taken of one file.
+use Rattle.std.proofs.Common.{◌≡◌, ℕ, ◌+◌, List, [], ◌∷◌, ◌++◌, length, map}
+use Rattle.std.proofs.Common.{Option, None, Some, Result, refl, sym, ap, subst, ◌∙◌, arith}
+use Rattle.std.proofs.Common.{append-nil, append_assoc, length-append}
 use Rattle.std.proofs.lemmas.List.{map-append}
-use Rattle.std.specs.Prelude.{OnOk}
-use Rattle.st_format.specs.Raster.{Raster}
-use Rattle.st_format.specs.Turns.{Due, datagrams_of}
-use Rattle.capture_engines.specs.Received.{HasBehind}
-use Rattle.media_file.specs.Fronts.{front_at}
-use Rattle.media_file.specs.Reader.{dues_in}
-use Rattle.path_merge.specs.Frames.{Holds, State, frames_of, joined_frames}
-use Rattle.path_merge.specs.Opening.{Opening}
-use Rattle.path_merge.specs.Answers.{taken_at}
-use Rattle.path_merge.specs.Took.{HearsAll, TakesDue}
-use Rattle.path_merge.specs.declared.answer.Refusal.{Refusal}
-use Rattle.path_merge.specs.declared.answer.Taken.{Taken as Answer}
-use Rattle.path_merge.proofs.Frames.{frames_of-append}
-use Rattle.capture_engines.specs.Tallied.{Tallies, tally_after}
-use Rattle.capture_engines.specs.declared.tally.Tally.{Tally}
-use Rattle.capture_engines.proofs.Tallies.{tallies_all}
-use Rattle.capture_engines.specs.Taking.{TakesFile}
-use Rattle.capture_engines.specs.Taking.{AnnouncesStream, Counts, HoldsBy, Stands}
-use Rattle.capture_engines.specs.Taking.{TakesRecords, capture_datagrams, capture_said}
-use Rattle.capture_engines.specs.Taking.{datagrams_behind, said_before, said_behind}
-use Rattle.capture_engines.specs.declared.receiving.Asked.{Asked}
+use Rattle.std.specs.Prelude.{option_to_list}
+use Rattle.media_file.specs.Records.{Entry}
+use Rattle.path_receiver.specs.Answers.{taken_at}
+use Rattle.path_receiver.specs.Frames.{Holds}
+use Rattle.path_receiver.specs.Opening.{Opening}
+use Rattle.path_receiver.specs.declared.answer.Refusal.{Refusal}
+use Rattle.path_receiver.specs.declared.answer.Taken.{Taken as Answer}
+use Rattle.recording_reader.specs.FileReader.{FileReader, FindsOne, record_seen}
+use Rattle.recording_reader.specs.declared.room.RecordView.{RecordView}
+use Rattle.capture_engines.specs.Files.{octets_of}
+use Rattle.path_receiver.specs.Tallied.{Tallies, TalliesMore, fitting}
+use Rattle.capture_engines.specs.Taking.{AnnouncesStream, Counts, HoldsBy, Stands, TakesDatagrams}
+use Rattle.capture_engines.specs.Taking.{TakesRecords, said_by}
 use Rattle.capture_engines.specs.declared.intake.Intake.{Intake}
+use Rattle.capture_engines.specs.declared.receiving.Asked.{Asked}
+use Rattle.path_receiver.specs.declared.tally.Tally.{Tally}
+
+-- ---- datagrams
+
+pub takes_none : {A : Type 0} (s : Intake A) → TakesDatagrams [] s s
+takes_none s = record {
+  opening = refl;
+  holds = λ earlier holds. subst (Holds s.receiver) (sym (append-nil earlier)) holds;
+  tallied = λ earlier counts. subst (Counts s) (sym (append-nil earlier)) counts;
+  delivered = λ count is. is ∙ ap fitting (omega arith);
+}
+
+pub takes_then : {A : Type 0} (xs ys : List (List ℕ)) (a b c : Intake A) → TakesDatagrams xs a b
+    → TakesDatagrams ys b c → TakesDatagrams (xs ++ ys) a c
+takes_then xs ys a b c first more = record {
+  opening = more.opening ∙ first.opening;
+  holds = λ earlier holds.
+      subst (Holds c.receiver) (append_assoc earlier xs ys)
+      (more.holds (earlier ++ xs) (first.holds earlier holds));
+  tallied = λ earlier counts.
+      subst (Counts c) (append_assoc earlier xs ys)
+      (more.tallied (earlier ++ xs) (first.tallied earlier counts));
+  delivered = λ count is.
+      more.delivered (count + length xs) (first.delivered count is)
+      ∙ ap fitting (omega (arith, length-append xs ys));
+}
+
+-- the answer to one datagram more was counted
+pub counts_one : (o p : Opening) (t u : Tally) (octets : List ℕ) (answer : Result Answer Refusal)
+    → answer ≡ taken_at o octets → p ≡ o → TalliesMore t u answer → (earlier : List (List ℕ))
+    → Tallies t (map (taken_at o) earlier)
+    → Tallies u (map (taken_at p) (earlier ++ octets ∷ []))
+counts_one o p t u octets answer is same more earlier counts =
+    subst (Tallies u)
+    (ap (λ (x : Result Answer Refusal). map (taken_at o) earlier ++ x ∷ []) is
+    ∙ sym (map-append (taken_at o) earlier (octets ∷ []))
+    ∙ ap (λ (q : Opening). map (taken_at q) (earlier ++ octets ∷ [])) (sym same))
+    (more (map (taken_at o) earlier) counts)
 
 -- ---- records
 
-pub holds_more : (n : ℕ) (due : List Due) (s t : State) (all ds : List (List ℕ))
-    → TakesDue due n s t → all ≡ datagrams_of due → Holds s ds → Holds t (ds ++ all)
-holds_more n due s t all ds taken is holds =
-    let xs : List (List ℕ) = datagrams_of due in
-    taken.frames ∙ ap (λ (rs : List Raster). joined_frames rs (frames_of s.opening xs)) holds
-    ∙ sym (frames_of-append s.opening ds xs)
-    ∙ ap (λ (o : Opening). frames_of o (ds ++ xs)) (sym taken.opening)
-    ∙ ap (λ (ts : List (List ℕ)). frames_of t.opening (ds ++ ts)) (sym is)
+-- the one that is at hand, by its borrowed octets
+pub takes_hand : {A : Type 0} (hand : Option Entry) (r : RecordView) (a b : Intake A)
+    → record_seen (Some r) ≡ hand → TakesDatagrams (r.octets.now ∷ []) a b
+    → TakesDatagrams (octets_of (option_to_list hand)) a b
+takes_hand hand r a b same taken =
+    subst (λ (h : Option Entry). TakesDatagrams (octets_of (option_to_list h)) a b) same taken
 
--- the answers to datagrams
-abbrev answers : Opening → List (List ℕ) → List (Result Answer Refusal)
-answers o datagrams = map (taken_at o) datagrams
+pub takes_no_hand : {A : Type 0} (hand : Option Entry) (s : Intake A) → record_seen None ≡ hand
+    → TakesDatagrams (octets_of (option_to_list hand)) s s
+takes_no_hand hand s same =
+    subst (λ (h : Option Entry). TakesDatagrams (octets_of (option_to_list h)) s s) same
+    (takes_none s)
 
-counts_more : {A : Type 0} (due : List Due) (b a : Intake A) (octets : List ℕ)
-    (ds : List (List ℕ))
-    → HearsAll (λ t answer. tally_after answer t) b.receiver.opening due b.tally a.tally
-    → a.receiver.opening ≡ b.receiver.opening
-    → datagrams_of (dues_in octets) ≡ datagrams_of due → Counts b ds
-    → Counts a (ds ++ datagrams_of (dues_in octets))
-counts_more due b a octets ds heard same is counts =
-    let o : Opening = b.receiver.opening in
-    let xs : List (List ℕ) = datagrams_of due in
-    let all : Tallies a.tally (answers o ds ++ answers o xs) =
-    subst (λ (t : Tally). Tallies t (answers o ds ++ answers o xs)) (sym heard)
-    (tallies_all b.tally (answers o ds) (answers o xs) counts) in
-    subst (Tallies a.tally)
-    (sym (map-append (taken_at o) ds xs)
-    ∙ ap (λ (p : Opening). answers p (ds ++ xs)) (sym same)
-    ∙ ap (λ (ts : List (List ℕ)). answers a.receiver.opening (ds ++ ts)) (sym is)) all
+-- no record was read yet
+pub takes_no_records : {A : Type 0} (s : Intake A) (records : List Entry) → records ≡ []
+    → TakesDatagrams (octets_of records) s s
+takes_no_records s records none =
+    subst (λ (es : List Entry). TakesDatagrams (octets_of es) s s) (sym none) (takes_none s)
 
-pub records_taken : {A : Type 0} (b a : Intake A) (n : ℕ) (told : List ℕ → Type 0)
-    (due : List Due)
-    → ((octets : List ℕ) → told octets → datagrams_of (dues_in octets) ≡ datagrams_of due)
-    → TakesDue due n b.receiver a.receiver
-    → HearsAll (λ t answer. tally_after answer t) b.receiver.opening due b.tally a.tally
-    → a.delivered ≡ min (b.delivered + n) (2 ^ 64 - 1) → TakesRecords told b a
-records_taken b a n told due same taken heard counted = record {
-  opening = taken.opening;
-  holds = λ octets ds is holds.
-      holds_more n due b.receiver a.receiver (datagrams_of (dues_in octets)) ds taken
-      (same octets is) holds;
-  tallied = λ octets ds is counts.
-      counts_more due b a octets ds heard taken.opening (same octets is) counts;
-  delivered = λ octets is.
-      counted ∙ ap (λ (m : ℕ). min (b.delivered + m) (2 ^ 64 - 1))
-      (sym (ap length (same octets is) ∙ taken.count));
+-- none was read more
+pub takes_same : {A : Type 0} (a b : Intake A) (records more : List Entry) → more ≡ records
+    → TakesDatagrams (octets_of records) a b → TakesDatagrams (octets_of more) a b
+takes_same a b records more same taken =
+    subst (λ (es : List Entry). TakesDatagrams (octets_of es) a b) (sym same) taken
+
+-- one was
+pub takes_found : {S A : Type 0} (old new : FileReader S) (a b c : Intake A) → FindsOne old new
+    → TakesDatagrams (octets_of old.records) a b
+    → TakesDatagrams (octets_of (option_to_list new.at_hand)) b c
+    → TakesDatagrams (octets_of new.records) a c
+takes_found old new a b c found first more =
+    let one : List (List ℕ) = found.entry.octets ∷ [] in
+    subst (λ (xs : List (List ℕ)). TakesDatagrams xs a c)
+    (sym (map-append (λ (e : Entry). e.octets) old.records (found.entry ∷ []))
+    ∙ ap octets_of (sym found.records))
+    (takes_then (octets_of old.records) one a b c first
+    (subst (λ (h : Option Entry). TakesDatagrams (octets_of (option_to_list h)) b c)
+    found.at_hand more))
+
+-- ---- a file's
+
+holds_by : {A : Type 0} (o : Asked A) (said : List ℕ) (b a : Intake A)
+    (xs ds : List (List ℕ)) → TakesDatagrams xs b a → HoldsBy o said b ds
+    → HoldsBy o said a (ds ++ xs)
+holds_by o said b a xs ds taken holds = record {
+  window = ap (λ (p : Opening). p.window) taken.opening ∙ holds.window;
+  ssrc = ap (λ (p : Opening). p.ssrc) taken.opening ∙ holds.ssrc;
+  announced = subst (λ (p : Opening). AnnouncesStream said p) (sym taken.opening) holds.announced;
+  holds = taken.holds ds holds.holds;
+  tallied = taken.tallied ds holds.tallied;
+  delivered = taken.delivered (length ds) holds.delivered
+      ∙ ap fitting (sym (length-append ds xs));
 }
 
--- ---- a capture
+stands_by : {A : Type 0} (o : Asked A) (text : List ℕ) (b a : Intake A) (xs : List (List ℕ))
+    → TakesDatagrams xs b a → (said : Option (List ℕ)) (ds : List (List ℕ))
+    → Stands o (Some b) said ds → Stands o (Some a) (said_by said text) (ds ++ xs)
+stands_by o text b a xs taken None ds stands = absurd stands
+stands_by o text b a xs taken (Some said) ds stands = holds_by o said b a xs ds taken stands
 
--- what was read has this text at its front
-abbrev pub HasText : (List ℕ → Type 0) → (List ℕ → Type 0) → List ℕ → Type 0
-HasText told left text = (octets : List ℕ) → told octets → HasBehind left text octets
-
-holds_by : {A : Type 0} (o : Asked A) (b a : Intake A) (told left : List ℕ → Type 0)
-    (text octets said : List ℕ) (ds : List (List ℕ)) → HasText told left text
-    → TakesRecords left b a → told octets
-    → HoldsBy o said b ds → HoldsBy o said a (ds ++ capture_datagrams octets)
-holds_by o b a told left text octets said ds gives taken is holds =
-    let f : (rest : List ℕ) × left rest × (front_at octets ≡ Ok (text, rest)) = gives octets is in
-    let more : List (List ℕ) = datagrams_of (dues_in f.0) in
-    let same : capture_datagrams octets ≡ more = ap datagrams_behind f.2 in
-    let count : a.delivered ≡ min (b.delivered + length more) (2 ^ 64 - 1) = taken.delivered f.0 f.1
-    in
-    subst (λ (xs : List (List ℕ)). HoldsBy o said a (ds ++ xs)) (sym same) (record {
-      window = ap (λ (p : Opening). p.window) taken.opening ∙ holds.window;
-      ssrc = ap (λ (p : Opening). p.ssrc) taken.opening ∙ holds.ssrc;
-      announced = subst (λ (p : Opening). AnnouncesStream said p)
-          (sym taken.opening) holds.announced;
-      holds = taken.holds f.0 ds f.1 holds.holds;
-      tallied = taken.tallied f.0 ds f.1 holds.tallied;
-      delivered = omega (arith, count, holds.delivered, length-append ds more);
-    })
-
--- so an intake that had begun by a text stands by it
-stands_by : {A : Type 0} (o : Asked A) (b a : Intake A) (told left : List ℕ → Type 0)
-    (text octets : List ℕ) (said : Option (List ℕ)) (ds : List (List ℕ))
-    → HasText told left text → TakesRecords left b a → told octets
-    → Stands o (Some b) said ds
-    → Stands o (Some a) (said_behind said (octets ∷ [])) (ds ++ capture_datagrams octets)
-stands_by o b a told left text octets None ds gives taken is stands = absurd stands
-stands_by o b a told left text octets (Some said) ds gives taken is stands =
-    holds_by o b a told left text octets said ds gives taken is stands
-
--- one that began with the capture stands by the capture's text
-begun_by : {A : Type 0} (o : Asked A) (b a : Intake A) (told left : List ℕ → Type 0)
-    (text octets : List ℕ) (said : Option (List ℕ)) (ds : List (List ℕ))
-    → HasText told left text → TakesRecords left b a → told octets
-    → HoldsBy o text b [] → Stands o None said ds
-    → Stands o (Some a) (said_behind said (octets ∷ [])) (ds ++ capture_datagrams octets)
-begun_by o b a told left text octets (Some said) ds gives taken is begun stands = absurd stands
-begun_by o b a told left text octets None ds gives taken is begun stands =
-    let f : (rest : List ℕ) × left rest × (front_at octets ≡ Ok (text, rest)) = gives octets is in
-    let same : capture_said octets ≡ text = ap said_before f.2 in
-    subst (λ (t : List ℕ). HoldsBy o t a (ds ++ capture_datagrams octets)) (sym same)
-    (holds_by o b a told left text octets text ds gives taken is
-    (subst (λ (xs : List (List ℕ)). HoldsBy o text b xs) (sym stands) begun))
+begun_by : {A : Type 0} (o : Asked A) (text : List ℕ) (b a : Intake A) (xs : List (List ℕ))
+    → TakesDatagrams xs b a → HoldsBy o text b [] → (said : Option (List ℕ))
+    (ds : List (List ℕ)) → Stands o None said ds
+    → Stands o (Some a) (said_by said text) (ds ++ xs)
+begun_by o text b a xs taken begun (Some said) ds stands = absurd stands
+begun_by o text b a xs taken begun None ds stands =
+    holds_by o text b a xs ds taken
+    (subst (λ (l : List (List ℕ)). HoldsBy o text b l) (sym stands) begun)
 
 -- by an intake that had begun
-pub file_taken : {A : Type 0} (o : Asked A) (b a : Intake A) (told left : List ℕ → Type 0)
-    (text : List ℕ) → HasText told left text → TakesRecords left b a
-    → TakesFile o told (Some b) (Some a)
-file_taken o b a told left text gives taken = record {
-  stands = λ octets said ds is stands.
-      stands_by o b a told left text octets said ds gives taken is stands;
-}
+pub records_taken : {A : Type 0} (o : Asked A) (text : List ℕ) (begun : Option (Intake A))
+    (b a : Intake A) (xs : List (List ℕ)) → begun ≡ Some b → TakesDatagrams xs b a
+    → TakesRecords o text xs begun (Some a)
+records_taken o text begun b a xs is taken =
+    subst (λ (s : Option (Intake _)). TakesRecords o text xs s (Some a)) (sym is) (record {
+      stands = λ said ds stands. stands_by o text b a xs taken said ds stands;
+    })
 
--- by one that began with it
-pub first_taken : {A : Type 0} (o : Asked A) (b a : Intake A) (told left : List ℕ → Type 0)
-    (text : List ℕ) → HasText told left text → TakesRecords left b a → HoldsBy o text b []
-    → TakesFile o told None (Some a)
-first_taken o b a told left text gives taken begun = record {
-  stands = λ octets said ds is stands.
-      begun_by o b a told left text octets said ds gives taken is begun stands;
-}
-
--- the same where it was taken at all
-pub file_taken_if : {A V E : Type 0} (o : Asked A) (begun : Option (Intake A)) (b a : Intake A)
-    (left : List ℕ → Type 0) (text : List ℕ) (r : Result V E) → begun ≡ Some b
-    → OnOk r (TakesRecords left b a) → OnOk r (TakesFile o (HasBehind left text) begun (Some a))
-file_taken_if {A = A} o begun b a left text (Ok v) is taken =
-    subst (λ (s : Option (Intake A)). TakesFile o (HasBehind left text) s (Some a)) (sym is)
-    (file_taken o b a (HasBehind left text) left text (λ octets is. is) taken)
-file_taken_if o begun b a left text (Err e) is taken = tt
-
-pub first_taken_if : {A V E : Type 0} (o : Asked A) (begun : Option (Intake A)) (b a : Intake A)
-    (left : List ℕ → Type 0) (text : List ℕ) (r : Result V E) → begun ≡ None
-    → HoldsBy o text b [] → OnOk r (TakesRecords left b a)
-    → OnOk r (TakesFile o (HasBehind left text) begun (Some a))
-first_taken_if {A = A} o begun b a left text (Ok v) is opened taken =
-    subst (λ (s : Option (Intake A)). TakesFile o (HasBehind left text) s (Some a)) (sym is)
-    (first_taken o b a (HasBehind left text) left text (λ octets is. is) taken opened)
-first_taken_if o begun b a left text (Err e) is opened taken = tt
-
--- what is said of all such captures is said of one that was read
-pub file_read : {A : Type 0} (o : Asked A) (told left : List ℕ → Type 0) (text : List ℕ)
-    (b a : Option (Intake A)) → HasText told left text → TakesFile o (HasBehind left text) b a
-    → TakesFile o told b a
-file_read o told left text b a gives taken = record {
-  stands = λ octets said ds is stands. taken.stands octets said ds (gives octets is) stands;
-}
-
-pub file_read_if : {A V E : Type 0} (o : Asked A) (told left : List ℕ → Type 0) (text : List ℕ)
-    (b a : Option (Intake A)) (r : Result V E) → HasText told left text
-    → OnOk r (TakesFile o (HasBehind left text) b a) → OnOk r (TakesFile o told b a)
-file_read_if o told left text b a (Ok v) gives taken = file_read o told left text b a gives taken
-file_read_if o told left text b a (Err e) gives taken = tt
+-- by one that began with the file
+pub first_taken : {A : Type 0} (o : Asked A) (text : List ℕ) (begun : Option (Intake A))
+    (b a : Intake A) (xs : List (List ℕ)) → begun ≡ None → HoldsBy o text b []
+    → TakesDatagrams xs b a → TakesRecords o text xs begun (Some a)
+first_taken o text begun b a xs is opened taken =
+    subst (λ (s : Option (Intake _)). TakesRecords o text xs s (Some a)) (sym is) (record {
+      stands = λ said ds stands. begun_by o text b a xs taken opened said ds stands;
+    })
 
 pub none_begun : {X : Type 0} (o : Option X) → ((x : X) → o ≡ Some x → ⊥) → o ≡ None
 none_begun None not = refl

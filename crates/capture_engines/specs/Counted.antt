@@ -1,12 +1,14 @@
 -- What `receive` counts of the datagrams that it was given (own).
-use Rattle.std.specs.Prelude.{◌≡◌, ◌^◌, ◌-◌, ℕ, List, Option, Some, length, map, min}
-use Rattle.std.specs.List.{flat_map}
-use Rattle.path_merge.specs.Answers.{taken_at}
-use Rattle.path_merge.specs.Opening.{Opening}
+use Rattle.std.specs.Prelude.{◌≡◌, ◌^◌, ◌-◌, ℕ, List, Option, Some, Result, length, map, min}
+use Rattle.flow.specs.declared.flows.Flows.{Flows}
+use Rattle.path_receiver.specs.Answers.{taken_at}
+use Rattle.path_receiver.specs.Opening.{Opening}
 use Rattle.run_outcome.specs.Sources.{IsSourceText}
 use Rattle.run_outcome.specs.Timestamps.{AreTimestamps}
-use Rattle.capture_engines.specs.Taking.{AnnouncesStream, AreRead, capture_datagrams, said_behind}
-use Rattle.capture_engines.specs.Tallied.{Tallies}
+use Rattle.run_outcome.specs.declared.refusal.Refusal.{Refusal}
+use Rattle.capture_engines.specs.Files.{files_datagrams}
+use Rattle.capture_engines.specs.Taking.{AnnouncesStream, AreRead, said_behind}
+use Rattle.path_receiver.specs.Tallied.{Tallies}
 use Rattle.capture_engines.specs.declared.reception.Reception.{Reception}
 
 -- So many datagrams were delivered, and these are the counts of what a receiver answers to them
@@ -20,9 +22,10 @@ pub record CountsHolding (window source : List ℕ) (IsText : List ℕ → Type 
   pub tallied : Tallies r.tally (map (taken_at opening) datagrams)
   pub delivered : r.delivered ≡ min (length datagrams) (2 ^ 64 - 1)
 
--- so it is of what was read of the captures: the datagrams are all of theirs
+-- so it is of what was read of files, each taken so: the datagrams are all of theirs
 pub record CountsReceived {S : Type 0} (window source : List ℕ)
-    (sdp : Option (List ℕ)) (told : S → List ℕ → Type 0) (captures : List S) (r : Reception) : Type 0 where
-  pub counted : (octets : List (List ℕ)) → AreRead told captures octets
+    (sdp : Option (List ℕ)) (ways : List (Result Flows Refusal)) (told : S → List ℕ → Type 0)
+    (files : List S) (r : Reception) : Type 0 where
+  pub counted : (octets : List (List ℕ)) → AreRead told files octets
       → CountsHolding window source (λ text. said_behind sdp octets ≡ Some text)
-      (flat_map capture_datagrams octets) r
+      (files_datagrams ways octets) r

@@ -1,6 +1,8 @@
+pub mod Files
+pub mod Seen
+pub mod Stopping
 pub mod Migrating
 pub mod MigrateRefused
-pub mod Tallied
 pub mod Printed
 pub mod Receiving
 pub mod Received

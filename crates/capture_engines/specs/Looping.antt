@@ -9,9 +9,9 @@ use Rattle.packet_plan.specs.declared.run.PacketRun.{PacketRun}
 use Rattle.packet_plan.specs.declared.stamp.Stamp.{Stamp}
 use Rattle.packet_plan.specs.Plan.{IsFullPlan}
 use Rattle.packet_plan.specs.Text.{datagram_texts}
-use Rattle.path_merge.specs.Frames.{Holds, State, frame_at}
-use Rattle.path_merge.specs.Opening.{Opening}
-use Rattle.path_merge.specs.Took.{CountsAll}
+use Rattle.path_receiver.specs.Frames.{Holds, State, frame_at}
+use Rattle.path_receiver.specs.Opening.{Opening}
+use Rattle.path_receiver.specs.Took.{CountsAll}
 use Rattle.st_format.specs.declared.format.Format.{Format}
 use Rattle.st_format.specs.Picture.{Values}
 use Rattle.st_format.specs.Raster.{Raster}

@@ -2,19 +2,19 @@
 use Rattle.std.specs.Prelude.{ℕ, zero, suc, List, [], ◌∷◌, ◌++◌, Bool, true, false, Result, length}
 use Rattle.std.specs.Prelude.{map, slice_index}
 use Rattle.std.specs.List.{count_by, flat_map}
-use Rattle.path_merge.specs.Answers.{taken_at}
-use Rattle.path_merge.specs.Frames.{State}
-use Rattle.path_merge.specs.declared.answer.Refusal.{Refusal}
-use Rattle.path_merge.specs.declared.answer.Refusal.TheVariants.{Header, WrongPayloadType}
-use Rattle.path_merge.specs.declared.answer.Refusal.TheVariants.{WrongSource, Payload}
-use Rattle.path_merge.specs.declared.answer.Taken.{Taken}
+use Rattle.path_receiver.specs.Answers.{taken_at}
+use Rattle.path_receiver.specs.Frames.{State}
+use Rattle.path_receiver.specs.declared.answer.Refusal.{Refusal}
+use Rattle.path_receiver.specs.declared.answer.Refusal.TheVariants.{Header, WrongPayloadType}
+use Rattle.path_receiver.specs.declared.answer.Refusal.TheVariants.{WrongSource, Payload}
+use Rattle.path_receiver.specs.declared.answer.Taken.{Taken}
 use Rattle.payload_header.specs.declared.payload.PayloadFault.TheVariants as payload
 use Rattle.rtp_header.specs.declared.header.RtpFault.TheVariants as rtp
 use Rattle.run_outcome.specs.Line.{line_text}
-use Rattle.capture_engines.specs.Tallied.{fitting, is_outside, is_refusal, place_of}
+use Rattle.path_receiver.specs.Tallied.{fitting, is_outside, is_refusal, place_of}
 use Rattle.run_outcome.specs.declared.line.Line.{Line}
 use Rattle.run_outcome.specs.declared.line.Line.TheVariants.{Delivered, OutsideCount, RefusedCount}
-use Rattle.capture_engines.specs.declared.tally.Tally.{Tally}
+use Rattle.path_receiver.specs.declared.tally.Tally.{Tally}
 use Rattle.run_outcome.specs.Frames.{frame_lines}
 
 -- ---- refusals

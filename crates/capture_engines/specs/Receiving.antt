@@ -1,10 +1,10 @@
 -- Devices that may not be there, and what is written of a receiver.
 use Rattle.std.specs.Prelude.{◌≡◌, ℕ, Bool, List, ◌++◌}
 use Rattle.media_file.specs.StateFile.{state_text}
-use Rattle.path_merge.specs.Frames.{State}
+use Rattle.path_receiver.specs.Frames.{State}
 use Rattle.receiver_file.specs.Saved.{IsWritable, kept_of}
 use Rattle.capture_engines.specs.Printed.{received_text, tally_text}
-use Rattle.capture_engines.specs.declared.tally.Tally.{Tally}
+use Rattle.path_receiver.specs.declared.tally.Tally.{Tally}
 
 -- the lines of a receiver were printed, with those of some counts, where these are wanted; and then
 -- a sink took the receiver's file, which can be written

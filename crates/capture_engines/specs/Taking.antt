@@ -1,50 +1,35 @@
 -- Which datagrams `receive` takes. What was read is told by a predicate: it holds of any octets
 -- that begin with it, and of no others where the source has ended.
-use Rattle.std.specs.Prelude.{◌≡◌, ℕ, ◌+◌, ◌-◌, ◌^◌, min, List, [], ◌∷◌, ◌++◌, length, ⊤}
-use Rattle.std.specs.Prelude.{Bool, Option, None, Some, Result, Ok, Err, map}
+use Rattle.std.specs.Prelude.{◌≡◌, ℕ, ◌+◌, List, [], ◌∷◌, ◌++◌, length, ⊤}
+use Rattle.std.specs.Prelude.{Bool, Option, None, Some, Result, map}
 use Rattle.std.specs.List.{flat_map}
 use Rattle.sdp_format.specs.Bytes.{lines}
 use Rattle.sdp_format.specs.Grammar.{IsDescribed}
 use Rattle.sdp_format.specs.Sections.{Description, video_sections}
 use Rattle.st_format.specs.Fields.{fields_of}
-use Rattle.st_format.specs.Turns.{datagrams_of}
-use Rattle.media_file.specs.Fronts.{front_at}
-use Rattle.media_file.specs.Reader.{dues_in}
+use Rattle.flow.specs.declared.flows.Flows.{Flows}
+use Rattle.recording_reader.specs.Files.{text_of_file}
+use Rattle.run_outcome.specs.declared.refusal.Refusal.{Refusal}
+use Rattle.capture_engines.specs.Files.{capture_datagrams, file_datagrams, files_datagrams}
+use Rattle.capture_engines.specs.declared.way.Way.{Way}
 use Rattle.media_file.specs.StateFile.{state_text}
-use Rattle.media_file.specs.declared.fault.FileFault.{FileFault}
-use Rattle.path_merge.specs.Answers.{taken_at}
-use Rattle.path_merge.specs.Frames.{Holds, State}
-use Rattle.path_merge.specs.Opening.{Opening}
+use Rattle.path_receiver.specs.Answers.{taken_at}
+use Rattle.path_receiver.specs.Frames.{Holds, State}
+use Rattle.path_receiver.specs.Opening.{Opening}
 use Rattle.receiver_file.specs.Saved.{kept_of}
 use Rattle.run_outcome.specs.Sources.{IsSourceText}
 use Rattle.run_outcome.specs.Timestamps.{AreTimestamps}
 use Rattle.capture_engines.specs.declared.receiving.Asked.{Asked}
 use Rattle.capture_engines.specs.declared.intake.Intake.{Intake}
 use Rattle.capture_engines.specs.Printed.{taken_text}
-use Rattle.capture_engines.specs.Tallied.{Tallies}
+use Rattle.path_receiver.specs.Tallied.{Tallies, fitting}
 
--- the datagrams of a capture: those of the records behind its front, up to the first fault
-abbrev pub datagrams_behind : Result (List ℕ × List ℕ) FileFault → List (List ℕ)
-datagrams_behind (Ok x) = datagrams_of (dues_in x.1)
-datagrams_behind (Err f) = []
-
-abbrev pub capture_datagrams : List ℕ → List (List ℕ)
-capture_datagrams octets = datagrams_behind (front_at octets)
-
--- the SDP text of a capture: that of its front
-abbrev pub said_before : Result (List ℕ × List ℕ) FileFault → List ℕ
-said_before (Ok x) = x.0
-said_before (Err f) = []
-
-abbrev pub capture_said : List ℕ → List ℕ
-capture_said octets = said_before (front_at octets)
-
--- the SDP text by which a receiver is open behind captures: that by which it was open before them,
--- or else that of the first
+-- the SDP text by which a receiver is open behind files: that by which it was open before them, or
+-- else that of the first
 abbrev pub said_behind : Option (List ℕ) → List (List ℕ) → Option (List ℕ)
 said_behind (Some text) captures = Some text
 said_behind None [] = None
-said_behind None (octets ∷ captures) = Some (capture_said octets)
+said_behind None (octets ∷ captures) = Some (text_of_file octets)
 
 -- An SDP text announces what a receiver takes: the text says its format and its payload type.
 pub record AnnouncesStream (text : List ℕ) (opening : Opening) : Type 0 where
@@ -64,23 +49,21 @@ AreRead told (s ∷ ss) (o ∷ os) = told s o × AreRead told ss os
 abbrev pub Counts : {A : Type 0} → Intake A → List (List ℕ) → Type 0
 Counts s datagrams = Tallies s.tally (map (taken_at s.receiver.opening) datagrams)
 
--- ---- one capture
+-- ---- one file
 
--- An intake took all records that were read: what its receiver holds, what its tally counts, and
--- how many were delivered.
-pub record TakesRecords {A : Type 0} (told : List ℕ → Type 0) (before after : Intake A) : Type 0
-  where
-    pub opening : after.receiver.opening ≡ before.receiver.opening
-    pub holds : (octets : List ℕ) (datagrams : List (List ℕ)) → told octets
-        → Holds before.receiver datagrams
-        → Holds after.receiver (datagrams ++ datagrams_of (dues_in octets))
-    pub tallied : (octets : List ℕ) (datagrams : List (List ℕ)) → told octets
-        → Counts before datagrams → Counts after (datagrams ++ datagrams_of (dues_in octets))
-    pub delivered : (octets : List ℕ) → told octets
-        → after.delivered ≡ min (before.delivered + length (datagrams_of (dues_in octets)))
-        (2 ^ 64 - 1)
+-- An intake took these datagrams more: what its receiver holds, what its tally counts, and how many
+-- were delivered.
+pub record TakesDatagrams {A : Type 0} (datagrams : List (List ℕ)) (before after : Intake A)
+    : Type 0 where
+  pub opening : after.receiver.opening ≡ before.receiver.opening
+  pub holds : (earlier : List (List ℕ)) → Holds before.receiver earlier
+      → Holds after.receiver (earlier ++ datagrams)
+  pub tallied : (earlier : List (List ℕ)) → Counts before earlier
+      → Counts after (earlier ++ datagrams)
+  pub delivered : (count : ℕ) → before.delivered ≡ fitting count
+      → after.delivered ≡ fitting (count + length datagrams)
 
--- ---- captures, one after the other
+-- ---- files, one after the other
 
 -- An intake's receiver was opened with what the words and this SDP text said, it holds the Frames
 -- of these datagrams, its tally counts the answers to them, and so many were delivered.
@@ -91,7 +74,7 @@ pub record HoldsBy {A : Type 0} (o : Asked A) (text : List ℕ) (s : Intake A)
   pub announced : AnnouncesStream text s.receiver.opening
   pub holds : Holds s.receiver datagrams
   pub tallied : Counts s datagrams
-  pub delivered : s.delivered ≡ min (length datagrams) (2 ^ 64 - 1)
+  pub delivered : s.delivered ≡ fitting (length datagrams)
 
 -- the same of an intake, or that none has begun, by no text
 abbrev pub Stands : {A : Type 0} → Asked A → Option (Intake A) → Option (List ℕ)
@@ -101,19 +84,49 @@ Stands o None (Some text) datagrams = ⊥
 Stands o (Some s) None datagrams = ⊥
 Stands o (Some s) (Some text) datagrams = HoldsBy o text s datagrams
 
--- a capture was taken
-pub record TakesFile {A : Type 0} (o : Asked A) (told : List ℕ → Type 0)
-    (before after : Option (Intake A)) : Type 0 where
-  pub stands : (octets : List ℕ) (said : Option (List ℕ)) (datagrams : List (List ℕ))
-      → told octets → Stands o before said datagrams
-      → Stands o after (said_behind said (octets ∷ [])) (datagrams ++ capture_datagrams octets)
+-- the SDP text by which one is open behind a file with this text
+abbrev pub said_by : Option (List ℕ) → List ℕ → Option (List ℕ)
+said_by None text = Some text
+said_by (Some said) text = Some said
 
--- all captures were taken, in their order
-pub record TakesFiles {S A : Type 0} (o : Asked A) (told : S → List ℕ → Type 0)
-    (captures : List S) (before after : Option (Intake A)) : Type 0 where
-  pub stands : (octets : List (List ℕ)) (said : Option (List ℕ)) (datagrams : List (List ℕ))
-      → AreRead told captures octets → Stands o before said datagrams
-      → Stands o after (said_behind said octets) (datagrams ++ flat_map capture_datagrams octets)
+-- what holds of the SDP text by which one is open, if one is, and of the datagrams that were taken
+abbrev pub Holding : Type 1
+Holding = Option (List ℕ) → List (List ℕ) → Type 0
+
+-- From one moment to the next these datagrams of a file with this text were taken: what held of
+-- those before then holds of all.
+pub record RecordsGo (text : List ℕ) (datagrams : List (List ℕ)) (Before After : Holding) : Type 0
+  where
+    pub stands : (said : Option (List ℕ)) (earlier : List (List ℕ)) → Before said earlier
+        → After (said_by said text) (earlier ++ datagrams)
+
+-- so of a file that was read, which is taken so
+pub record FileGoes (w : Way) (told : List ℕ → Type 0) (Before After : Holding) : Type 0 where
+  pub stands : (octets : List ℕ) (said : Option (List ℕ)) (earlier : List (List ℕ))
+      → told octets → Before said earlier
+      → After (said_behind said (octets ∷ [])) (earlier ++ file_datagrams w octets)
+
+-- so of all files, in their order
+pub record FilesGo {S : Type 0} (ways : List (Result Flows Refusal)) (told : S → List ℕ → Type 0)
+    (files : List S) (Before After : Holding) : Type 0 where
+  pub stands : (octets : List (List ℕ)) (said : Option (List ℕ)) (earlier : List (List ℕ))
+      → AreRead told files octets → Before said earlier
+      → After (said_behind said octets) (earlier ++ files_datagrams ways octets)
+
+-- the same of an intake: datagrams were taken, a file, and all files
+abbrev pub TakesRecords : {A : Type 0} → Asked A → List ℕ → List (List ℕ) → Option (Intake A)
+    → Option (Intake A) → Type 0
+TakesRecords o text datagrams before after =
+    RecordsGo text datagrams (Stands o before) (Stands o after)
+
+abbrev pub TakesFile : {A : Type 0} → Asked A → Way → (List ℕ → Type 0) → Option (Intake A)
+    → Option (Intake A) → Type 0
+TakesFile o w told before after = FileGoes w told (Stands o before) (Stands o after)
+
+abbrev pub TakesFiles : {S A : Type 0} → Asked A → List (Result Flows Refusal)
+    → (S → List ℕ → Type 0) → List S → Option (Intake A) → Option (Intake A) → Type 0
+TakesFiles o ways told files before after =
+    FilesGo ways told files (Stands o before) (Stands o after)
 
 -- ---- the run
 
@@ -152,10 +165,10 @@ pub record Receives {S : Type 0} (window source : List ℕ) (sdp : Option S)
       → SavesHolding window source (IsOpeningText told sdp octets)
       (flat_map capture_datagrams octets) wanted shown shown' old new
 
--- the same where the SDP text is given itself
+-- the same of files, each taken so, where the SDP text is given itself
 pub record ReceivesFiles {S : Type 0} (window source : List ℕ) (sdp : Option (List ℕ))
-    (told : S → List ℕ → Type 0) (captures : List S) (wanted : Bool)
-    (shown shown' old new : List ℕ) : Type 0 where
-  pub saved : (octets : List (List ℕ)) → AreRead told captures octets
+    (ways : List (Result Flows Refusal)) (told : S → List ℕ → Type 0) (files : List S)
+    (wanted : Bool) (shown shown' old new : List ℕ) : Type 0 where
+  pub saved : (octets : List (List ℕ)) → AreRead told files octets
       → SavesHolding window source (λ text. said_behind sdp octets ≡ Some text)
-      (flat_map capture_datagrams octets) wanted shown shown' old new
+      (files_datagrams ways octets) wanted shown shown' old new

@@ -1,31 +1,26 @@
-//! Taking the datagrams of captures into one receiver.
-ghost use Rattle.std.specs.Prelude.{◌≡◌, ◌≢◌, ◌≤◌, ◌+◌, ◌-◌, ◌^◌, ◌∷◌, ◌++◌, [], ℕ, List, Ok, Err};
-ghost use Rattle.std.specs.Prelude.{true, false, ⊤, length, min, IfErr, IfOk, OnOk};
-ghost use Rattle.media_file.specs.Reader.{IsNewReader, dues_in, source_fault};
-ghost use Rattle.media_file.specs.declared.fault.FileFault.{FileFault};
-ghost use Rattle.media_file.specs.declared.fault.FileFault.TheVariants.{TooManyRecords};
+//! Taking the datagrams of files into one receiver.
+ghost use Rattle.std.specs.Prelude.{◌≡◌, ◌∷◌, [], length, option_to_list, IfErr, IfOk, OnOk};
+ghost use Rattle.capture_engines.specs.Files.{octets_of};
+ghost use Rattle.capture_engines.specs.Received.{IsOpeningRefusal};
+ghost use Rattle.capture_engines.specs.Stopping.{IsReadingStop};
+ghost use Rattle.capture_engines.specs.Taking.{AnnouncesStream, TakesDatagrams};
+ghost use Rattle.path_receiver.specs.Tallied.{Tallies};
+ghost use Rattle.path_receiver.specs.Frames.{Holds};
+ghost use Rattle.recording_reader.specs.FileReader.{IsSameFile};
+ghost use Rattle.recording_reader.specs.declared.way.Standing.TheVariants.{Reads, Ended};
 ghost use Rattle.run_outcome.specs.Fault.{Accounts, counts};
-ghost use Rattle.run_outcome.specs.LowerFaults.{capture_fault};
-ghost use Rattle.capture_engines.specs.Received.{HasRecordFault, IsFileRefusal, IsOpeningRefusal};
 ghost use Rattle.run_outcome.specs.Refusing.{OfRefusal};
-ghost use Rattle.capture_engines.specs.Taking.{AnnouncesStream, TakesRecords};
-ghost use Rattle.capture_engines.specs.Tallied.{Tallies};
-ghost use Rattle.path_merge.specs.declared.receiving.ReceiveFault.{ReceiveFault};
-ghost use Rattle.path_merge.specs.declared.receiving.Received.{Received};
-ghost use Rattle.path_merge.specs.Frames.{Holds};
-ghost use Rattle.path_merge.specs.Took.{delivered_in};
-ghost use Rattle.st_format.specs.History.{GrewFrom, IsRead, since};
-ghost use Rattle.st_format.specs.Turns.{datagrams_of};
 
-use crate::tally::Tally;
-use media_file::{CaptureReader, FileFault};
-use path_merge::{ReceiveFault, Received, Receiver, receive_each};
+use crate::way::of_reading;
+use media_file::FileFault;
+use path_receiver::{Observer, Receiver, Tally};
+use recording_reader::DatagramReader;
 use run_outcome::{Fault, of_capture};
 use sdp_format::read_located;
-use st_format::{ByteSource, SourceFault};
+use st_format::{ByteSource, Path};
 use std::alloc::Allocator;
 
-/// The greatest number of turns of one capture (own).
+/// The greatest number of datagrams of one file (own).
 const TURNS: u64 = 16_777_216;
 
 /// A receiver, and what it was given.
@@ -62,101 +57,52 @@ impl<A: Allocator + Copy> Intake<A> {
 }
 
 impl<A: Allocator> Intake<A> {
-    /// Takes all datagrams of a capture whose reader has just been opened.
+    /// Takes a datagram.
+    fn take(&mut self, path: Path, octets: &[u8])
+        ensures { TakesDatagrams (octets.now ∷ []) self.old self.new }
+    {
+        let answer = self.receiver.take(path, octets);
+        self.tally.note(answer);
+        self.delivered = self.delivered.saturating_add(1);
+    }
+
+    /// Takes the datagram that a reader has at hand, where it has one.
+    fn take_at_hand<B: Allocator, S: ByteSource>(&mut self, reader: &DatagramReader<B, S>)
+        ensures { TakesDatagrams (octets_of (option_to_list reader.now.at_hand)) self.old
+            self.new }
+    {
+        if let Some(record) = reader.record() {
+            self.take(record.path, record.octets);
+        }
+    }
+
+    /// Takes all datagrams of a file whose reader has just been opened.
     ///
-    /// A capture that has not ended after 16,777,216 turns is refused, and so is one that is at
-    /// fault; what it delivered before is taken.
-    pub fn take_capture<S: ByteSource>(
+    /// A file that has not ended after 16,777,216 datagrams is refused, and so is one that is at
+    /// fault; what it gave before is taken.
+    pub fn take_records<B: Allocator, S: ByteSource>(
         &mut self,
-        reader: &mut CaptureReader<S>,
-        buf: &mut [u8],
+        reader: &mut DatagramReader<B, S>,
     ) -> Result<(), Fault>
-        requires room { 65535 ≤ length buf.old }
-        requires new { IsNewReader reader.old }
-        requires before { reader.old.before ≡ record {
-          gave = S.gave reader.old.source;
-          to_give = S.to_give reader.old.source;
-          failures = S.failures reader.old.source;
-        } }
-        ensures room { length buf.new ≡ length buf.old }
-        ensures taken { OnOk result (TakesRecords (IsRead (S.gave reader.old.source)
-            (S.gave reader.new.source) (S.ended reader.new.source)) self.old self.new) }
+        requires reads { reader.old.standing ≡ Reads }
+        requires none { reader.old.records ≡ [] }
         // After a fault too: the receiver has the datagrams of the records that were read.
-        ensures sound { TakesRecords (IsRead (S.gave reader.old.source)
-            (S.gave reader.new.source) ⊤) self.old self.new }
-        ensures holds { (datagrams : List (List ℕ)) → Holds self.old.receiver datagrams →
-            Holds self.new.receiver (datagrams ++ datagrams_of (dues_in
-            (since (S.gave reader.old.source) (S.gave reader.new.source)))) }
-        ensures refusal { IfErr result (λ f. OfRefusal f (IsFileRefusal HasRecordFault (IsRead
-            (S.gave reader.old.source) (S.gave reader.new.source)
-            (S.ended reader.new.source)))) }
-        ensures grown { GrewFrom (S.gave reader.old.source) (S.gave reader.new.source) }
+        ensures taken { TakesDatagrams (octets_of reader.new.records) self.old self.new }
+        ensures ended { OnOk result (reader.new.standing ≡ Ended) }
+        ensures stop { IfErr result
+            (IsReadingStop reader.new.standing (length reader.new.records)) }
+        ensures same { IsSameFile reader.old reader.new }
         ensures failures { Accounts result (counts (S.failures reader.old.source)
             (S.failures reader.new.source) ∷ []) }
         ensures names { S.names reader.new.source ≡ S.names reader.old.source }
     {
-        let received = receive_each(reader, &mut self.receiver, buf, TURNS, &mut self.tally);
-        reader.facts();
-        reader.history();
-        self.count(received)
-    }
-
-    /// Counts what a capture delivered, whatever it came to. One that has not ended, or is at fault,
-    /// is refused.
-    fn count(&mut self, received: Result<Received, ReceiveFault>) -> Result<(), Fault>
-        ensures receiver { self.new.receiver ≡ self.old.receiver }
-        ensures tally { self.new.tally ≡ self.old.tally }
-        ensures ended { (r : Received) → received ≡ Ok r → r.ended ≡ true
-            → (result ≡ Ok tt)
-            × (self.new.delivered ≡ min (self.old.delivered + r.delivered) (2 ^ 64 - 1)) }
-        ensures delivered { self.new.delivered
-            ≡ min (self.old.delivered + delivered_in received) (2 ^ 64 - 1) }
-        ensures many { (r : Received) → received ≡ Ok r → r.ended ≡ false
-            → r.delivered ≡ 16777216 → result ≡ Err (capture_fault TooManyRecords) }
-        ensures quiet { (r : Received) → received ≡ Ok r → r.ended ≡ false
-            → r.delivered ≢ 16777216 → result ≡ Err Fault.Memory }
-        ensures fault { (e : ReceiveFault) (f : FileFault) → received ≡ Err e
-            → e.fault ≡ source_fault f → result ≡ Err (capture_fault f) }
-    {
-        match received {
-            Ok(received) => {
-                self.delivered = self.delivered.saturating_add(received.delivered);
-                if !received.ended {
-                    return Err(unended(received.delivered));
-                }
-                Ok(())
-            }
-            Err(failed) => {
-                self.delivered = self.delivered.saturating_add(failed.delivered);
-                Err(reader_fault(failed.fault))
+        for _ in 0..TURNS {
+            match reader.advance() {
+                Ok(true) => self.take_at_hand(reader),
+                Ok(false) => return Ok(()),
+                Err(fault) => return Err(of_reading(fault)),
             }
         }
-    }
-}
-
-/// What is wrong with a capture that has not ended, but delivered so many datagrams.
-fn unended(delivered: u64) -> Fault
-    ensures many { delivered ≡ 16777216 → result ≡ capture_fault TooManyRecords }
-    ensures quiet { delivered ≢ 16777216 → result ≡ Fault.Memory }
-{
-    if delivered == TURNS {
-        return of_capture(FileFault::TooManyRecords);
-    }
-    // No reader has a turn without a datagram.
-    Fault::Memory
-}
-
-/// A fault that a reader of a capture told.
-fn reader_fault(fault: SourceFault) -> Fault
-    ensures { (f : FileFault) → fault ≡ source_fault f → result ≡ capture_fault f }
-{
-    let number = match fault {
-        SourceFault::Device => return Fault::Device,
-        SourceFault::Content(number) => number,
-    };
-    match FileFault::of_number(number) {
-        Some(fault) => of_capture(fault),
-        // No reader tells such a number.
-        None => Fault::Device,
+        Err(of_capture(FileFault::TooManyRecords))
     }
 }

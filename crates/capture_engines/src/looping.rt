@@ -7,14 +7,14 @@ ghost use Rattle.run_outcome.specs.Fault.{Accounts, IfRefused, counts};
 ghost use Rattle.run_outcome.specs.Refusing.{OfRefusal};
 ghost use Rattle.packet_plan.specs.Plan.{IsFullPlan, packet_at};
 ghost use Rattle.packet_plan.specs.Text.{datagram_text, datagram_texts};
-ghost use Rattle.path_merge.specs.Frames.{Holds};
-ghost use Rattle.path_merge.specs.Took.{CountsAll};
+ghost use Rattle.path_receiver.specs.Frames.{Holds};
+ghost use Rattle.path_receiver.specs.Took.{CountsAll};
 ghost use Rattle.capture_engines.specs.Looped.{IsLoopRefusal};
 ghost use Rattle.capture_engines.specs.Looping.{Came, Loops, Prints, loop_opening};
 
 use datagram_link::DatagramLink;
 use packet_plan::{Plan, Stamp};
-use path_merge::Receiver;
+use path_receiver::Receiver;
 use run_outcome::{Fault, Line, print, read_unpacked, room};
 use st_format::{ByteSink, ByteSource, Picture, Turn};
 use std::alloc::Allocator;

@@ -5,7 +5,7 @@ ghost use Rattle.st_format.specs.Device.{GrowsPart};
 ghost use Rattle.run_outcome.specs.Fault.{Accounts, IfRefused, counts};
 ghost use Rattle.capture_engines.specs.Printed.{counted_line, refusal_line, refusals, tally_text};
 
-use crate::tally::{Tally, refusal_at};
+use path_receiver::{REFUSAL_COUNT, Tally, refusal_at};
 use run_outcome::{Fault, Line, print};
 use st_format::ByteSink;
 
@@ -25,7 +25,7 @@ pub(crate) fn print_tally<O: ByteSink>(tally: &Tally, output: &mut O) -> Result<
 }
 
 /// Prints how often each refusal came that came, of the counts of all.
-fn print_refusals<O: ByteSink>(refused: &[u64; 14], output: &mut O) -> Result<(), Fault>
+fn print_refusals<O: ByteSink>(refused: &[u64; REFUSAL_COUNT], output: &mut O) -> Result<(), Fault>
     ensures printed { OnOk result (O.took output.new ≡ O.took output.old
         ++ flat_map (refusal_line refused.now) refusals) }
     ensures cut { OnErr result (GrowsPart (O.took output.old) (O.took output.new)
@@ -34,7 +34,7 @@ fn print_refusals<O: ByteSink>(refused: &[u64; 14], output: &mut O) -> Result<()
     ensures failures { Accounts result (counts (O.failures output.old) (O.failures output.new)
         ∷ []) }
 {
-    for place in 0..14 {
+    for place in 0..REFUSAL_COUNT {
         let count = refused[place];
         print_counted(Line::RefusedCount(refusal_at(place), count), count, output)?;
     }

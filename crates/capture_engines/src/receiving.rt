@@ -5,20 +5,23 @@ ghost use Rattle.std.specs.Prelude.{MatchOption, Option, None, Some, drop, lengt
 ghost use Rattle.std.specs.List.{zip};
 ghost use Rattle.std.specs.Option.{option_copied, option_map};
 ghost use Rattle.run_outcome.specs.Moments.{WasRead, pair};
-ghost use Rattle.media_file.specs.Reader.{IsNewReader};
 ghost use Rattle.media_file.specs.StateFile.{state_text};
 ghost use Rattle.capture_engines.specs.Counted.{CountsReceived};
+ghost use Rattle.capture_engines.specs.Files.{octets_of, way_at};
 ghost use Rattle.capture_engines.specs.Rescued.{TakesPart, TakesUpTo};
+ghost use Rattle.capture_engines.specs.Stopping.{IsReadingStop};
+ghost use Rattle.recording_reader.specs.FileReader.{IsSameFile};
+ghost use Rattle.recording_reader.specs.declared.way.Standing.TheVariants.{Ended, Reads};
 ghost use Rattle.run_outcome.specs.Fault.{Accounts, IfRefused, counts, failures_in};
 ghost use Rattle.capture_engines.specs.Printed.{if_wanted, received_text, tally_text};
-ghost use Rattle.capture_engines.specs.Received.{HasBehind, IsCapturesRefusal, IsFrontRefusal};
+ghost use Rattle.capture_engines.specs.Received.{IsFilesRefusal, IsFrontRefusal};
 ghost use Rattle.capture_engines.specs.Received.{IsOpeningRefusal, IsReceiveRefusal, IsTakeRefusal};
 ghost use Rattle.capture_engines.specs.Received.{IsWordRefusal};
 ghost use Rattle.capture_engines.specs.Receiving.{SavesShown};
 ghost use Rattle.run_outcome.specs.Refusing.{OfRefusal};
 ghost use Rattle.capture_engines.specs.Sent.{FirstIs};
 ghost use Rattle.capture_engines.specs.Taking.{HoldsBy, IsSaid, Receives, Stands, TakesFile};
-ghost use Rattle.capture_engines.specs.Taking.{TakesFiles};
+ghost use Rattle.capture_engines.specs.Taking.{TakesFiles, TakesRecords};
 ghost use Rattle.receiver_file.specs.Saved.{IsWritable, kept_of};
 ghost use Rattle.run_outcome.specs.Sources.{IsSourceText};
 ghost use Rattle.run_outcome.specs.TextRefusals.{GivesAbove};
@@ -28,8 +31,11 @@ ghost use Rattle.st_format.specs.History.{GrewFrom, IsRead};
 
 use crate::intake::Intake;
 use crate::rescuing::receive_files;
-use media_file::CaptureReader;
-use run_outcome::{Fault, Refusal, of_capture, read_source, read_text, read_timestamps};
+use crate::seen::{Seen, note_seen};
+use crate::way::{Way, unopened};
+use flow::Flows;
+use recording_reader::DatagramReader;
+use run_outcome::{Fault, Refusal, read_source, read_text, read_timestamps};
 use st_format::{ByteSink, ByteSource};
 use std::alloc::Allocator;
 
@@ -124,6 +130,8 @@ where
         false,
         octets_of(&said),
         captures,
+        &[],
+        &mut [],
         state,
         output,
         &mut reception,
@@ -233,142 +241,151 @@ fn open_by<A: Allocator + Copy>(
     Intake::open(alloc, said, opening.ssrc, &opening.window)
 }
 
-/// Takes all captures, each by way of the two rooms: one for its text, and one for its datagrams.
+/// Takes all files, each as `ways` say, and notes in `seen` what was seen of them. `said` is room
+/// for a text.
 pub(crate) fn take_all<A: Allocator + Copy, S: ByteSource>(
     alloc: A,
     opening: &Asked<A>,
     begun: &mut Option<Intake<A>>,
-    captures: &mut [S],
+    files: &mut [S],
+    ways: &[Result<Flows, Refusal>],
+    seen: &mut [Seen],
     said: &mut [u8],
-    buf: &mut [u8],
 ) -> Result<(), Fault>
     requires text { 65535 ≤ length said.old }
-    requires room { 65535 ≤ length buf.old }
-    ensures len { length captures.new ≡ length captures.old }
-    ensures taken { OnOk result (TakesFiles opening.now (WasRead S.gave S.ended)
-        (zip captures.old captures.new) begun.old begun.new) }
-    ensures sound { OnErr result (TakesUpTo opening.now S.gave S.ended
-        (zip captures.old captures.new) begun.old begun.new) }
+    ensures len { length files.new ≡ length files.old }
+    ensures taken { OnOk result (TakesFiles opening.now ways.now (WasRead S.gave S.ended)
+        (zip files.old files.new) begun.old begun.new) }
+    ensures sound { IfErr result (λ f. TakesUpTo opening.now ways.now S.gave S.ended f
+        (zip files.old files.new) begun.old begun.new) }
     ensures none { OnOk result (begun.new ≡ None
-        → (begun.old ≡ None) × (captures.old ≡ [])) }
-    ensures refusal { IfErr result (λ f. OfRefusal f (IsCapturesRefusal opening.now.window.items
-        begun.old (WasRead S.gave S.ended) (zip captures.old captures.new))) }
-    ensures failures { Accounts result (counts (sum_by S.failures captures.old)
-        (sum_by S.failures captures.new) ∷ []) }
+        → (begun.old ≡ None) × (files.old ≡ [])) }
+    ensures refusal { IfErr result (λ f. OfRefusal f (IsFilesRefusal opening.now.window.items
+        begun.old ways.now (WasRead S.gave S.ended) (zip files.old files.new))) }
+    ensures failures { Accounts result (counts (sum_by S.failures files.old)
+        (sum_by S.failures files.new) ∷ []) }
 {
-    for place in 0..captures.len() {
-        take_at(alloc, opening, begun, captures, place, said, buf)?;
+    for place in 0..files.len() {
+        take_at(alloc, opening, begun, files, ways, seen, place, said)?;
     }
     Ok(())
 }
 
-/// Takes the capture of a place.
+/// Takes the file of a place.
 fn take_at<A: Allocator + Copy, S: ByteSource>(
     alloc: A,
     opening: &Asked<A>,
     begun: &mut Option<Intake<A>>,
-    captures: &mut [S],
+    files: &mut [S],
+    ways: &[Result<Flows, Refusal>],
+    seen: &mut [Seen],
     place: usize,
     said: &mut [u8],
-    buf: &mut [u8],
 ) -> Result<(), Fault>
-    requires place { place < length captures.old }
+    requires place { place < length files.old }
     requires text { 65535 ≤ length said.old }
-    requires room { 65535 ≤ length buf.old }
     ensures text { length said.new ≡ length said.old }
-    ensures room { length buf.new ≡ length buf.old }
-    ensures len { length captures.new ≡ length captures.old }
-    ensures front { take place captures.new ≡ take place captures.old }
-    ensures behind { drop (place + 1) captures.new ≡ drop (place + 1) captures.old }
-    ensures taken { OnOk result (FirstIs
-        (λ s. TakesFile opening.now (WasRead S.gave S.ended s) begun.old begun.new)
-        (zip (drop place captures.old) (drop place captures.new))) }
-    ensures sound { FirstIs (TakesPart opening.now S.gave begun.old begun.new)
-        (zip (drop place captures.old) (drop place captures.new)) }
+    ensures len { length files.new ≡ length files.old }
+    ensures front { take place files.new ≡ take place files.old }
+    ensures behind { drop (place + 1) files.new ≡ drop (place + 1) files.old }
+    ensures taken { OnOk result (FirstIs (λ s. TakesFile opening.now (way_at ways.now place)
+        (WasRead S.gave S.ended s) begun.old begun.new)
+        (zip (drop place files.old) (drop place files.new))) }
+    ensures sound { IfErr result (λ f. FirstIs (TakesPart opening.now (way_at ways.now place)
+        S.gave S.ended f begun.old begun.new)
+        (zip (drop place files.old) (drop place files.new))) }
     ensures begun { OnOk result (begun.new ≢ None) }
     ensures refusal { IfErr result (λ f. OfRefusal f (λ r. FirstIs
-        (λ s. IsTakeRefusal opening.now.window.items begun.old (WasRead S.gave S.ended s) r)
-        (zip (drop place captures.old) (drop place captures.new)))) }
-    ensures failures { Accounts result (counts (sum_by S.failures captures.old)
-        (sum_by S.failures captures.new) ∷ []) }
+        (λ s. IsTakeRefusal opening.now.window.items (way_at ways.now place) begun.old
+        (WasRead S.gave S.ended s) r)
+        (zip (drop place files.old) (drop place files.new)))) }
+    ensures failures { Accounts result (counts (sum_by S.failures files.old)
+        (sum_by S.failures files.new) ∷ []) }
 {
-    take_one(alloc, opening, begun, &mut captures[place], said, buf)
+    let way = Way::at(ways, place);
+    take_one(
+        alloc,
+        opening,
+        begun,
+        &mut files[place],
+        way,
+        seen,
+        place,
+        said,
+    )
 }
 
-/// Takes a capture. Where no receiver is open yet, its text opens one.
+/// Takes the file of a place. Where no receiver is open yet, its text opens one.
 fn take_one<A: Allocator + Copy, S: ByteSource>(
     alloc: A,
     opening: &Asked<A>,
     begun: &mut Option<Intake<A>>,
-    capture: &mut S,
+    file: &mut S,
+    way: Way,
+    seen: &mut [Seen],
+    place: usize,
     said: &mut [u8],
-    buf: &mut [u8],
 ) -> Result<(), Fault>
     requires text { 65535 ≤ length said.old }
-    requires room { 65535 ≤ length buf.old }
     ensures text { length said.new ≡ length said.old }
-    ensures room { length buf.new ≡ length buf.old }
-    ensures taken { OnOk result (TakesFile opening.now (IsRead (S.gave capture.old)
-        (S.gave capture.new) (S.ended capture.new)) begun.old begun.new) }
-    ensures sound { TakesPart opening.now S.gave begun.old begun.new (capture.old, capture.new) }
+    ensures taken { OnOk result (TakesFile opening.now way (IsRead (S.gave file.old)
+        (S.gave file.new) (S.ended file.new)) begun.old begun.new) }
+    ensures sound { IfErr result (λ f. TakesPart opening.now way S.gave S.ended f begun.old
+        begun.new (file.old, file.new)) }
     ensures begun { OnOk result (begun.new ≢ None) }
-    ensures refusal { IfErr result (λ f. OfRefusal f (IsTakeRefusal opening.now.window.items
-        begun.old (IsRead (S.gave capture.old) (S.gave capture.new) (S.ended capture.new)))) }
-    ensures failures { Accounts result (counts (S.failures capture.old) (S.failures capture.new)
+    ensures refusal { IfErr result (λ f. OfRefusal f (IsTakeRefusal opening.now.window.items way
+        begun.old (IsRead (S.gave file.old) (S.gave file.new) (S.ended file.new)))) }
+    ensures failures { Accounts result (counts (S.failures file.old) (S.failures file.new)
         ∷ []) }
 {
-    let mut reader = match CaptureReader::open(&mut *capture, said) {
+    let mut reader = match DatagramReader::open(alloc, way.flows(), &mut *file, said) {
         Ok(reader) => reader,
-        Err(failed) => return Err(of_capture(failed.0)),
+        Err(failed) => return Err(unopened(way, failed.0, failed.1)),
     };
     let text = &said[..reader.text_len()];
-    let taken = take_opened(alloc, opening, begun, &mut reader, text, buf);
+    let taken = take_opened(alloc, opening, begun, &mut reader, text);
+    note_seen(seen, place, &reader);
+    reader.history();
     let _ = reader.into_inner();
     taken
 }
 
-/// Takes a capture whose reader has just been opened. Where no receiver is open yet, the capture's
-/// text opens one.
+/// Takes a file whose reader has just been opened. Where no receiver is open yet, the file's text
+/// opens one.
 fn take_opened<A: Allocator + Copy, S: ByteSource>(
     alloc: A,
     opening: &Asked<A>,
     begun: &mut Option<Intake<A>>,
-    reader: &mut CaptureReader<S>,
+    reader: &mut DatagramReader<A, S>,
     text: &[u8],
-    buf: &mut [u8],
 ) -> Result<(), Fault>
-    requires room { 65535 ≤ length buf.old }
-    requires new { IsNewReader reader.old }
-    requires before { reader.old.before ≡ record {
-      gave = S.gave reader.old.source;
-      to_give = S.to_give reader.old.source;
-      failures = S.failures reader.old.source;
-    } }
-    ensures room { length buf.new ≡ length buf.old }
-    ensures taken { OnOk result (TakesFile opening.now (HasBehind
-        (IsRead (S.gave reader.old.source) (S.gave reader.new.source)
-        (S.ended reader.new.source)) text.now) begun.old begun.new) }
-    ensures sound { TakesFile opening.now (HasBehind (IsRead (S.gave reader.old.source)
-        (S.gave reader.new.source) ⊤) text.now) begun.old begun.new ⊎ (begun.new ≡ begun.old) }
+    requires reads { reader.old.standing ≡ Reads }
+    requires none { reader.old.records ≡ [] }
+    ensures taken { OnOk result (TakesRecords opening.now text.now (octets_of reader.new.records)
+        begun.old begun.new) }
     ensures begun { OnOk result (begun.new ≢ None) }
-    ensures refusal { IfErr result (λ f. OfRefusal f (IsTakeRefusal opening.now.window.items
-        begun.old (HasBehind (IsRead (S.gave reader.old.source) (S.gave reader.new.source)
-        (S.ended reader.new.source)) text.now))) }
-    ensures grown { GrewFrom (S.gave reader.old.source) (S.gave reader.new.source) }
+    ensures ended { OnOk result (reader.new.standing ≡ Ended) }
+    // Up to a fault the datagrams of the records that were read were taken; or nothing was begun.
+    ensures stop { IfErr result (λ f.
+        (TakesRecords opening.now text.now (octets_of reader.new.records) begun.old begun.new
+        × IsReadingStop reader.new.standing (length reader.new.records) f)
+        ⊎ ((begun.new ≡ begun.old) × OfRefusal f (λ r. (begun.old ≡ None)
+        × IsFrontRefusal opening.now.window.items text.now r))) }
+    ensures same { IsSameFile reader.old reader.new }
     ensures failures { Accounts result (counts (S.failures reader.old.source)
         (S.failures reader.new.source) ∷ []) }
     ensures names { S.names reader.new.source ≡ S.names reader.old.source }
 {
     if let Some(intake) = begun {
-        return intake.take_capture(reader, buf);
+        return intake.take_records(reader);
     }
     let mut intake = open_by_text(alloc, opening, text)?;
-    let taken = intake.take_capture(reader, buf);
+    let taken = intake.take_records(reader);
     *begun = Some(intake);
     taken
 }
 
-/// Opens a receiver by a capture's text.
+/// Opens a receiver by a file's text.
 fn open_by_text<A: Allocator + Copy>(
     alloc: A,
     opening: &Asked<A>,

@@ -1,5 +1,5 @@
 //! What a receiver was given.
-use crate::tally::Tally;
+use path_receiver::Tally;
 
 /// What a receiver was given.
 #[derive(Drop)]

@@ -1,12 +1,12 @@
-//! Captures that are taken into one receiver, all or up to a fault.
+//! Files that are taken into one receiver, all or up to a fault.
 ghost use Rattle.std.specs.Prelude.{◌≡◌, ◌≢◌, ◌⊎◌, ◌∷◌, ◌++◌, [], ⊤, IfErr, IfOk, IsErr, IsFalse};
-ghost use Rattle.std.specs.Prelude.{IsTrue, MatchOption, MatchResult, None, OnErr, OnOk, Some};
+ghost use Rattle.std.specs.Prelude.{IsTrue, MatchOption, MatchResult, None, OnErr, OnOk, Some, Err};
 ghost use Rattle.std.specs.Prelude.{length, sum_by};
 ghost use Rattle.std.specs.List.{zip};
 ghost use Rattle.std.specs.Option.{option_copied};
 ghost use Rattle.capture_engines.specs.Counted.{CountsReceived};
 ghost use Rattle.capture_engines.specs.Printed.{if_wanted, received_text, tally_text};
-ghost use Rattle.capture_engines.specs.Received.{IsCapturesRefusal, IsReceivingRefusal};
+ghost use Rattle.capture_engines.specs.Received.{IsFilesRefusal, IsReceivingRefusal};
 ghost use Rattle.capture_engines.specs.Receiving.{SavesShown};
 ghost use Rattle.capture_engines.specs.Rescued.{IsRescue, RescueAccounts, Rescues};
 ghost use Rattle.capture_engines.specs.Taking.{ReceivesFiles};
@@ -21,14 +21,15 @@ use crate::intake::Intake;
 use crate::printing::print_tally;
 use crate::receiving::{Asked, Wanted, begin, read_opening, take_all};
 use crate::reception::Reception;
-use crate::tally::Tally;
-use path_merge::Receiver;
+use crate::seen::Seen;
+use flow::Flows;
+use path_receiver::{Receiver, Tally};
 use receiver_file::save_receiver;
 use run_outcome::{Fault, Line, Refusal, of_state, print, print_frames, room};
 use st_format::{ByteSink, ByteSource};
 use std::alloc::Allocator;
 
-/// What was taken of captures.
+/// What was taken of files.
 #[derive(Drop)]
 pub(crate) enum Rescue<A: Allocator> {
     /// All.
@@ -37,23 +38,28 @@ pub(crate) enum Rescue<A: Allocator> {
     Part(Intake<A>, Fault),
 }
 
-/// Takes the datagrams of captures into one receiver, as [`crate::receive`] does, by the SDP text
-/// `sdp`, where one is given. Where `is_sound`, what came before a capture's fault is printed and
-/// saved too, and no capture behind that one is read.
+/// Takes the datagrams of files into one receiver, as [`crate::receive`] does, by the SDP text
+/// `sdp`, where one is given. A file that begins as a recording of another tool is taken by the
+/// flows of its place in `ways`, or refused so; a file of which they say nothing is a capture.
+/// Where `is_sound`, what came before a file's fault is printed and saved too, and no file behind
+/// that one is read.
 ///
+/// What was seen of each file that was opened is noted at its place in `seen`, where there is one.
 /// What a receiver was given is answered by `reception` once the receiver is written: where the run
-/// ends well, or where `is_sound` and a capture's fault alone ends it.
+/// ends well, or where `is_sound` and a file's fault alone ends it.
 ///
 /// # Errors
 ///
-/// As those of [`crate::receive`]; where `is_sound`, a capture's fault comes behind what is printed
+/// As those of [`crate::receive`]; where `is_sound`, a file's fault comes behind what is printed
 /// and saved.
 pub fn receive_files<A, S, K, O>(
     alloc: A,
     wanted: Wanted<'_>,
     is_sound: bool,
     sdp: Option<&[u8]>,
-    captures: &mut [S],
+    files: &mut [S],
+    ways: &[Result<Flows, Refusal>],
+    seen: &mut [Seen],
     state: &mut K,
     output: &mut O,
     reception: &mut Option<Reception>,
@@ -66,34 +72,34 @@ where
     requires { reception.old ≡ None }
     ensures saved { OnOk result (SavesShown wanted.entry.tells_refusals
         (O.took output.old) (O.took output.new) (K.took state.old) (K.took state.new)) }
-    ensures len { length captures.new ≡ length captures.old }
+    ensures len { length files.new ≡ length files.old }
     ensures taken { OnOk result (ReceivesFiles wanted.entry.window.now wanted.entry.ssrc.now
-        (option_copied sdp.entry) (WasRead S.gave S.ended) (zip captures.old captures.new)
+        (option_copied sdp.entry) ways.now (WasRead S.gave S.ended) (zip files.old files.new)
         wanted.entry.tells_refusals
         (O.took output.old) (O.took output.new) (K.took state.old) (K.took state.new)) }
     ensures counted { OnOk result (MatchOption reception.new ⊥
         (CountsReceived wanted.entry.window.now wanted.entry.ssrc.now
-        (option_copied sdp.entry) (WasRead S.gave S.ended) (zip captures.old captures.new))) }
+        (option_copied sdp.entry) ways.now (WasRead S.gave S.ended) (zip files.old files.new))) }
     // Where it ends by a fault behind what it saved, that is what was read before the fault.
-    ensures rescued { OnErr result (MatchOption reception.new ⊤ (λ r. IsTrue is_sound
+    ensures rescued { IfErr result (λ f. MatchOption reception.new ⊤ (λ r. IsTrue is_sound
         × Rescues wanted.entry.window.now wanted.entry.ssrc.now
-        (option_copied sdp.entry) S.gave S.ended (zip captures.old captures.new)
+        (option_copied sdp.entry) ways.now S.gave S.ended f (zip files.old files.new)
         wanted.entry.tells_refusals
         (O.took output.old) (O.took output.new) (K.took state.old) (K.took state.new) r)) }
     ensures refused { IfErr result (λ f. IfRefused f (IsFalse is_sound
         → state.new ≡ state.old)) }
     ensures refusal { IfErr result (λ f. OfRefusal f (IsReceivingRefusal wanted.entry.window.now
-        wanted.entry.ssrc.now (option_copied sdp.entry) (WasRead S.gave S.ended)
-        (zip captures.old captures.new))) }
-    ensures failures { Accounts result (counts (sum_by S.failures captures.old)
-        (sum_by S.failures captures.new)
+        wanted.entry.ssrc.now (option_copied sdp.entry) ways.now (WasRead S.gave S.ended)
+        (zip files.old files.new))) }
+    ensures failures { Accounts result (counts (sum_by S.failures files.old)
+        (sum_by S.failures files.new)
         ∷ counts (K.failures state.old) (K.failures state.new)
         ∷ counts (O.failures output.old) (O.failures output.new) ∷ []) }
 {
     let opening = read_opening(alloc, wanted)?;
     let begun = begin(alloc, &opening, sdp)?;
     let tells = wanted.tells_refusals;
-    match rescue_captures(alloc, &opening, begun, captures)? {
+    match rescue_files(alloc, &opening, begun, files, ways, seen)? {
         Rescue::Whole(intake) => put_out(intake, tells, state, output, reception),
         Rescue::Part(intake, fault) if is_sound => {
             put_part(intake, fault, tells, state, output, reception)
@@ -145,6 +151,8 @@ fn put_part<A: Allocator, K: ByteSink, O: ByteSink>(
 ) -> Result<(), Fault>
     requires { reception.old ≡ None }
     ensures fault { IsErr result }
+    // Where all was written, by that fault.
+    ensures same { MatchOption reception.new ⊤ (λ _. result ≡ Err fault) }
     ensures printed { MatchOption reception.new ⊤ (λ _. O.took output.new ≡ O.took output.old
         ++ received_text tells_refusals intake.delivered (tally_text intake.tally)
         intake.receiver) }
@@ -173,27 +181,28 @@ fn worse(fault: Fault, more: Fault) -> Fault
     }
 }
 
-/// Takes the datagrams of each capture, one capture after the other, up to a fault.
-fn rescue_captures<A: Allocator + Copy, S: ByteSource>(
+/// Takes the datagrams of each file, one file after the other, up to a fault.
+fn rescue_files<A: Allocator + Copy, S: ByteSource>(
     alloc: A,
     opening: &Asked<A>,
     mut begun: Option<Intake<A>>,
-    captures: &mut [S],
+    files: &mut [S],
+    ways: &[Result<Flows, Refusal>],
+    seen: &mut [Seen],
 ) -> Result<Rescue<A>, Fault>
-    ensures len { length captures.new ≡ length captures.old }
-    ensures taken { IfOk result (IsRescue opening.now S.gave S.ended
-        (zip captures.old captures.new) begun) }
-    ensures refusal { IfErr result (λ f. OfRefusal f (IsCapturesRefusal opening.now.window.items
-        begun (WasRead S.gave S.ended) (zip captures.old captures.new))) }
+    ensures len { length files.new ≡ length files.old }
+    ensures taken { IfOk result (IsRescue opening.now ways.now S.gave S.ended
+        (zip files.old files.new) begun) }
+    ensures refusal { IfErr result (λ f. OfRefusal f (IsFilesRefusal opening.now.window.items
+        begun ways.now (WasRead S.gave S.ended) (zip files.old files.new))) }
     ensures failures { MatchResult result
-        (λ r. RescueAccounts r (counts (sum_by S.failures captures.old)
-        (sum_by S.failures captures.new) ∷ []))
-        (Blames (counts (sum_by S.failures captures.old) (sum_by S.failures captures.new)
+        (λ r. RescueAccounts r (counts (sum_by S.failures files.old)
+        (sum_by S.failures files.new) ∷ []))
+        (Blames (counts (sum_by S.failures files.old) (sum_by S.failures files.new)
         ∷ [])) }
 {
-    let mut buf = room(alloc)?;
     let mut said = room(alloc)?;
-    match take_all(alloc, opening, &mut begun, captures, &mut said, &mut buf) {
+    match take_all(alloc, opening, &mut begun, files, ways, seen, &mut said) {
         Ok(()) => match begun {
             Some(intake) => Ok(Rescue::Whole(intake)),
             None => Err(Fault::Refused(Refusal::ReceiveNoSdp)),

@@ -1,24 +1,21 @@
 -- What `inspect` tells of files, and what it refuses before it reads them (own).
-use Rattle.std.specs.Prelude.{◌≡◌, ℕ, ◌⊎◌, List, Bool, true, false, Option, None, Some, Result}
+use Rattle.std.specs.Prelude.{◌≡◌, ℕ, ◌⊎◌, ⊤, List, Bool, true, false, Option, None, Some, Result}
 use Rattle.std.specs.Prelude.{Ok, Err, All, Any, sum_by, if◌then◌else◌, ◌∷◌, [], vec_len}
 use Rattle.std.specs.List.{zip}
 use Rattle.capture_runs.specs.Looked.{IsCapture, IsFresh, IsNoCapture}
-use Rattle.capture_runs.specs.Opened.{AreUnread}
-use Rattle.capture_runs.specs.Received.{AccountsFiles, EndsRecording}
+use Rattle.capture_runs.specs.Opened.{AreUnread, said_text}
 use Rattle.capture_runs.specs.Refused.{IsFlowRefusal, IsTooLong}
-use Rattle.capture_runs.specs.Replayed.{replayed_ended, replayed_gave}
-use Rattle.capture_runs.specs.Window.{SourceRead}
+use Rattle.capture_runs.specs.Replayed.{ReplayedRead, replayed_failures}
 use Rattle.capture_runs.specs.declared.aim.Aim.{Aim}
 use Rattle.capture_runs.specs.declared.aim.Aim.TheVariants as aim
 use Rattle.capture_runs.specs.declared.aim.Inspected.{Inspected}
 use Rattle.capture_runs.specs.declared.opening.Files.{Files}
 use Rattle.capture_runs.specs.declared.replayed.Replayed.{Replayed}
-use Rattle.devices.specs.Passed.{file_failures}
 use Rattle.inspect_engine.specs.Told as flows
 use Rattle.inspect_engine.specs.declared.form.Form.TheVariants as lines
 use Rattle.inspect_engine.specs.declared.form.Form.{Form as FlowForm}
-use Rattle.run_outcome.specs.Fault.{Accounts, Failures, counts, failures_in}
-use Rattle.run_outcome.specs.Moments.{WasRead, pair}
+use Rattle.recording_engines.specs.Ways.{AreWaysBy}
+use Rattle.run_outcome.specs.Fault.{Accounts, Failures, counts}
 use Rattle.run_outcome.specs.declared.fault.Fault.{Fault}
 use Rattle.run_outcome.specs.declared.refusal.Refusal.{Refusal}
 use Rattle.run_outcome.specs.declared.refusal.Refusal.TheVariants.{Script}
@@ -48,13 +45,19 @@ IsAim None false looked told = IsSeen looked told
 
 -- what is read, of which nothing is read yet: that file of the SDP was
 pub record AreFresh (f : Inspected) : Type 0 where
-  pub streams : AreUnread f.streams.sdp f.streams.captures.items
+  pub streams : AreUnread f.streams
   pub flows : All IsFresh f.flows.items
 
 -- the files that are read are so many
 abbrev pub CountFiles : ℕ → Inspected → Aim → Type 0
 CountFiles n f aim.Flows = (vec_len f.looked.value ≡ n) × (vec_len f.flows ≡ n)
-CountFiles n f (aim.Streams w) = vec_len f.streams.captures ≡ n
+CountFiles n f (aim.Streams w) = vec_len f.streams.recordings ≡ n
+
+-- the flows by which each of them is taken are by the words, or by the SDP's text
+abbrev pub TakesByWays : Option (List ℕ) → Option (List ℕ) → ℕ → Inspected → Aim → Type 0
+TakesByWays a b n f aim.Flows = ⊤
+TakesByWays a b n f (aim.Streams w) =
+    AreWaysBy a b (said_text f.streams.said) n f.streams.ways.items
 
 -- The refusals before files are read: that there is no such format, which is that of a script's
 -- line; of the SDP's length; of the words for flows.
@@ -62,7 +65,7 @@ abbrev pub IsSetRefusal : Option (Result Target FormatFault) → Option (List �
     → Inspected → Refusal → Type 0
 IsSetRefusal target a b f r =
     ((fault : FormatFault) × (target ≡ Some (Err fault)) × (r ≡ Script 1 (line.Format fault)))
-    ⊎ IsTooLong f.streams.unread r ⊎ IsFlowRefusal a b r
+    ⊎ IsTooLong f.streams.sdp r ⊎ IsFlowRefusal a b r
 
 -- ---- what was told
 
@@ -73,10 +76,6 @@ flow_form is_json = if is_json then lines.Json else lines.Lines
 abbrev pub stream_form : Bool → StreamForm
 stream_form is_json = if is_json then columns.Json else columns.Columns
 
--- what was read of a file
-abbrev pub ReplayedRead : Replayed × Replayed → List ℕ → Type 0
-ReplayedRead = WasRead replayed_gave replayed_ended
-
 -- what was printed are the flows of the recordings that were read
 abbrev pub TellsFlows : Bool → List Replayed → List Replayed → List ℕ → List ℕ → Type 0
 TellsFlows is_json old new shown shown' =
@@ -85,8 +84,8 @@ TellsFlows is_json old new shown shown' =
 -- what was printed is told of all datagrams of the captures and recordings that were read
 abbrev pub TellsStream : Wanted → Bool → Files → Files → List ℕ → List ℕ → Type 0
 TellsStream w is_json old new shown shown' =
-    streams.Tells w (stream_form is_json) SourceRead (pair old.sdp new.sdp)
-    (zip old.captures.items new.captures.items) None shown shown'
+    streams.Tells w (stream_form is_json) (said_text old.said) old.ways.items ReplayedRead
+    (zip old.recordings.items new.recordings.items) None shown shown'
 
 abbrev pub TellsAim : Aim → Bool → Inspected → Inspected → List ℕ → List ℕ → Type 0
 TellsAim aim.Flows is_json old new shown shown' =
@@ -100,12 +99,10 @@ abbrev pub IsFlowsRefusal : Bool → List Replayed → List Replayed → List �
 IsFlowsRefusal is_json old new shown shown' =
     flows.IsInspectRefusal (flow_form is_json) ReplayedRead (zip old new) shown shown'
 
--- or the fault of a recording
 abbrev pub IsStreamRefusal : Wanted → Bool → Files → Files → List ℕ → List ℕ → Refusal → Type 0
 IsStreamRefusal w is_json old new shown shown' r =
-    streams.IsStreamsRefusal w (stream_form is_json) SourceRead (pair old.sdp new.sdp)
-    (zip old.captures.items new.captures.items) shown shown' r
-    ⊎ Any (EndsRecording r) new.captures.items
+    streams.IsStreamsRefusal w (stream_form is_json) (said_text old.said) old.ways.items
+    ReplayedRead (zip old.recordings.items new.recordings.items) shown shown' r
 
 abbrev pub IsAimRefusal : Aim → Bool → Inspected → Inspected → List ℕ → List ℕ → Refusal → Type 0
 IsAimRefusal aim.Flows is_json old new shown shown' r =
@@ -113,25 +110,14 @@ IsAimRefusal aim.Flows is_json old new shown shown' r =
 IsAimRefusal (aim.Streams w) is_json old new shown shown' r =
     IsStreamRefusal w is_json old.streams new.streams shown shown' r
 
--- how often a file had failed
-abbrev pub failures_of : Replayed → ℕ
-failures_of r = file_failures r.file
-
 -- which devices failed, by what the run came to
-abbrev pub AccountsFlows : List Replayed → List Replayed → Failures → Result (Unit {0}) Fault
+abbrev pub AccountsRead : List Replayed → List Replayed → Failures → Result (Unit {0}) Fault
     → Type 0
-AccountsFlows old new output outcome =
-    Accounts outcome (counts (sum_by failures_of old) (sum_by failures_of new) ∷ output ∷ [])
-
-abbrev pub AccountsStream : Files → Files → Failures → Result (Unit {0}) Fault → Type 0
-AccountsStream old new output outcome =
-    AccountsFiles outcome (counts (failures_in (λ s. s.failures) old.sdp)
-    (failures_in (λ s. s.failures) new.sdp)
-    ∷ counts (sum_by (λ s. s.failures) old.captures.items)
-    (sum_by (λ s. s.failures) new.captures.items) ∷ output ∷ [])
+AccountsRead old new output outcome = Accounts outcome
+    (counts (sum_by replayed_failures old) (sum_by replayed_failures new) ∷ output ∷ [])
 
 abbrev pub AccountsAim : Aim → Inspected → Inspected → Failures → Result (Unit {0}) Fault → Type 0
 AccountsAim aim.Flows old new output outcome =
-    AccountsFlows old.flows.items new.flows.items output outcome
+    AccountsRead old.flows.items new.flows.items output outcome
 AccountsAim (aim.Streams w) old new output outcome =
-    AccountsStream old.streams new.streams output outcome
+    AccountsRead old.streams.recordings.items new.streams.recordings.items output outcome

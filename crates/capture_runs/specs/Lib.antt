@@ -1,7 +1,6 @@
 pub mod Replaying
 pub mod Replayed
 pub mod Opened
-pub mod Received
 pub mod Window
 pub mod Refused
 pub mod Looked

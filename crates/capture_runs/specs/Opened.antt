@@ -1,32 +1,24 @@
--- What `receive` has opened before it takes datagrams (own).
-use Rattle.std.specs.Prelude.{◌≡◌, List, ℕ, [], Option, None, Some, All, false, ⊤}
+-- What `receive` and `inspect` have opened before they take datagrams (own).
+use Rattle.std.specs.Prelude.{ℕ, List, [], Option, None, Some, All, Vec, ⊤}
+use Rattle.capture_runs.specs.Looked.{IsFresh}
 use Rattle.capture_runs.specs.Replayed.{replayed_ended, replayed_gave}
+use Rattle.capture_runs.specs.declared.opening.Files.{Files}
 use Rattle.capture_runs.specs.declared.replayed.Replayed.{Replayed}
-use Rattle.recorded_capture.specs.Source.{CaptureView, Fresh, Text}
 use Rattle.run_outcome.specs.Text.{GivesText}
 
--- a file that is read as a capture, or whose text was read as the SDP
-abbrev pub Source : Type 0
-Source = CaptureView Replayed
+-- the octets of a text, where there is one
+abbrev pub said_text : {A : Type 0} → Option (Vec ℕ A) → Option (List ℕ)
+said_text None = None
+said_text (Some text) = Some text.items
 
--- an SDP's text was read of its file, and none of it is given yet
-pub record IsSaid (s : Source) : Type 0 where
-  pub text : List ℕ
-  pub place : s.place ≡ Text text 0 false
-  pub read : GivesText 16777216 [] (replayed_gave s.source) (replayed_ended s.source) text
-  pub gave : s.gave ≡ []
+-- an SDP's text is all that was read of its file
+abbrev pub IsSaid : Option Replayed → Option (List ℕ) → Type 0
+IsSaid file None = ⊤
+IsSaid None (Some text) = ⊥
+IsSaid (Some file) (Some text) =
+    GivesText 16777216 [] (replayed_gave file) (replayed_ended file) text
 
-abbrev pub IsSaidIf : Option Source → Type 0
-IsSaidIf None = ⊤
-IsSaidIf (Some s) = IsSaid s
-
--- nothing of a file was looked at
-pub record IsUnread (s : Source) : Type 0 where
-  pub place : s.place ≡ Fresh
-  pub unread : replayed_gave s.source ≡ []
-  pub gave : s.gave ≡ []
-
--- so of all captures, of which no datagram was taken yet
-pub record AreUnread (sdp : Option Source) (captures : List Source) : Type 0 where
-  pub said : IsSaidIf sdp
-  pub unread : All IsUnread captures
+-- the SDP was read, where there is one, and nothing of the captures and recordings
+pub record AreUnread (f : Files) : Type 0 where
+  pub said : IsSaid f.sdp (said_text f.said)
+  pub unread : All IsFresh f.recordings.items

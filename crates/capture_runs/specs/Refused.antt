@@ -1,7 +1,8 @@
 -- What `receive` refuses before it takes datagrams (own).
 use Rattle.std.specs.Prelude.{◌≡◌, ◌⊎◌, ℕ, List, [], Bool, Option, None, Some, true}
+use Rattle.capture_runs.specs.Opened.{said_text}
 use Rattle.capture_runs.specs.Replayed.{replayed_gave}
-use Rattle.capture_runs.specs.Window.{IsLookedRefusal, IsWordRefusal, said_text}
+use Rattle.capture_runs.specs.Window.{IsLookedRefusal, IsWordRefusal}
 use Rattle.capture_runs.specs.declared.opening.Files.{Files}
 use Rattle.capture_runs.specs.declared.replayed.Replayed.{Replayed}
 use Rattle.recording_engines.specs.Imported as flows
@@ -25,5 +26,5 @@ abbrev pub IsOpeningRefusal : List ℕ → List ℕ → Bool → Option (List �
     → Files → Refusal → Type 0
 IsOpeningRefusal window ssrc is_input a b files r = IsWordRefusal window ssrc r
     ⊎ ((r ≡ OutputIsInput writer.Receive) × (is_input ≡ true))
-    ⊎ IsTooLong files.unread r ⊎ IsFlowRefusal a b r
-    ⊎ IsLookedRefusal window ssrc (said_text files.sdp) files.looked.items r
+    ⊎ IsTooLong files.sdp r ⊎ IsFlowRefusal a b r
+    ⊎ IsLookedRefusal window ssrc (said_text files.said) files.ways.items files.looked.items r

@@ -1,32 +1,33 @@
 //! `inspect` over the devices of this machine.
 ghost use Rattle.std.specs.Prelude.{◌≡◌, ◌⊎◌, [], Err, IfErr, IfOk, MatchResult, OnOk, is_some};
-ghost use Rattle.std.specs.Prelude.{if◌then◌else◌, length, vec_len, All, ◌||◌};
+ghost use Rattle.std.specs.Prelude.{length, vec_len, ◌||◌};
 ghost use Rattle.std.specs.Option.{option_copied};
-ghost use Rattle.capture_runs.specs.Inspected.{AccountsAim, AreFresh, CountFiles, IsAim};
-ghost use Rattle.capture_runs.specs.Inspected.{AccountsFlows, AccountsStream, IsAimRefusal};
-ghost use Rattle.capture_runs.specs.Inspected.{IsFlowsRefusal, IsSeen, IsSetRefusal};
-ghost use Rattle.capture_runs.specs.Inspected.{IsStreamRefusal, TellsAim, TellsFlows, TellsStream};
-ghost use Rattle.capture_runs.specs.Inspected.{flow_form, stream_form};
-ghost use Rattle.capture_runs.specs.Opened.{AreUnread, IsUnread};
+ghost use Rattle.capture_runs.specs.Inspected.{AccountsAim, AccountsRead, AreFresh, CountFiles};
+ghost use Rattle.capture_runs.specs.Inspected.{IsAim, IsAimRefusal, IsFlowsRefusal, IsSeen};
+ghost use Rattle.capture_runs.specs.Inspected.{IsSetRefusal, IsStreamRefusal, TakesByWays};
+ghost use Rattle.capture_runs.specs.Inspected.{TellsAim, TellsFlows, TellsStream, flow_form};
+ghost use Rattle.capture_runs.specs.Inspected.{stream_form};
+ghost use Rattle.capture_runs.specs.Opened.{AreUnread, said_text};
 ghost use Rattle.capture_runs.specs.Refused.{IsFlowRefusal, IsTooLong};
 ghost use Rattle.devices.specs.Passed.{output_failures, output_took};
+ghost use Rattle.recording_engines.specs.Ways.{AreWaysBy};
 ghost use Rattle.run_outcome.specs.Fault.{counts};
 ghost use Rattle.run_outcome.specs.Refusing.{OfRefusal};
 ghost use Rattle.run_outcome.specs.declared.fault.Fault.TheVariants.{Refused};
 
 use crate::aim::{Aim, Inspected};
 use crate::looking::{files_of, fresh_files, look_at};
-use crate::opening::{Files, Source, push_capture, text_of};
-use crate::receiving::{octets, told_by};
+use crate::opening::{Files, text_of};
+use crate::receiving::octets;
 use crate::replayed::Replayed;
+use crate::replaying::last_begun;
+use capture_engines::Seen;
 use command_end::{Command, Devices, Hints, Ran};
 use command_line::InspectWords;
-use devices::{OutputSink, Reading};
-use flow::Flows;
+use devices::OutputSink;
 use inspect_engine::Form as FlowForm;
-use recorded_capture::{CaptureSource, Seen, ways_each};
 use recording_engines::Importing;
-use run_outcome::{Fault, LineFault, Refusal};
+use run_outcome::{Fault, LineFault};
 use st_format::FormatFault;
 use std::io::Stdout;
 use std::snapshot::Snapshot;
@@ -130,6 +131,8 @@ fn open<'a>(
         || (is_some asked.entry.flows.a || is_some asked.entry.flows.b))
         files.new.looked.value.items) }
     ensures each { IfOk result (CountFiles (length asked.entry.recordings.now) files.new) }
+    ensures ways { IfOk result (TakesByWays (option_copied asked.entry.flows.a)
+        (option_copied asked.entry.flows.b) (length asked.entry.recordings.now) files.new) }
     ensures refusal { IfErr result (λ f. OfRefusal f (IsSetRefusal asked.entry.target
         (option_copied asked.entry.flows.a) (option_copied asked.entry.flows.b) files.new)) }
 {
@@ -152,11 +155,13 @@ fn open_named<'a>(
     ensures fresh { AreFresh files.new }
     ensures aim { IfOk result (λ aim. aim ≡ Aim.Streams wanted) }
     ensures each { IfOk result (CountFiles (length asked.entry.recordings.now) files.new) }
-    ensures refusal { IfErr result (λ f. OfRefusal f (λ r. IsTooLong files.new.streams.unread r
+    ensures ways { IfOk result (TakesByWays (option_copied asked.entry.flows.a)
+        (option_copied asked.entry.flows.b) (length asked.entry.recordings.now) files.new) }
+    ensures refusal { IfErr result (λ f. OfRefusal f (λ r. IsTooLong files.new.streams.sdp r
         ⊎ IsFlowRefusal (option_copied asked.entry.flows.a)
         (option_copied asked.entry.flows.b) r)) }
 {
-    let recordings = files_of(rt, asked.recordings)?;
+    let recordings = files_of(rt, asked.recordings, false)?;
     open_streams(rt, asked, recordings, &mut files.streams)?;
     Ok(Aim::Streams(wanted))
 }
@@ -172,7 +177,9 @@ fn open_looked<'a>(
     ensures fresh { AreFresh files.new }
     ensures aim { IfOk result (IsSeen files.new.looked.value.items) }
     ensures each { IfOk result (CountFiles (length asked.entry.recordings.now) files.new) }
-    ensures refusal { IfErr result (λ f. OfRefusal f (λ r. IsTooLong files.new.streams.unread r
+    ensures ways { IfOk result (TakesByWays (option_copied asked.entry.flows.a)
+        (option_copied asked.entry.flows.b) (length asked.entry.recordings.now) files.new) }
+    ensures refusal { IfErr result (λ f. OfRefusal f (λ r. IsTooLong files.new.streams.sdp r
         ⊎ IsFlowRefusal (option_copied asked.entry.flows.a)
         (option_copied asked.entry.flows.b) r)) }
 {
@@ -186,61 +193,27 @@ fn open_looked<'a>(
     Ok(Aim::Flows)
 }
 
-/// Reads the SDP where one is named, and makes captures of files, from their fronts.
+/// Reads the SDP where one is named, and opens files from their fronts.
 fn open_streams<'a>(
     rt: &'a HostRuntime,
     asked: InspectAsked<'a>,
     recordings: Vec<Replayed<'a>>,
     files: &mut Files<'a>,
 ) -> Result<(), Fault>
-    requires { AreUnread files.old.sdp files.old.captures.items }
-    ensures unread { AreUnread files.new.sdp files.new.captures.items }
-    ensures each { OnOk result (vec_len files.new.captures ≡ vec_len recordings.entry) }
-    ensures refusal { IfErr result (λ f. OfRefusal f (λ r. IsTooLong files.new.unread r
+    requires { AreUnread files.old }
+    ensures unread { AreUnread files.new }
+    ensures each { OnOk result (vec_len files.new.recordings ≡ vec_len recordings.entry) }
+    ensures ways { OnOk result (AreWaysBy (option_copied asked.entry.flows.a)
+        (option_copied asked.entry.flows.b) (said_text files.new.said)
+        (length asked.entry.recordings.now) files.new.ways.items) }
+    ensures refusal { IfErr result (λ f. OfRefusal f (λ r. IsTooLong files.new.sdp r
         ⊎ IsFlowRefusal (option_copied asked.entry.flows.a)
         (option_copied asked.entry.flows.b) r)) }
 {
     files.read_sdp(rt, asked.sdp)?;
-    files.captures = captures_over(rt, asked.flows, text_of(&files.sdp), recordings)?;
+    files.find_ways(rt, asked.flows, asked.recordings.len())?;
+    files.recordings = fresh_files(rt, recordings)?;
     Ok(())
-}
-
-/// The captures of files, none of which is looked at yet, each with the flows that it is taken by
-/// if it is a recording.
-fn captures_over<'a>(
-    rt: &'a HostRuntime,
-    flows: Importing<'a>,
-    said: Option<&[u8]>,
-    files: Vec<Replayed<'a>>,
-) -> Result<Vec<Source<'a>>, Fault>
-    ensures unread { IfOk result (λ captures. All IsUnread captures.items) }
-    ensures each { IfOk result (λ captures. vec_len captures ≡ vec_len files.entry) }
-    ensures refusal { IfErr result (λ f. OfRefusal f (IsFlowRefusal
-        (option_copied flows.entry.a) (option_copied flows.entry.b))) }
-{
-    let mut files = files;
-    let ways = ways_for(rt, flows, said, files.len())?;
-    let mut captures = Vec::new(rt.alloc());
-    for way in &ways {
-        let file = files.remove(0).again()?;
-        push_capture(&mut captures, CaptureSource::new(rt.alloc(), *way, file))?;
-    }
-    Ok(captures)
-}
-
-/// The flows by which each of so many files is taken that is a recording, or the refusal that comes
-/// where one is.
-fn ways_for<'a>(
-    rt: &HostRuntime,
-    flows: Importing<'a>,
-    said: Option<&[u8]>,
-    count: usize,
-) -> Result<Vec<Result<Flows, Refusal>>, Fault>
-    ensures each { IfOk result (λ ways. length ways.items ≡ count) }
-    ensures refusal { IfErr result (λ f. OfRefusal f (IsFlowRefusal
-        (option_copied flows.entry.a) (option_copied flows.entry.b))) }
-{
-    ways_each(rt.alloc(), flows, said, count)
 }
 
 /// The form of flows that is asked for.
@@ -276,14 +249,14 @@ fn tell_flows(
         (output_took output.old) (output_took output.new)) }
     ensures refusal { IfErr result (λ f. OfRefusal f (IsFlowsRefusal is_json recordings.old.items
         recordings.new.items (output_took output.old) (output_took output.new))) }
-    ensures owed { AccountsFlows recordings.old.items recordings.new.items
+    ensures owed { AccountsRead recordings.old.items recordings.new.items
         (counts (output_failures output.old) (output_failures output.new)) result }
 {
     let form = form_of_flows(is_json);
     inspect_engine::inspect(rt.alloc(), recordings.as_mut_slice(), form, output)
 }
 
-/// Tells what came of a stream, and a fault of what was read in place of a device's.
+/// Tells what came of a stream.
 fn tell_stream(
     rt: &HostRuntime,
     wanted: Wanted,
@@ -295,28 +268,20 @@ fn tell_stream(
         (output_took output.old) (output_took output.new)) }
     ensures refusal { IfErr result (λ f. OfRefusal f (λ r. IsStreamRefusal wanted is_json
         files.old files.new (output_took output.old) (output_took output.new) r)) }
-    ensures owed { AccountsStream files.old files.new
+    ensures owed { AccountsRead files.old.recordings.items files.new.recordings.items
         (counts (output_failures output.old) (output_failures output.new)) result }
 {
     let form = form_of_streams(is_json);
-    let outcome = inspect_streams(
+    inspect_streams(
         rt.alloc(),
         wanted,
         form,
-        &mut files.sdp,
-        files.captures.as_mut_slice(),
+        text_of(&files.said),
+        files.recordings.as_mut_slice(),
+        files.ways.as_slice(),
+        files.seen.as_mut_slice(),
         output,
-    );
-    told_by(outcome, files.captures.as_slice())
-}
-
-/// Where the reading of the last of some files stands that was begun.
-fn last_begun<'a>(files: &[Replayed<'a>]) -> Option<Reading<'a>> {
-    let mut last = None;
-    for file in files {
-        last = file.begun().or(last);
-    }
-    last
+    )
 }
 
 impl InspectCommand<'_> {
@@ -336,6 +301,8 @@ impl<'a> Command for InspectCommand<'a> {
         × IfOk c.opened (IsAim c.asked.target (is_some c.asked.sdp
         || (is_some c.asked.flows.a || is_some c.asked.flows.b)) c.files.looked.value.items)
         × IfOk c.opened (CountFiles (length c.asked.recordings.now) c.files)
+        × IfOk c.opened (TakesByWays (option_copied c.asked.flows.a)
+        (option_copied c.asked.flows.b) (length c.asked.recordings.now) c.files)
         × IfErr c.opened (λ f. OfRefusal f (IsSetRefusal c.asked.target
         (option_copied c.asked.flows.a) (option_copied c.asked.flows.b) c.files)) };
 

@@ -21,19 +21,32 @@ pub(crate) struct Looked<'a> {
     pub(crate) have_capture: bool,
 }
 
-/// The files of these names, none of which is looked at yet.
+/// The files of these names, none of which is looked at yet. They may be to be read twice.
 pub(crate) fn files_of<'a>(
     rt: &'a HostRuntime,
     names: &[&'a str],
+    is_twice: bool,
 ) -> Result<Vec<Replayed<'a>>, Fault>
+    ensures fresh { IfOk result (λ files. All IsFresh files.items) }
     ensures each { IfOk result (λ files. vec_len files ≡ length names.now) }
     ensures unrefused { IfErr result (λ f. IfRefused f ⊥) }
 {
     let mut files = Vec::new(rt.alloc());
     for name in names {
-        push_file(&mut files, Replayed::once(rt, name))?;
+        push_file(&mut files, file_of(rt, name, is_twice))?;
     }
     Ok(files)
+}
+
+/// The file of a name, which may be to be read twice.
+fn file_of<'a>(rt: &'a HostRuntime, name: &'a str, is_twice: bool) -> Replayed<'a>
+    ensures { IsFresh result }
+{
+    if is_twice {
+        Replayed::first(rt, name)
+    } else {
+        Replayed::once(rt, name)
+    }
 }
 
 /// Looks at the files of these names for one that begins as a capture, up to the first that does.

@@ -1,29 +1,30 @@
 //! `receive` over the devices of this machine.
-ghost use Rattle.std.specs.Prelude.{◌≡◌, ◌⊎◌, ◌∷◌, [], ⊤, Any, Err, IfErr, IsErr, IsFalse, IsSome};
-ghost use Rattle.std.specs.Prelude.{IsTrue, MatchOption, None, OnErr, OnOk, sum_by};
+ghost use Rattle.std.specs.Prelude.{◌≡◌, ◌⊎◌, ◌∷◌, [], ⊤, Err, IfErr, IsErr, IsFalse, IsSome};
+ghost use Rattle.std.specs.Prelude.{IsTrue, MatchOption, None, OnErr, OnOk, length, sum_by};
 ghost use Rattle.std.specs.List.{zip};
 ghost use Rattle.std.specs.Option.{option_copied};
 ghost use Rattle.capture_engines.specs.Counted.{CountsReceived};
 ghost use Rattle.capture_engines.specs.Received.{IsReceivingRefusal};
 ghost use Rattle.capture_engines.specs.Rescued.{Rescues};
 ghost use Rattle.capture_engines.specs.Taking.{ReceivesFiles};
-ghost use Rattle.capture_runs.specs.Opened.{AreUnread};
-ghost use Rattle.capture_runs.specs.Received.{AccountsFiles, EndsRecording, IsErrOf};
+ghost use Rattle.capture_runs.specs.Opened.{AreUnread, said_text};
 ghost use Rattle.capture_runs.specs.Refused.{IsOpeningRefusal};
-ghost use Rattle.capture_runs.specs.Window.{IsWindow, said_text, window_text};
+ghost use Rattle.capture_runs.specs.Replayed.{ReplayedRead, replayed_ended, replayed_failures};
+ghost use Rattle.capture_runs.specs.Replayed.{replayed_gave};
+ghost use Rattle.capture_runs.specs.Window.{IsWindow, window_text};
 ghost use Rattle.devices.specs.Passed.{HasNoPart, IsInPlace, IsUnplaced, LeavesNoPart};
 ghost use Rattle.devices.specs.Passed.{file_took, output_failures, output_took, sink_failures};
 ghost use Rattle.devices.specs.Passed.{sink_took, writing_failures};
-ghost use Rattle.run_outcome.specs.Fault.{counts};
-ghost use Rattle.run_outcome.specs.Moments.{WasRead};
+ghost use Rattle.recording_engines.specs.Ways.{AreWaysBy};
+ghost use Rattle.run_outcome.specs.Fault.{Accounts, Blames, counts};
 ghost use Rattle.run_outcome.specs.Refusing.{OfRefusal};
+ghost use Rattle.run_outcome.specs.declared.fault.Fault.{Fault as Cause};
 ghost use Rattle.run_outcome.specs.declared.fault.Fault.TheVariants.{Refused};
-ghost use Rattle.recorded_capture.specs.Source.{IsOver};
 
-use crate::opening::{Asked, Files, Source, is_asked, text_of};
+use crate::opening::{Asked, Files, is_asked, text_of};
 use crate::room::room_of;
 use crate::window::window_of;
-use capture_engines::{Reception, Wanted};
+use capture_engines::{Reception, Wanted, receive_files};
 use command_end::{Command, Devices, Hints, Ran};
 use command_line::ReceiveWords;
 use devices::{FileOutput, FileSink, OutputSink, Rest, Stream};
@@ -103,7 +104,7 @@ impl ReceiveCommand<'_> {
     }
 }
 
-/// Receives, and tells a fault of what was read in place of a device's.
+/// Receives.
 fn take(
     rt: &HostRuntime,
     wanted: Wanted<'_>,
@@ -115,32 +116,32 @@ fn take(
 ) -> Result<(), Fault>
     requires { reception.old ≡ None }
     ensures taken { OnOk result (ReceivesFiles (window_text files.old.found wanted.entry.window.now)
-        wanted.entry.ssrc.now
-        (said_text files.old.sdp) (WasRead (λ s. s.gave) (λ s. IsOver s.place))
-        (zip files.old.captures.items files.new.captures.items) wanted.entry.tells_refusals
+        wanted.entry.ssrc.now (said_text files.old.said) files.old.ways.items ReplayedRead
+        (zip files.old.recordings.items files.new.recordings.items) wanted.entry.tells_refusals
         (output_took output.old) (output_took output.new)
         (sink_took state.old) (sink_took state.new)) }
     ensures counted { OnOk result (MatchOption reception.new ⊥
         (CountsReceived (window_text files.old.found wanted.entry.window.now)
-        wanted.entry.ssrc.now
-        (said_text files.old.sdp) (WasRead (λ s. s.gave) (λ s. IsOver s.place))
-        (zip files.old.captures.items files.new.captures.items))) }
-    ensures rescued { OnErr result (MatchOption reception.new ⊤ (λ r. IsTrue is_sound
+        wanted.entry.ssrc.now (said_text files.old.said) files.old.ways.items ReplayedRead
+        (zip files.old.recordings.items files.new.recordings.items))) }
+    // Where what came before a fault was saved: a fault that speaks of the devices as they are.
+    ensures left { OnErr result (MatchOption reception.new ⊤ (λ r. IsTrue is_sound
+        × ((f : Cause) × Blames (counts (sum_by replayed_failures files.old.recordings.items)
+        (sum_by replayed_failures files.new.recordings.items)
+        ∷ counts (sink_failures state.old) (sink_failures state.new)
+        ∷ counts (output_failures output.old) (output_failures output.new) ∷ []) f
         × Rescues (window_text files.old.found wanted.entry.window.now)
-        wanted.entry.ssrc.now
-        (said_text files.old.sdp) (λ s. s.gave) (λ s. IsOver s.place)
-        (zip files.old.captures.items files.new.captures.items) wanted.entry.tells_refusals
-        (output_took output.old) (output_took output.new)
-        (sink_took state.old) (sink_took state.new) r)) }
-    ensures refusal { IfErr result (λ f. OfRefusal f (λ r.
-        IsReceivingRefusal (window_text files.old.found wanted.entry.window.now)
-        wanted.entry.ssrc.now
-        (said_text files.old.sdp) (WasRead (λ s. s.gave) (λ s. IsOver s.place))
-        (zip files.old.captures.items files.new.captures.items) r
-        ⊎ Any (EndsRecording r) files.new.captures.items)) }
-    ensures owed { AccountsFiles result
-        (counts (sum_by (λ s. s.failures) files.old.captures.items)
-        (sum_by (λ s. s.failures) files.new.captures.items)
+        wanted.entry.ssrc.now (said_text files.old.said) files.old.ways.items replayed_gave
+        replayed_ended f (zip files.old.recordings.items files.new.recordings.items)
+        wanted.entry.tells_refusals (output_took output.old) (output_took output.new)
+        (sink_took state.old) (sink_took state.new) r))) }
+    ensures refusal { IfErr result (λ f. OfRefusal f
+        (IsReceivingRefusal (window_text files.old.found wanted.entry.window.now)
+        wanted.entry.ssrc.now (said_text files.old.said) files.old.ways.items ReplayedRead
+        (zip files.old.recordings.items files.new.recordings.items))) }
+    ensures owed { Accounts result
+        (counts (sum_by replayed_failures files.old.recordings.items)
+        (sum_by replayed_failures files.new.recordings.items)
         ∷ counts (sink_failures state.old) (sink_failures state.new)
         ∷ counts (output_failures output.old) (output_failures output.new) ∷ []) }
 {
@@ -148,17 +149,18 @@ fn take(
         window: window_of(&files.found, wanted.window),
         ..wanted
     };
-    let outcome = capture_engines::receive_files(
+    receive_files(
         rt.alloc(),
         wanted,
         is_sound,
-        text_of(&files.sdp),
-        files.captures.as_mut_slice(),
+        text_of(&files.said),
+        files.recordings.as_mut_slice(),
+        files.ways.as_slice(),
+        files.seen.as_mut_slice(),
         state,
         output,
         reception,
-    );
-    told_by(outcome, files.captures.as_slice())
+    )
 }
 
 /// Whether memory was wanted.
@@ -167,29 +169,6 @@ fn is_memory(outcome: Result<(), Fault>) -> bool {
         Err(Fault::Memory) => true,
         _ => false,
     }
-}
-
-/// An outcome, or in place of a device's fault that of the first file that ended by one.
-pub(crate) fn told_by(outcome: Result<(), Fault>, captures: &[Source<'_>]) -> Result<(), Fault>
-    ensures { (result ≡ outcome)
-        ⊎ ((outcome ≡ Err Fault.Device) × IsErrOf captures.now result) }
-{
-    match outcome {
-        Err(Fault::Device) => Err(fault_in(captures)),
-        outcome => outcome,
-    }
-}
-
-/// The fault of the first file that ended by one; else a device failed.
-pub(crate) fn fault_in(captures: &[Source<'_>]) -> Fault
-    ensures { OfRefusal result (λ r. Any (EndsRecording r) captures.now) }
-{
-    for capture in captures {
-        if let Some(fault) = capture.fault() {
-            return fault;
-        }
-    }
-    Fault::Device
 }
 
 /// What `receive` is asked for.
@@ -219,60 +198,62 @@ pub(crate) fn octets(text: Option<&str>) -> Option<&[u8]> {
 
 impl<'a> Command for ReceiveCommand<'a> {
     // (the SDP was read, which the flows of recordings wait for)
-    ghost is_new = { λ c. AreUnread c.files.sdp c.files.captures.items × (c.reception ≡ None)
+    ghost is_new = { λ c. AreUnread c.files × (c.reception ≡ None)
         × (file_took c.state ≡ []) × IsUnplaced c.state × LeavesNoPart c.state
         × (output_took c.output ≡ []) × OnOk c.opened (IsFalse c.is_input)
         × OnOk c.opened (IsWindow c.asked.wanted.window.now c.asked.wanted.ssrc.now
-        (said_text c.files.sdp) c.files.found)
+        (said_text c.files.said) c.files.ways.items c.files.found)
+        × OnOk c.opened (AreWaysBy (option_copied c.asked.flows.a)
+        (option_copied c.asked.flows.b) (said_text c.files.said)
+        (length c.asked.recordings.now) c.files.ways.items)
         × IfErr c.opened (λ f. OfRefusal f (IsOpeningRefusal c.asked.wanted.window.now
         c.asked.wanted.ssrc.now c.is_input (option_copied c.asked.flows.a)
         (option_copied c.asked.flows.b) c.files)) };
 
     // What is written is the file of a receiver of the window and the source that are asked for,
     // and of what the SDP text says, which holds the Frames of all datagrams of the captures and
-    // recordings that were read; what is printed counts those, and so does what is kept. The window
-    // is that of the words, or, where they ask for the first timestamps, of these, as `is_new`
-    // says.
+    // recordings that were read, of these by their flows; what is printed counts those, and so does
+    // what is kept. The window is that of the words, or, where they ask for the first timestamps,
+    // of these, and the flows are those of the words or the SDP, as `is_new` says.
     ghost does = { λ old new. ReceivesFiles (window_text old.files.found old.asked.wanted.window.now)
-        old.asked.wanted.ssrc.now
-        (said_text old.files.sdp) (WasRead (λ s. s.gave) (λ s. IsOver s.place))
-        (zip old.files.captures.items new.files.captures.items)
+        old.asked.wanted.ssrc.now (said_text old.files.said) old.files.ways.items ReplayedRead
+        (zip old.files.recordings.items new.files.recordings.items)
         old.asked.wanted.tells_refusals (output_took old.output) (output_took new.output)
         (file_took old.state) (file_took new.state)
         × MatchOption new.reception ⊥ (CountsReceived
         (window_text old.files.found old.asked.wanted.window.now) old.asked.wanted.ssrc.now
-        (said_text old.files.sdp)
-        (WasRead (λ s. s.gave) (λ s. IsOver s.place))
-        (zip old.files.captures.items new.files.captures.items)) };
+        (said_text old.files.said) old.files.ways.items ReplayedRead
+        (zip old.files.recordings.items new.files.recordings.items)) };
 
-    // A refusal before datagrams were taken, one of the words or of what was read, or the fault of
-    // a recording.
+    // A refusal before datagrams were taken, or one of the words or of what was read.
     ghost is_refused = { λ old new r. (old.opened ≡ Err (Refused r))
         ⊎ IsReceivingRefusal (window_text old.files.found old.asked.wanted.window.now)
-        old.asked.wanted.ssrc.now
-        (said_text old.files.sdp) (WasRead (λ s. s.gave) (λ s. IsOver s.place))
-        (zip old.files.captures.items new.files.captures.items) r
-        ⊎ Any (EndsRecording r) new.files.captures.items };
+        old.asked.wanted.ssrc.now (said_text old.files.said) old.files.ways.items ReplayedRead
+        (zip old.files.recordings.items new.files.recordings.items) r };
 
     ghost is_placed = { λ c. IsInPlace c.state × IsFalse c.is_input };
 
     ghost is_unplaced = { λ c. (IsUnplaced c.state
         ⊎ (IsTrue c.is_sound × IsSome c.reception × IsInPlace c.state)) × HasNoPart c.state };
 
-    // Where what came before a fault was saved, that is what was read up to it.
+    // Where what came before a fault was saved, that is what was read up to it: a fault that speaks
+    // of the devices as they are.
     ghost leaves = { λ old new. MatchOption new.reception ⊤ (λ r. IsTrue old.is_sound
+        × ((f : Cause) × Blames (counts (sum_by replayed_failures old.files.recordings.items)
+        (sum_by replayed_failures new.files.recordings.items)
+        ∷ counts (writing_failures old.state) (writing_failures new.state)
+        ∷ counts (output_failures old.output) (output_failures new.output) ∷ []) f
         × Rescues (window_text old.files.found old.asked.wanted.window.now)
-        old.asked.wanted.ssrc.now
-        (said_text old.files.sdp) (λ s. s.gave) (λ s. IsOver s.place)
-        (zip old.files.captures.items new.files.captures.items)
+        old.asked.wanted.ssrc.now (said_text old.files.said) old.files.ways.items replayed_gave
+        replayed_ended f (zip old.files.recordings.items new.files.recordings.items)
         old.asked.wanted.tells_refusals (output_took old.output) (output_took new.output)
-        (file_took old.state) (file_took new.state) r) };
+        (file_took old.state) (file_took new.state) r)) };
 
     // (where it could not begin, it came to what stopped it)
     ghost owes = { λ old new outcome. (IsErr old.opened × (outcome ≡ old.opened))
-        ⊎ AccountsFiles outcome
-        (counts (sum_by (λ s. s.failures) old.files.captures.items)
-        (sum_by (λ s. s.failures) new.files.captures.items)
+        ⊎ Accounts outcome
+        (counts (sum_by replayed_failures old.files.recordings.items)
+        (sum_by replayed_failures new.files.recordings.items)
         ∷ counts (writing_failures old.state) (writing_failures new.state)
         ∷ counts (output_failures old.output) (output_failures new.output) ∷ []) };
 

@@ -106,6 +106,15 @@ impl<'a> Replayed<'a> {
     }
 }
 
+/// Where the reading of the last of some files stands that was begun.
+pub(crate) fn last_begun<'a>(files: &[Replayed<'a>]) -> Option<Reading<'a>> {
+    let mut last = None;
+    for file in files {
+        last = file.begun().or(last);
+    }
+    last
+}
+
 /// Whether a name is that of a plain file, which gives the same octets where it is opened again. A
 /// pipe, a device or a terminal isn't.
 fn is_plain(rt: &HostRuntime, name: &str) -> bool {

@@ -1,17 +1,17 @@
 //! The window of the first timestamps that come of captures and recordings.
-ghost use Rattle.std.specs.Prelude.{◌≡◌, ◌<◌, ◌⊎◌, All, Any, Err, IfErr, IfOk, Ok, Some, length};
+ghost use Rattle.std.specs.Prelude.{◌≡◌, ◌<◌, All, IfErr, IfOk, Some, length};
 ghost use Rattle.std.specs.List.{zip};
 ghost use Rattle.std.specs.Option.{option_copied};
-ghost use Rattle.capture_runs.specs.Opened.{IsUnread};
+ghost use Rattle.capture_runs.specs.Looked.{IsFresh};
+ghost use Rattle.capture_runs.specs.Replayed.{ReplayedRead};
 ghost use Rattle.capture_runs.specs.Window.{IsAsked, IsFound, IsLookedRefusal, IsWordRefusal};
-ghost use Rattle.capture_runs.specs.Received.{EndsRecording};
-ghost use Rattle.capture_runs.specs.Window.{SourceRead, window_text};
+ghost use Rattle.capture_runs.specs.Window.{window_text};
 ghost use Rattle.run_outcome.specs.Refusing.{OfRefusal};
 ghost use Rattle.window_finding.specs.Finding.{FindsFirst, IsFindRefusal};
 
-use crate::opening::Source;
-use crate::receiving::fault_in;
+use crate::replayed::Replayed;
 use capture_engines::{Wanted, check_words};
+use flow::Flows;
 use run_outcome::{Fault, Refusal, read_source};
 use std::snapshot::Snapshot;
 use window_finding::{Sought, find_window, read_first, spell_timestamps};
@@ -21,10 +21,10 @@ use window_finding::{Sought, find_window, read_first, spell_timestamps};
 pub struct Found<'a> {
     /// Its timestamps, with commas between.
     pub window: Vec<u8>,
-    /// The captures that it was found in, as they were before. Only proofs see them.
-    pub fresh: Snapshot<Vec<Source<'a>>>,
+    /// The files that it was found in, as they were before. Only proofs see them.
+    pub fresh: Snapshot<Vec<Replayed<'a>>>,
     /// The same as they were then.
-    pub read: Snapshot<Vec<Source<'a>>>,
+    pub read: Snapshot<Vec<Replayed<'a>>>,
 }
 
 /// How many of the first timestamps the words ask for, and of which source; none where they list
@@ -49,63 +49,50 @@ pub(crate) fn read_words(rt: &HostRuntime, wanted: Wanted<'_>) -> Result<Option<
     }
 }
 
-/// Finds the window that the words ask for in captures of which nothing was read yet, by the SDP
-/// text where one is given.
+/// Finds the window that the words ask for in files of which nothing was read yet, each taken as
+/// `ways` say, by the SDP text where one is given.
 pub(crate) fn find_in<'a>(
     rt: &HostRuntime,
     wanted: Wanted<'_>,
     sought: Sought,
     said: Option<&[u8]>,
-    captures: &mut Vec<Source<'a>>,
+    files: &mut Vec<Replayed<'a>>,
+    ways: &[Result<Flows, Refusal>],
 ) -> Result<Found<'a>, Fault>
-    requires unread { All IsUnread captures.old.items }
+    requires unread { All IsFresh files.old.items }
     requires asked { IsAsked wanted.window.now wanted.ssrc.now (Some sought) }
     ensures found { IfOk result (IsFound wanted.entry.window.now wanted.entry.ssrc.now
-        (option_copied said.entry)) }
+        (option_copied said.entry) ways.now) }
     ensures refusal { IfErr result (λ f. OfRefusal f (IsLookedRefusal wanted.entry.window.now
-        wanted.entry.ssrc.now (option_copied said.entry) captures.new.items)) }
+        wanted.entry.ssrc.now (option_copied said.entry) ways.now files.new.items)) }
 {
-    let fresh = Snapshot::of(captures);
-    let window = find_told(rt, sought, said, captures)?;
+    let fresh = Snapshot::of(files);
+    let window = find_timestamps(rt, sought, said, files, ways)?;
     Ok(Found {
         window: spell_timestamps(rt.alloc(), &window)?,
         fresh,
-        read: Snapshot::of(captures),
+        read: Snapshot::of(files),
     })
 }
 
-/// Finds the first timestamps of captures, and tells a fault of what was read in place of a
-/// device's.
-fn find_told<'a>(
+/// Finds the first timestamps of files.
+fn find_timestamps<'a>(
     rt: &HostRuntime,
     sought: Sought,
     said: Option<&[u8]>,
-    captures: &mut Vec<Source<'a>>,
+    files: &mut Vec<Replayed<'a>>,
+    ways: &[Result<Flows, Refusal>],
 ) -> Result<Vec<u32>, Fault>
-    ensures len { length captures.new.items ≡ length captures.old.items }
+    ensures len { length files.new.items ≡ length files.old.items }
     ensures found { IfOk result (λ window. FindsFirst sought.count sought.ssrc
-        (option_copied said.entry) SourceRead (zip captures.old.items captures.new.items)
+        (option_copied said.entry) ways.now ReplayedRead (zip files.old.items files.new.items)
         window.items) }
     ensures some { IfOk result (λ window. 0 < length window.items) }
-    ensures refusal { IfErr result (λ f. OfRefusal f (λ r. IsFindRefusal sought.count sought.ssrc
-        (option_copied said.entry) SourceRead (zip captures.old.items captures.new.items) r
-        ⊎ Any (EndsRecording r) captures.new.items)) }
+    ensures refusal { IfErr result (λ f. OfRefusal f (IsFindRefusal sought.count sought.ssrc
+        (option_copied said.entry) ways.now ReplayedRead
+        (zip files.old.items files.new.items))) }
 {
-    let outcome = find_window(rt.alloc(), sought, said, captures.as_mut_slice());
-    told_found(outcome, captures.as_slice())
-}
-
-/// What was found, or in place of a device's fault that of the first file that ended by one.
-fn told_found(outcome: Result<Vec<u32>, Fault>, captures: &[Source<'_>]) -> Result<Vec<u32>, Fault>
-    ensures ok { IfOk result (λ window. outcome ≡ Ok window) }
-    ensures err { IfErr result (λ f. (outcome ≡ Err f)
-        ⊎ OfRefusal f (λ r. Any (EndsRecording r) captures.now)) }
-{
-    match outcome {
-        Ok(window) => Ok(window),
-        Err(Fault::Device) => Err(fault_in(captures)),
-        Err(fault) => Err(fault),
-    }
+    find_window(rt.alloc(), sought, said, files.as_mut_slice(), ways)
 }
 
 /// The text of a window: of that which was found, or else of that which the words list.

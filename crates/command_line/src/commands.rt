@@ -289,7 +289,8 @@ const RECEIVED: &[Word] = &[
         usage: Usage::Optional("[ADDR:]PORT"),
         help: "Where the datagrams of path A go in recordings of other tools, in place of what the \
             SDP says of both paths; with their source in front, in quotes: \
-            '192.0.2.1>239.1.1.1:5004'",
+            '192.0.2.1>239.1.1.1:5004'; and in front of all with the interface that a pcapng \
+            names: eth0@239.1.1.1:5004",
     },
     Word {
         name: "b",
@@ -454,7 +455,8 @@ const IMPORTED: &[Word] = &[
         name: "a",
         usage: Usage::Optional("[ADDR:]PORT"),
         help: "Where the datagrams of path A go, in place of what the SDP says of both paths; with \
-            their source in front, in quotes: '192.0.2.1>239.1.1.1:5004'",
+            their source in front, in quotes: '192.0.2.1>239.1.1.1:5004'; and in front of all with \
+            the interface that a pcapng names: eth0@239.1.1.1:5004",
     },
     Word {
         name: "b",
@@ -498,7 +500,8 @@ const INSPECTED: &[Word] = &[
         usage: Usage::Optional("[ADDR:]PORT"),
         help: "Where the datagrams of path A go in recordings of other tools, in place of what the \
             SDP says of both paths; with their source in front, in quotes: \
-            '192.0.2.1>239.1.1.1:5004'",
+            '192.0.2.1>239.1.1.1:5004'; and in front of all with the interface that a pcapng \
+            names: eth0@239.1.1.1:5004",
     },
     Word {
         name: "b",

@@ -1,4 +1,3 @@
 pub mod Held
 pub mod Passed
 pub mod Written
-pub mod Gave

@@ -1,7 +1,7 @@
 //! Devices of this machine: files, standard input, output and error, and two sockets. Each is alone
 //! in its file, and none is changed but by its own calls. What a device gave and took is noted
-//! here, and nowhere else; so what makes octets itself gives them by a [`NotedSource`]. Each device
-//! also says where it stands, for who wants to know why it failed.
+//! here, and nowhere else. Each device also says where it stands, for who wants to know why it
+//! failed.
 #![tactic(auto)]
 
 mod discard;
@@ -12,15 +12,11 @@ mod file_output;
 mod file_sink;
 mod file_source;
 mod files;
-mod giver;
 mod history;
 mod identity;
 mod input;
 mod link;
 mod noted;
-mod noted_source;
-#[cfg(test)]
-mod noting;
 mod output;
 mod place;
 mod standing;
@@ -33,12 +29,10 @@ pub use file_source::FileSource;
 pub use files::{
     any_is, given_files, last_begun, named_file, named_files, one_is, reading_begun, reading_of,
 };
-pub use giver::Giver;
 pub use history::{Arrivals, History, Sendings};
 pub use identity::Identity;
 pub use input::InputSource;
 pub use link::{UdpLink, unbound};
-pub use noted_source::NotedSource;
 pub use output::OutputSink;
 pub use standing::{Reading, Writing};
 pub use stream::Stream;

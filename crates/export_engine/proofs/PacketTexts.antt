@@ -1,11 +1,12 @@
 -- The texts of packets, and the texts of flows.
 use Rattle.std.proofs.Common.{◌≡◌, ℕ, ◌≤◌, ◌++◌, List, length, take, drop, sym, ap, ◌∙◌, arith}
-use Rattle.std.proofs.Common.{Option, Some, None, refl, subst}
-use Rattle.std.specs.Prelude.{MatchOption}
+use Rattle.std.proofs.Common.{Option, Some, None, refl, subst, true, false}
+use Rattle.std.specs.Prelude.{MatchOption, is_some}
 use Rattle.std.proofs.lemmas.List.{length-append, length-drop, take-append-le, take_all}
 use Rattle.std.specs.declared.net.ip_addr.IpAddr.{IpAddr}
 use Rattle.media_file.specs.Records.{Entry}
-use Rattle.flow.specs.FlowText.{Finds, IsFlowText, IsSourceText}
+use Rattle.flow.specs.FlowText.{Finds, IsFlowText, IsInterfaceText, IsSourceText}
+use Rattle.interface_name.specs.declared.name.InterfaceName.{InterfaceName}
 use Rattle.flow.specs.declared.flows.Flow.{Flow}
 use Rattle.export_engine.specs.Packets.{IsEnvelopeText, datagram_by, envelope_from, packet_by}
 use Rattle.export_engine.specs.Packets.{packet_text, sent_by}
@@ -45,7 +46,7 @@ packet_taken es e envelope text sent is =
 
 abbrev flow_at : Option IpAddr → IpAddr → ℕ → Flow
 flow_at source address port =
-    record { source = source; address = Some address; port = port }
+    record { interface = None; source = source; address = Some address; port = port }
 
 -- no flow was found
 pub no_flow : (text : List ℕ) (r : Option Flow) → Finds IsFlowText text r → r ≡ None
@@ -75,14 +76,28 @@ no_envelope text f found none e is =
     clash : {x : IpAddr} → None ≡ Some x → ⊥
     clash same = cc
 
+-- the flow that was found names an interface, or it names none
+pub no_interface : (text : List ℕ) (f : Flow) → Finds IsFlowText text (Some f)
+    → is_some f.interface ≡ true → (e : IpEnvelope) → IsEnvelopeText text e → ⊥
+no_interface text f found named e is =
+    clash (subst (λ (n : Option InterfaceName). is_some n ≡ true)
+    (ap (λ (g : Flow). g.interface) (the_flow text f found e is)) named)
+  where
+    clash : false ≡ true → ⊥
+    clash same = cc
+
+pub anywhere : (n : Option InterfaceName) → is_some n ≡ false → n ≡ None
+anywhere None e = refl
+anywhere (Some n) e = absurd cc
+
 -- what is made of the flow that was found
 abbrev IsMade : List ℕ → Option IpEnvelope → Type 0
 IsMade text r = MatchOption r ((e : IpEnvelope) → IsEnvelopeText text e → ⊥) (IsEnvelopeText text)
 
 pub envelope_found : (text : List ℕ) (f : Flow) (a : IpAddr) (r : Option IpEnvelope)
-    → Finds IsFlowText text (Some f) → f.address ≡ Some a
+    → Finds IsFlowText text (Some f) → f.interface ≡ None → f.address ≡ Some a
     → r ≡ envelope_from f.source a f.port → IsMade text r
-envelope_found text f a None found named is = λ e h.
+envelope_found text f a None found unnamed named is = λ e h.
     let same = the_flow text f found e h in
     let at : a ≡ h.address =
     inner a h.address (sym named ∙ ap (λ (g : Flow). g.address) same) in
@@ -94,12 +109,14 @@ envelope_found text f a None found named is = λ e h.
   where
     clash : {x : IpEnvelope} → None ≡ Some x → ⊥
     clash same = cc
-envelope_found text f a (Some e) found named is = record {
+envelope_found text f a (Some e) found unnamed named is = record {
   source = f.source;
   address = a;
   port = f.port;
   flow =
-      subst
-      (λ (o : Option IpAddr). IsSourceText text f.source (o, f.port)) named ((found f).1 refl);
+      subst (λ (o : Option IpAddr). IsSourceText text f.source (o, f.port)) named
+      (subst
+      (λ (n : Option InterfaceName). IsInterfaceText text n (f.source, (f.address, f.port)))
+      unnamed ((found f).1 refl));
   envelope = sym is;
 }

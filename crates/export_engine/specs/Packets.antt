@@ -56,12 +56,13 @@ envelope_from (Some (ip.V4 s)) (ip.V6 a) port = None
 envelope_from (Some (ip.V6 s)) (ip.V4 a) port = None
 envelope_from (Some (ip.V6 s)) (ip.V6 a) port = Some (envelope_6 (ipv6_octets s) a port)
 
--- A text is a flow to an address, and so its datagrams are sent.
+-- A text is a flow to an address, and names no interface, and so its datagrams are sent.
 pub record IsEnvelopeText (text : List ℕ) (e : IpEnvelope) : Type 0 where
   pub source : Option IpAddr
   pub address : IpAddr
   pub port : ℕ
-  pub flow : IsFlowText text (record { source = source; address = Some address; port = port })
+  pub flow : IsFlowText text
+      (record { interface = None; source = source; address = Some address; port = port })
   pub envelope : envelope_from source address port ≡ Some e
 
 -- so of the text of path B, where there is one

@@ -81,7 +81,8 @@ fn envelope_from(source: Option<IpAddr>, address: IpAddr, port: u16) -> Option<I
     }
 }
 
-/// Reads a flow to an address, whose source, where it names one, is of the same version.
+/// Reads a flow to an address, whose source, where it names one, is of the same version, and which
+/// names no interface: the classic layout of recordings has no place for one.
 fn read_envelope(text: &[u8]) -> Option<IpEnvelope>
     ensures { MatchOption result ((e : IpEnvelope) → IsEnvelopeText text.now e → ⊥)
         (IsEnvelopeText text.now) }
@@ -89,6 +90,9 @@ fn read_envelope(text: &[u8]) -> Option<IpEnvelope>
     let Some(flow) = read_flow(text) else {
         return None;
     };
+    if flow.interface.is_some() {
+        return None;
+    }
     let Some(address) = flow.address else {
         return None;
     };

@@ -5,7 +5,7 @@ use crate::checks::met;
 use capture_file::{
     Capture, CaptureReader, FileFault, Record, migrate_capture, read_capture, write_capture,
 };
-use path_merge::{ReceiveFault, Received, Receiver, receive};
+use path_receiver::{ReceiveFault, Received, Receiver, receive};
 use st_format::memory::{MemorySink, MemorySource};
 use st_format::{DatagramSource, Path, SourceFault, Turn};
 use std::alloc::{AllocError, Allocator, Global};

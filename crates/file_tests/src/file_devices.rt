@@ -13,7 +13,7 @@ use capture_file::{
     CaptureWriter, FileFault, Paths, Record, read_picture, write_capture, write_picture,
 };
 use frame_report::{ReportFault, write_report};
-use path_merge::Receiver;
+use path_receiver::Receiver;
 use receiver_file::{load_receiver, save_receiver};
 use st_format::memory::MemorySink;
 use st_format::{DatagramSink, Path};

@@ -1,7 +1,7 @@
 //! Receivers' files, written and read.
 use crate::checks::met;
 use capture_file::FileFault;
-use path_merge::Receiver;
+use path_receiver::Receiver;
 use receiver_file::{load_receiver, save_receiver};
 use st_format::memory::{MemorySink, MemorySource};
 use st_format::{Depth, Format, Sampling};

@@ -2,7 +2,7 @@
 //! and wrong.
 use crate::checks::met;
 use capture_file::FileFault;
-use path_merge::Receiver;
+use path_receiver::Receiver;
 use receiver_file::{load_receiver, save_receiver};
 use st_format::memory::{MemorySink, MemorySource};
 use std::alloc::{AllocError, Global};

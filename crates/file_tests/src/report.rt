@@ -3,7 +3,7 @@
 use crate::checks::met;
 use crate::running::{Ran, SOUND, report_on};
 use frame_report::write_report;
-use path_merge::Receiver;
+use path_receiver::Receiver;
 use st_format::memory::MemorySink;
 use st_format::{Depth, Format, Sampling};
 use std::alloc::{AllocError, Global};

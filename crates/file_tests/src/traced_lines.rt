@@ -3,7 +3,7 @@
 use crate::checks::met;
 use crate::running::{Ran, SOUND, run_on};
 use frame_assembly::Frame;
-use path_merge::{Receiver, Taken};
+use path_receiver::{Receiver, Taken};
 use st_format::{Cell, Depth, Format, Path, Sampling};
 use std::alloc::{AllocError, Global};
 use std::io::Write;

@@ -1,6 +1,6 @@
--- A text spells one flow at most, whose parts are found before and behind its last > and its last
--- colon.
-use Rattle.std.proofs.Common.{◌≡◌, ℕ, ◌<◌, ◌^◌, Bool, true, false, cond, ◌&&◌, List}
+-- A text spells one flow at most, whose parts are found before and behind its last @, its last >
+-- and its last colon.
+use Rattle.std.proofs.Common.{◌≡◌, ℕ, ◌<◌, ◌≤◌, ◌^◌, Bool, true, false, cond, ◌&&◌, List}
 use Rattle.std.proofs.Common.{[], ◌∷◌, ◌++◌, length, get_or, Option, Some, None, All, refl, sym, ap}
 use Rattle.std.proofs.Common.{drop, zero, suc, inl, inr, ◌∙◌, subst, arith, append_assoc, codes, decimal}
 use Rattle.std.proofs.Common.{lit<}
@@ -23,12 +23,16 @@ use Rattle.std.specs.Net.Text.{ipv6_text}
 use Rattle.std.proofs.NetLemmas.Alphabet.{IsDigitOrDot, All-ipv4_text}
 use Rattle.std.proofs.NetLemmas.Texts.{IsDotted-ipv4_text, IsColonHex-ipv6_text}
 use Rattle.std.proofs.NetLemmas.Theorems.{IsIpv4Text_unique, IsIpv6Text_unique}
+use Rattle.interface_name.specs.declared.name.InterfaceName.{InterfaceName}
+use Rattle.interface_name.specs.Name.{IsInterfaceName, IsName, name_text}
+use Rattle.interface_name.proofs.Names.{name_again, name_once}
 use Rattle.st_format.specs.Words.{IsNumber, is_number, number}
 use Rattle.st_format.proofs.Decimals.{digits, passes}
 use Rattle.flow.specs.declared.flows.Flow.{Flow}
 use Rattle.flow.specs.Flow.{IsFlow}
-use Rattle.flow.specs.FlowText.{Finds, IsFlowText, IsHost, IsOther, IsPlaceOf, IsPlaceText, IsPort}
-use Rattle.flow.specs.FlowText.{IsSourceText, flow_text, host_text, place_text, source_text}
+use Rattle.flow.specs.FlowText.{Finds, IsFlowText, IsHost, IsInterfaceText, IsOther, IsPlaceOf}
+use Rattle.flow.specs.FlowText.{IsPlaceText, IsPort, IsSourceOf, IsSourceText, ends_text, flow_text}
+use Rattle.flow.specs.FlowText.{host_text, interface_text, place_text, source_text}
 
 -- ---- what is found
 
@@ -130,66 +134,100 @@ host_once text (V6 a) (V6 b) h k =
     let same : h.0 ≡ k.0 = bracketed_once h.0 k.0 (sym h.1 ∙ k.1) in
     ap V6 (IsIpv6Text_unique h.0 a b h.2 (subst (λ t. IsIpv6Text t b) (sym same) k.2))
 
--- ---- no > stands in a host
+-- ---- neither > nor @ stands in a host
 
-abbrev IsNoAngle : ℕ → Type 0
-IsNoAngle = IsOther 62
+-- a mark that stands in no host and in no port
+record IsMark (m : ℕ) : Type 0 where
+  above : 57 < m
+  no_colon : 58 ≡ m → ⊥
+  no_opening : 91 ≡ m → ⊥
+  no_closing : 93 ≡ m → ⊥
+  no_digit : 16 ≤ digit_value m
 
-no_angle_digit : (c : ℕ) → IsDigitOrDot c → IsNoAngle c
-no_angle_digit c (inl h) = λ e. omega (arith, h, e)
-no_angle_digit c (inr h) = λ e. omega (arith, h, e)
+angle : IsMark 62
+angle = record {
+  above = omega arith;
+  no_colon = λ e. omega (arith, e);
+  no_opening = λ e. omega (arith, e);
+  no_closing = λ e. omega (arith, e);
+  no_digit = omega arith;
+}
 
-dotted_no_angle : (text octets : List ℕ) → IsDotted text octets → All IsNoAngle text
-dotted_no_angle text octets h =
-    λ k d inside. no_angle_digit (get_or text k d) (dotted_fine text octets h k d inside)
+at_sign : IsMark 64
+at_sign = record {
+  above = omega arith;
+  no_colon = λ e. omega (arith, e);
+  no_opening = λ e. omega (arith, e);
+  no_closing = λ e. omega (arith, e);
+  no_digit = omega arith;
+}
 
-no_angle_hex : (c : ℕ) → digit_value c < 16 → IsNoAngle c
-no_angle_hex c h = λ e. let at : digit_value 62 < 16 = subst (λ x. digit_value x < 16) e h in
-    omega (arith, at)
+one_other : (m c : ℕ) → IsOther m c → All (IsOther m) (c ∷ [])
+one_other m c h = All-cons (IsOther m) c [] h (All-nil (IsOther m))
 
-hex_no_angle : (text : List ℕ) → AllDigits 16 text → All IsNoAngle text
-hex_no_angle [] h = All-nil IsNoAngle
-hex_no_angle (c ∷ cs) h =
-    All-cons IsNoAngle c cs (no_angle_hex c h.0) (hex_no_angle cs h.1)
+module _ (m : ℕ) (is : IsMark m) where
+  digit_unmarked : (c : ℕ) → IsDigitOrDot c → IsOther m c
+  digit_unmarked c (inl h) = λ e. omega (arith, h, e, is.above)
+  digit_unmarked c (inr h) = λ e. omega (arith, h, e, is.above)
 
-one_no_angle : (c : ℕ) → IsNoAngle c → All IsNoAngle (c ∷ [])
-one_no_angle c h = All-cons IsNoAngle c [] h (All-nil IsNoAngle)
+  dotted_unmarked : (text octets : List ℕ) → IsDotted text octets → All (IsOther m) text
+  dotted_unmarked text octets h =
+      λ k d inside. digit_unmarked (get_or text k d) (dotted_fine text octets h k d inside)
 
-no_colon_angle : IsNoAngle 58
-no_colon_angle = λ e. omega (arith, e)
+  hex_unmarked : (c : ℕ) → digit_value c < 16 → IsOther m c
+  hex_unmarked c h = λ e. let at : digit_value m < 16 = subst (λ x. digit_value x < 16) e h in
+      omega (arith, at, is.no_digit)
 
-groups_no_angle : (ipv4 : Bool) (lead text segments : List ℕ) → All IsNoAngle lead
-    → IsGroupsAfter ipv4 lead text segments → All IsNoAngle text
-groups_no_angle ipv4 lead text [] fine h = subst (All IsNoAngle) (sym h) (All-nil IsNoAngle)
-groups_no_angle ipv4 lead text (s ∷ segments) fine (inl h) =
-    let front = All-append IsNoAngle lead h.0 fine (hex_no_angle h.0 h.3.0.0.1) in
-    let rest =
-    groups_no_angle ipv4 (codes ":") h.1 segments (one_no_angle 58 no_colon_angle) h.4 in
-    subst (All IsNoAngle) (sym h.2) (All-append IsNoAngle (lead ++ h.0) h.1 front rest)
-groups_no_angle ipv4 lead text (s ∷ segments) fine (inr h) =
-    subst (All IsNoAngle) (sym h.3)
-    (All-append IsNoAngle lead h.0 fine (dotted_no_angle h.0 h.1 h.4))
+  hexes_unmarked : (text : List ℕ) → AllDigits 16 text → All (IsOther m) text
+  hexes_unmarked [] h = All-nil (IsOther m)
+  hexes_unmarked (c ∷ cs) h =
+      All-cons (IsOther m) c cs (hex_unmarked c h.0) (hexes_unmarked cs h.1)
 
-colon_hex_no_angle : (text segments : List ℕ) → IsColonHex text segments → All IsNoAngle text
-colon_hex_no_angle text segments (inl h) =
-    groups_no_angle true [] text segments (All-nil IsNoAngle) h.0
-colon_hex_no_angle text segments (inr h) =
-    let front = groups_no_angle false [] h.head_text h.head (All-nil IsNoAngle) h.head_groups in
-    let colons = All-cons IsNoAngle 58 (58 ∷ []) no_colon_angle (one_no_angle 58 no_colon_angle) in
-    let behind = groups_no_angle true [] h.tail_text h.tail (All-nil IsNoAngle) h.tail_groups in
-    subst (All IsNoAngle) (sym h.spelled)
-    (All-append IsNoAngle (h.head_text ++ codes "::") h.tail_text
-    (All-append IsNoAngle h.head_text (codes "::") front colons) behind)
+  colon_unmarked : All (IsOther m) (58 ∷ [])
+  colon_unmarked = one_other m 58 is.no_colon
 
-host_no_angle : (text : List ℕ) (a : IpAddr) → IsHost text a → All IsNoAngle text
-host_no_angle text (V4 a) h = dotted_no_angle text (ipv4_octets a) h
-host_no_angle text (V6 a) h =
-    let opening : IsNoAngle 91 = λ e. omega (arith, e) in
-    let closing : IsNoAngle 93 = λ e. omega (arith, e) in
-    let inside = colon_hex_no_angle h.0 (ipv6_segments a) h.2 in
-    subst (All IsNoAngle) (sym h.1)
-    (All-append IsNoAngle (codes "[" ++ h.0) (codes "]")
-    (All-append IsNoAngle (codes "[") h.0 (one_no_angle 91 opening) inside) (one_no_angle 93 closing))
+  groups_unmarked : (ipv4 : Bool) (lead text segments : List ℕ) → All (IsOther m) lead
+      → IsGroupsAfter ipv4 lead text segments → All (IsOther m) text
+  groups_unmarked ipv4 lead text [] fine h = subst (All (IsOther m)) (sym h) (All-nil (IsOther m))
+  groups_unmarked ipv4 lead text (s ∷ segments) fine (inl h) =
+      let front = All-append (IsOther m) lead h.0 fine (hexes_unmarked h.0 h.3.0.0.1) in
+      let rest = groups_unmarked ipv4 (codes ":") h.1 segments colon_unmarked h.4 in
+      subst (All (IsOther m)) (sym h.2) (All-append (IsOther m) (lead ++ h.0) h.1 front rest)
+  groups_unmarked ipv4 lead text (s ∷ segments) fine (inr h) =
+      subst (All (IsOther m)) (sym h.3)
+      (All-append (IsOther m) lead h.0 fine (dotted_unmarked h.0 h.1 h.4))
+
+  colon_hex_unmarked : (text segments : List ℕ) → IsColonHex text segments
+      → All (IsOther m) text
+  colon_hex_unmarked text segments (inl h) =
+      groups_unmarked true [] text segments (All-nil (IsOther m)) h.0
+  colon_hex_unmarked text segments (inr h) =
+      let front =
+      groups_unmarked false [] h.head_text h.head (All-nil (IsOther m)) h.head_groups in
+      let colons = All-cons (IsOther m) 58 (58 ∷ []) is.no_colon colon_unmarked in
+      let behind =
+      groups_unmarked true [] h.tail_text h.tail (All-nil (IsOther m)) h.tail_groups in
+      subst (All (IsOther m)) (sym h.spelled)
+      (All-append (IsOther m) (h.head_text ++ codes "::") h.tail_text
+      (All-append (IsOther m) h.head_text (codes "::") front colons) behind)
+
+  host_unmarked : (text : List ℕ) (a : IpAddr) → IsHost text a → All (IsOther m) text
+  host_unmarked text (V4 a) h = dotted_unmarked text (ipv4_octets a) h
+  host_unmarked text (V6 a) h =
+      let inside = colon_hex_unmarked h.0 (ipv6_segments a) h.2 in
+      subst (All (IsOther m)) (sym h.1)
+      (All-append (IsOther m) (codes "[" ++ h.0) (codes "]")
+      (All-append (IsOther m) (codes "[") h.0 (one_other m 91 is.no_opening) inside)
+      (one_other m 93 is.no_closing))
+
+  place_unmarked : (text : List ℕ) (a : Option IpAddr) (port : ℕ) → IsPlaceText text a port
+      → All (IsOther m) text
+  place_unmarked text None port h = port_other m text port is.above h
+  place_unmarked text (Some a) port h =
+      subst (All (IsOther m)) (sym h.2)
+      (All-append (IsOther m) h.0 (codes ":" ++ h.1) (host_unmarked h.0 a h.3)
+      (All-append (IsOther m) (codes ":") h.1 colon_unmarked
+      (port_other m h.1 port is.above h.4)))
 
 -- ---- the last mark
 
@@ -232,9 +270,6 @@ one_more m text rest less last is e fine h =
 
 above_colon : 57 < 58
 above_colon = omega arith
-
-above_angle : 57 < 62
-above_angle = omega arith
 
 port_no_colon : (text : List ℕ) (port : ℕ) → IsPort text port → All (IsOther 58) text
 port_no_colon text port h = port_other 58 text port above_colon h
@@ -305,35 +340,33 @@ module _ (text host digits : List ℕ) (parts : text ≡ host ++ 58 ∷ digits)
       found IsPlaceOf text (place_of_once text) (Some a, port)
       (host, digits, parts, (hosts a).1 refl, (ports port).1 refl)
 
--- ---- flows
+-- ---- places with their sources
 
-place_no_angle : (text : List ℕ) (a : Option IpAddr) (port : ℕ) → IsPlaceText text a port
-    → All IsNoAngle text
-place_no_angle text None port h = port_other 62 text port above_angle h
-place_no_angle text (Some a) port h =
-    subst (All IsNoAngle) (sym h.2)
-    (All-append IsNoAngle h.0 (codes ":" ++ h.1) (host_no_angle h.0 a h.3)
-    (All-append IsNoAngle (codes ":") h.1 (one_no_angle 58 no_colon_angle) (port_other 62 h.1 port above_angle h.4)))
+abbrev IsNoAngle : ℕ → Type 0
+IsNoAngle = IsOther 62
 
 source_once : (text : List ℕ) (s t : Option IpAddr) (p q : Option IpAddr × ℕ)
     → IsSourceText text s p → IsSourceText text t q → (s ≡ t) × (p ≡ q)
 source_once text None None p q h k = (refl, place_of_once text p q h k)
 source_once text None (Some t) p q h k =
-    absurd (mark_in 62 k.0 k.1 (subst (All IsNoAngle) k.2 (place_no_angle text p.0 p.1 h)))
+    absurd (mark_in 62 k.0 k.1 (subst (All IsNoAngle) k.2 (place_unmarked 62 angle text p.0 p.1 h)))
 source_once text (Some s) None p q h k =
-    absurd (mark_in 62 h.0 h.1 (subst (All IsNoAngle) h.2 (place_no_angle text q.0 q.1 k)))
+    absurd (mark_in 62 h.0 h.1 (subst (All IsNoAngle) h.2 (place_unmarked 62 angle text q.0 q.1 k)))
 source_once text (Some s) (Some t) p q h k =
     let r =
-    last_mark 62 h.0 h.1 k.0 k.1 (sym h.2 ∙ k.2) (place_no_angle h.1 p.0 p.1 h.4)
-    (place_no_angle k.1 q.0 q.1 k.4) in (
+    last_mark 62 h.0 h.1 k.0 k.1 (sym h.2 ∙ k.2) (place_unmarked 62 angle h.1 p.0 p.1 h.4)
+    (place_unmarked 62 angle k.1 q.0 q.1 k.4) in (
       ap Some (host_once h.0 s t h.3 (subst (λ x. IsHost x t) (sym r.0) k.3)),
       place_of_once h.1 p q h.4 (subst (λ x. IsPlaceOf x q) (sym r.1) k.4),
     )
 
-pub flow_once : (text : List ℕ) (f g : Flow) → IsFlowText text f → IsFlowText text g → f ≡ g
-flow_once text f g h k =
-    let r = source_once text f.source g.source (f.address, f.port) (g.address, g.port) h k in
-    λ i. record { source = r.0 i; address = (r.1 i).0; port = (r.1 i).1 }
+-- a place, and its source if that is named
+abbrev TwoEnds : Type 0
+TwoEnds = Option IpAddr × (Option IpAddr × ℕ)
+
+pub ends_once : (text : List ℕ) (x y : TwoEnds) → IsSourceOf text x → IsSourceOf text y → x ≡ y
+ends_once text x y h k =
+    let r = source_once text x.0 y.0 x.1 y.1 h k in λ i. (r.0 i, r.1 i)
 
 -- a text without > names no source
 no_source : (text : List ℕ) (s : Option IpAddr) (p : Option IpAddr × ℕ) → All IsNoAngle text
@@ -343,17 +376,15 @@ no_source text (Some s) p none h =
     absurd (mark_in 62 h.0 h.1 (subst (All IsNoAngle) h.2 none))
 
 pub no_place_alone : (text : List ℕ) → All IsNoAngle text → Finds IsPlaceOf text None
-    → Finds IsFlowText text None
+    → Finds IsSourceOf text None
 no_place_alone text none places =
-    missed IsFlowText text
-    (λ f h. let p : Option IpAddr × ℕ = (f.address, f.port) in
-    not_none p (sym ((places p).0 (no_source text f.source p none h).1)))
+    missed IsSourceOf text
+    (λ x h. not_none x.1 (sym ((places x.1).0 (no_source text x.0 x.1 none h).1)))
 
 pub place_alone : (text : List ℕ) (p : Option IpAddr × ℕ) → Finds IsPlaceOf text (Some p)
-    → Finds IsFlowText text (Some (record { source = None; address = p.0; port = p.1 }))
+    → Finds IsSourceOf text (Some (None, p))
 place_alone text p places =
-    found IsFlowText text (flow_once text) (record { source = None; address = p.0; port = p.1 })
-    ((places p).1 refl)
+    found IsSourceOf text (ends_once text) (None, p) ((places p).1 refl)
 
 -- of a text with >, behind whose last one stands a place
 module _ (text host rest : List ℕ) (parts : text ≡ host ++ 62 ∷ rest)
@@ -361,31 +392,127 @@ module _ (text host rest : List ℕ) (parts : text ≡ host ++ 62 ∷ rest)
   at_angle : (s : Option IpAddr) (p : Option IpAddr × ℕ) → IsSourceText text s p
       → (a : IpAddr) × (s ≡ Some a) × IsHost host a × IsPlaceOf rest p
   at_angle None p h =
-      absurd (mark_in 62 host rest (subst (All IsNoAngle) parts (place_no_angle text p.0 p.1 h)))
+      absurd (mark_in 62 host rest
+      (subst (All IsNoAngle) parts (place_unmarked 62 angle text p.0 p.1 h)))
   at_angle (Some a) p h =
       let r =
-      last_mark 62 h.0 h.1 host rest (sym h.2 ∙ parts) (place_no_angle h.1 p.0 p.1 h.4) last in
+      last_mark 62 h.0 h.1 host rest (sym h.2 ∙ parts) (place_unmarked 62 angle h.1 p.0 p.1 h.4)
+      last in
       (a, refl, subst (λ t. IsHost t a) r.0 h.3, subst (λ t. IsPlaceOf t p) r.1 h.4)
 
-  pub no_source_found : Finds IsHost host None → Finds IsFlowText text None
+  pub no_source_found : Finds IsHost host None → Finds IsSourceOf text None
   no_source_found hosts =
-      missed IsFlowText text
-      (λ f h. let r = at_angle f.source (f.address, f.port) h in
-      not_none r.0 (sym ((hosts r.0).0 r.2)))
+      missed IsSourceOf text
+      (λ x h. let r = at_angle x.0 x.1 h in not_none r.0 (sym ((hosts r.0).0 r.2)))
 
-  pub no_place_found : Finds IsPlaceOf rest None → Finds IsFlowText text None
+  pub no_place_found : Finds IsPlaceOf rest None → Finds IsSourceOf text None
   no_place_found places =
-      missed IsFlowText text
-      (λ f h. let p : Option IpAddr × ℕ = (f.address, f.port) in
-      not_none p (sym ((places p).0 (at_angle f.source p h).3)))
+      missed IsSourceOf text
+      (λ x h. not_none x.1 (sym ((places x.1).0 (at_angle x.0 x.1 h).3)))
 
   pub source_found : (a : IpAddr) (p : Option IpAddr × ℕ) → Finds IsHost host (Some a)
-      → Finds IsPlaceOf rest (Some p)
-      → Finds IsFlowText text (Some (record { source = Some a; address = p.0; port = p.1 }))
+      → Finds IsPlaceOf rest (Some p) → Finds IsSourceOf text (Some (Some a, p))
   source_found a p hosts places =
-      found IsFlowText text (flow_once text)
-      (record { source = Some a; address = p.0; port = p.1 })
+      found IsSourceOf text (ends_once text) (Some a, p)
       (host, rest, parts, (hosts a).1 refl, (places p).1 refl)
+
+-- ---- flows
+
+abbrev IsNoAt : ℕ → Type 0
+IsNoAt = IsOther 64
+
+source_no_at : (text : List ℕ) (s : Option IpAddr) (p : Option IpAddr × ℕ) → IsSourceText text s p
+    → All IsNoAt text
+source_no_at text None p h = place_unmarked 64 at_sign text p.0 p.1 h
+source_no_at text (Some s) p h =
+    let mark : IsNoAt 62 = λ e. omega (arith, e) in
+    subst (All IsNoAt) (sym h.2)
+    (All-append IsNoAt h.0 (codes ">" ++ h.1) (host_unmarked 64 at_sign h.0 s h.3)
+    (All-append IsNoAt (codes ">") h.1 (one_other 64 62 mark)
+    (place_unmarked 64 at_sign h.1 p.0 p.1 h.4)))
+
+ends_no_at : (text : List ℕ) (x : TwoEnds) → IsSourceOf text x → All IsNoAt text
+ends_no_at text x h = source_no_at text x.0 x.1 h
+
+interface_once : (text : List ℕ) (m n : Option InterfaceName) (x y : TwoEnds)
+    → IsInterfaceText text m x → IsInterfaceText text n y → (m ≡ n) × (x ≡ y)
+interface_once text None None x y h k = (refl, ends_once text x y h k)
+interface_once text None (Some n) x y h k =
+    absurd (mark_in 64 k.0 k.1 (subst (All IsNoAt) k.2 (ends_no_at text x h)))
+interface_once text (Some m) None x y h k =
+    absurd (mark_in 64 h.0 h.1 (subst (All IsNoAt) h.2 (ends_no_at text y k)))
+interface_once text (Some m) (Some n) x y h k =
+    let r =
+    last_mark 64 h.0 h.1 k.0 k.1 (sym h.2 ∙ k.2) (ends_no_at h.1 x h.4) (ends_no_at k.1 y k.4) in (
+      ap Some (name_once h.0 m n h.3 (subst (λ t. IsName t n) (sym r.0) k.3)),
+      ends_once h.1 x y h.4 (subst (λ t. IsSourceOf t y) (sym r.1) k.4),
+    )
+
+abbrev ends_of : Flow → TwoEnds
+ends_of f = (f.source, (f.address, f.port))
+
+abbrev flow_by : Option InterfaceName → TwoEnds → Flow
+flow_by n x =
+    record { interface = n; source = x.0; address = x.1.0; port = x.1.1 }
+
+pub flow_once : (text : List ℕ) (f g : Flow) → IsFlowText text f → IsFlowText text g → f ≡ g
+flow_once text f g h k =
+    let r = interface_once text f.interface g.interface (ends_of f) (ends_of g) h k in
+    λ i. record {
+      interface = r.0 i;
+      source = (r.1 i).0;
+      address = (r.1 i).1.0;
+      port = (r.1 i).1.1;
+    }
+
+-- a text without @ names no interface
+no_interface : (text : List ℕ) (n : Option InterfaceName) (x : TwoEnds) → All IsNoAt text
+    → IsInterfaceText text n x → (n ≡ None) × IsSourceOf text x
+no_interface text None x none h = (refl, h)
+no_interface text (Some n) x none h =
+    absurd (mark_in 64 h.0 h.1 (subst (All IsNoAt) h.2 none))
+
+pub no_ends_alone : (text : List ℕ) → All IsNoAt text → Finds IsSourceOf text None
+    → Finds IsFlowText text None
+no_ends_alone text none ends =
+    missed IsFlowText text
+    (λ f h. let x : TwoEnds = ends_of f in
+    not_none x (sym ((ends x).0 (no_interface text f.interface x none h).1)))
+
+pub ends_alone : (text : List ℕ) (x : TwoEnds) → Finds IsSourceOf text (Some x)
+    → Finds IsFlowText text (Some (flow_by None x))
+ends_alone text x ends =
+    found IsFlowText text (flow_once text) (flow_by None x) ((ends x).1 refl)
+
+-- of a text with @, behind whose last one stand the ends
+module _ (text name rest : List ℕ) (parts : text ≡ name ++ 64 ∷ rest)
+    (last : All IsNoAt rest) where
+  behind_at : (n : Option InterfaceName) (x : TwoEnds) → IsInterfaceText text n x
+      → (m : InterfaceName) × (n ≡ Some m) × IsName name m × IsSourceOf rest x
+  behind_at None x h =
+      absurd (mark_in 64 name rest (subst (All IsNoAt) parts (ends_no_at text x h)))
+  behind_at (Some m) x h =
+      let r =
+      last_mark 64 h.0 h.1 name rest (sym h.2 ∙ parts) (ends_no_at h.1 x h.4) last in
+      (m, refl, subst (λ t. IsName t m) r.0 h.3, subst (λ t. IsSourceOf t x) r.1 h.4)
+
+  pub no_interface_found : Finds IsName name None → Finds IsFlowText text None
+  no_interface_found names =
+      missed IsFlowText text
+      (λ f h. let r = behind_at f.interface (ends_of f) h in
+      not_none r.0 (sym ((names r.0).0 r.2)))
+
+  pub no_ends_found : Finds IsSourceOf rest None → Finds IsFlowText text None
+  no_ends_found ends =
+      missed IsFlowText text
+      (λ f h. let x : TwoEnds = ends_of f in
+      not_none x (sym ((ends x).0 (behind_at f.interface x h).3)))
+
+  pub interface_found : (n : InterfaceName) (x : TwoEnds) → Finds IsName name (Some n)
+      → Finds IsSourceOf rest (Some x) → Finds IsFlowText text (Some (flow_by (Some n) x))
+  interface_found n x names ends =
+      found IsFlowText text (flow_once text) (flow_by (Some n) x)
+      (name, rest, parts, (names n).1 refl, (ends x).1 refl)
 
 -- ---- what is read of hosts
 
@@ -465,10 +592,23 @@ source_again (Some s) a port h place = (
   place,
 )
 
+interface_again : (n : Option InterfaceName) (rest : List ℕ) (x : TwoEnds)
+    → IfSome n IsInterfaceName → IsSourceOf rest x
+    → IsInterfaceText (interface_text n ++ rest) n x
+interface_again None rest x h ends = ends
+interface_again (Some n) rest x h ends = (
+  name_text n,
+  rest,
+  append_assoc (name_text n) (codes "@") rest,
+  (name_again n n h).1 refl,
+  ends,
+)
+
 pub flow_again : (f g : Flow) → IsFlow f → IsFlowText (flow_text f) g ↔ (g ≡ f)
 flow_again f g h =
     let again : IsFlowText (flow_text f) f =
-    source_again f.source f.address f.port h.0 (place_again f.address f.port h.1 h.2) in (
+    interface_again f.interface (ends_text f) (ends_of f) h.0
+    (source_again f.source f.address f.port h.1 (place_again f.address f.port h.2 h.3)) in (
       λ k. flow_once (flow_text f) g f k again,
       λ e. subst (IsFlowText (flow_text f)) (sym e) again,
     )

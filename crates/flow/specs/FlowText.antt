@@ -1,10 +1,13 @@
--- The texts of flows: PORT, or ADDRESS:PORT, and in front of either SOURCE>.
+-- The texts of flows: PORT, or ADDRESS:PORT, in front of either SOURCE>, and in front of all
+-- INTERFACE@.
 use Rattle.std.specs.Prelude.{◌≡◌, ◌≢◌, ◌≤◌, ◌↔◌, ℕ, List, [], ◌++◌, codes, decimal, Option, Some, None}
 use Rattle.std.specs.declared.net.ip_addr.IpAddr.{IpAddr}
 use Rattle.std.specs.declared.net.ip_addr.IpAddr.TheVariants.{V4, V6}
 use Rattle.std.specs.Net.Addr.{ipv4_octets, ipv6_segments}
 use Rattle.std.specs.Net.Grammar.{IsIpv4Text, IsIpv6Text}
 use Rattle.std.specs.Net.Text.{ipv4_text, ipv6_text}
+use Rattle.interface_name.specs.declared.name.InterfaceName.{InterfaceName}
+use Rattle.interface_name.specs.Name.{IsName, name_text}
 use Rattle.st_format.specs.Words.{number}
 use Rattle.flow.specs.declared.flows.Flow.{Flow}
 
@@ -35,9 +38,20 @@ IsSourceText text (Some a) place =
     (host rest : List ℕ) × (text ≡ host ++ (codes ">" ++ rest)) × IsHost host a
     × IsPlaceOf rest place
 
+abbrev pub IsSourceOf : List ℕ → Option IpAddr × (Option IpAddr × ℕ) → Type 0
+IsSourceOf text ends = IsSourceText text ends.0 ends.1
+
+-- and the interface that they are taken at, where it names that (own)
+abbrev pub IsInterfaceText : List ℕ → Option InterfaceName
+    → Option IpAddr × (Option IpAddr × ℕ) → Type 0
+IsInterfaceText text None ends = IsSourceOf text ends
+IsInterfaceText text (Some n) ends =
+    (name rest : List ℕ) × (text ≡ name ++ (codes "@" ++ rest)) × IsName name n
+    × IsSourceOf rest ends
+
 -- a text spells a flow
 abbrev pub IsFlowText : List ℕ → Flow → Type 0
-IsFlowText text f = IsSourceText text f.source (f.address, f.port)
+IsFlowText text f = IsInterfaceText text f.interface (f.source, (f.address, f.port))
 
 -- What was found is what a text spells: it spells that value, and no other; or it spells none.
 abbrev pub Finds : {X : Type 0} → (List ℕ → X → Type 0) → List ℕ → Option X → Type 0
@@ -56,8 +70,15 @@ abbrev pub source_text : Option IpAddr → List ℕ
 source_text None = []
 source_text (Some a) = host_text a ++ codes ">"
 
+abbrev pub interface_text : Option InterfaceName → List ℕ
+interface_text None = []
+interface_text (Some n) = name_text n ++ codes "@"
+
+abbrev pub ends_text : Flow → List ℕ
+ends_text f = source_text f.source ++ place_text f.address f.port
+
 abbrev pub flow_text : Flow → List ℕ
-flow_text f = source_text f.source ++ place_text f.address f.port
+flow_text f = interface_text f.interface ++ ends_text f
 
 -- an octet that isn't a mark
 abbrev pub IsOther : ℕ → ℕ → Type 0

@@ -1,16 +1,19 @@
 //! Flows, and the path of a datagram.
 ghost use Rattle.std.specs.Prelude.{◌≡◌, ◌↔◌, IsTrue};
 ghost use Rattle.flow.specs.Flow.{IsInFlow, IsOnePlace, address_octets, has_flow, is_address};
-ghost use Rattle.flow.specs.Flow.{is_flow_to, is_named, path_to};
+ghost use Rattle.flow.specs.Flow.{is_at, is_flow_to, is_named, path_to};
 
+use interface_name::InterfaceName;
 use st_format::Path;
 use std::net::IpAddr;
 
-/// Where the datagrams of a path are sent to, and where they come from: a UDP port (RFC 768), and
-/// the address and the source where these are named. The default, port 0 with neither, is what
-/// arrays are filled with.
+/// Where the datagrams of a path are sent to, where they come from, and where they are taken: a UDP
+/// port (RFC 768), and the address, the source and the interface where these are named. The
+/// default, port 0 with none of them, is what arrays are filled with.
 #[derive(Clone, Copy, Debug, Default, PartialEq, Eq)]
 pub struct Flow {
+    /// The interface that they are taken at.
+    pub interface: Option<InterfaceName>,
     /// The address that they come from.
     pub source: Option<IpAddr>,
     /// The address that they are sent to.
@@ -46,38 +49,72 @@ fn is_named(address: Option<IpAddr>, octets: &[u8]) -> bool
     }
 }
 
+/// Whether an interface, or none that is known, is the one that is named, where one is named.
+fn is_at(named: &Option<InterfaceName>, interface: &Option<InterfaceName>) -> bool
+    ensures { result ≡ is_at named.now interface.now }
+{
+    match (named, interface) {
+        (None, _) => true,
+        (Some(_), None) => false,
+        (Some(name), Some(other)) => name == other,
+    }
+}
+
 impl Flow {
-    /// Whether a datagram from a source to a destination, each the 4 octets of an IPv4 address or
-    /// the 16 of an IPv6 address, and to a port is of this flow: exactly where the port is the
-    /// flow's, and the destination and the source are too, each if the flow names one.
-    pub fn has(&self, source: &[u8], destination: &[u8], port: u16) -> bool
-        ensures words { IsTrue result ↔ IsInFlow source.now destination.now port self.now }
+    /// Whether a datagram is of this flow that was taken at an interface, or at none that is known,
+    /// and is sent from a source to a destination, each the 4 octets of an IPv4 address or the 16
+    /// of an IPv6 address, and to a port: exactly where the port is the flow's, and the
+    /// destination, the source and the interface are too, each if the flow names one.
+    pub fn has(
+        &self,
+        interface: &Option<InterfaceName>,
+        source: &[u8],
+        destination: &[u8],
+        port: u16,
+    ) -> bool
+        ensures words { IsTrue result
+            ↔ IsInFlow interface.now source.now destination.now port self.now }
         // The same as a test.
-        ensures exact { result ≡ has_flow self.now source.now destination.now port }
+        ensures exact { result ≡ has_flow self.now interface.now source.now destination.now port }
     {
-        self.port == port && is_named(self.address, destination) && is_named(self.source, source)
+        self.port == port
+            && is_named(self.address, destination)
+            && is_named(self.source, source)
+            && is_at(&self.interface, interface)
     }
 }
 
 /// Whether there is a flow, and a datagram is of it.
-fn is_flow_to(flow: Option<Flow>, source: &[u8], destination: &[u8], port: u16) -> bool
-    ensures { result ≡ is_flow_to flow source.now destination.now port }
+fn is_flow_to(
+    flow: &Option<Flow>,
+    interface: &Option<InterfaceName>,
+    source: &[u8],
+    destination: &[u8],
+    port: u16,
+) -> bool
+    ensures { result ≡ is_flow_to flow.now interface.now source.now destination.now port }
 {
     match flow {
-        Some(flow) => flow.has(source, destination, port),
+        Some(flow) => flow.has(interface, source, destination, port),
         None => false,
     }
 }
 
 impl Flows {
-    /// The path of a datagram from a source to a destination and a port: A where A's flow has it,
-    /// else B where B's has it.
-    pub fn path_of(&self, source: &[u8], destination: &[u8], port: u16) -> Option<Path>
-        ensures { result ≡ path_to self.now source.now destination.now port }
+    /// The path of a datagram that was taken at an interface, or at none that is known, from a
+    /// source to a destination and a port: A where A's flow has it, else B where B's has it.
+    pub fn path_of(
+        &self,
+        interface: &Option<InterfaceName>,
+        source: &[u8],
+        destination: &[u8],
+        port: u16,
+    ) -> Option<Path>
+        ensures { result ≡ path_to self.now interface.now source.now destination.now port }
     {
-        if is_flow_to(self.a, source, destination, port) {
+        if is_flow_to(&self.a, interface, source, destination, port) {
             Some(Path::A)
-        } else if is_flow_to(self.b, source, destination, port) {
+        } else if is_flow_to(&self.b, interface, source, destination, port) {
             Some(Path::B)
         } else {
             None

@@ -1,5 +1,5 @@
-//! Flows: where the datagrams of a path are sent to and come from, as texts spell it, and which path
-//! a datagram comes by.
+//! Flows: where the datagrams of a path are sent to, come from and are taken, as texts spell it,
+//! and which path a datagram comes by.
 #![tactic(auto)]
 
 mod flows;

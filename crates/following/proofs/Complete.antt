@@ -13,9 +13,9 @@ use Rattle.st_format.specs.Raster.{IsWhole, Raster, cell_at}
 use Rattle.st_format.proofs.Rasters.{cell_at-joined, length-cells_of}
 use Rattle.std.specs.List.{flat_map}
 use Rattle.packet_plan.specs.Sender.{Sender}
-use Rattle.path_merge.specs.Offers.{offers}
-use Rattle.path_merge.specs.Opening.{Opening}
-use Rattle.path_merge.specs.Sender.{IsSendersCell}
+use Rattle.path_receiver.specs.Offers.{offers}
+use Rattle.path_receiver.specs.Opening.{Opening}
+use Rattle.path_receiver.specs.Sender.{IsSendersCell}
 use Rattle.following.specs.Follower.{Following, opened}
 use Rattle.following.specs.Following.{Handed, with_timestamps}
 use Rattle.following.specs.Pictures.{BroughtSome, IsOfSome, IsSendersSample, ShowsSender}

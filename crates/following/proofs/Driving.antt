@@ -7,9 +7,9 @@ use Rattle.std.proofs.Math.Seq.{drop-append_seam, take-append_seam}
 use Rattle.std.proofs.lemmas.List.Sums.{fold_push}
 use Rattle.st_format.specs.declared.path.Path.{Path}
 use Rattle.st_format.specs.Turns.{Due, Comes, Nothing, GivesTurns, came_of, datagrams_of}
-use Rattle.path_merge.specs.declared.answer.Refusal.{Refusal}
-use Rattle.path_merge.specs.declared.receiving.Received.{Received}
-use Rattle.path_merge.specs.Took.{datagrams_since}
+use Rattle.path_receiver.specs.declared.answer.Refusal.{Refusal}
+use Rattle.path_receiver.specs.declared.receiving.Received.{Received}
+use Rattle.path_receiver.specs.Took.{datagrams_since}
 use Rattle.following.specs.declared.answer.Followed.{Followed}
 use Rattle.following.specs.declared.fault.StreamFault.{StreamFault}
 use Rattle.following.specs.Follower.{Following}

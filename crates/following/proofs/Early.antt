@@ -8,9 +8,9 @@ use Rattle.std.proofs.lemmas.Bool.{cases_lt, le-ltb}
 use Rattle.st_format.specs.Member.{IsMember}
 use Rattle.st_format.specs.Raster.{Raster}
 use Rattle.st_format.proofs.Members.{member_cases, member_left, member_right}
-use Rattle.path_merge.specs.declared.answer.Refusal.{Refusal}
-use Rattle.path_merge.specs.Grammar.{Datagram}
-use Rattle.path_merge.specs.Opening.{Opening}
+use Rattle.path_receiver.specs.declared.answer.Refusal.{Refusal}
+use Rattle.path_receiver.specs.Grammar.{Datagram}
+use Rattle.path_receiver.specs.Opening.{Opening}
 use Rattle.following.specs.declared.answer.Followed.TheVariants.{Far, Late}
 use Rattle.following.specs.declared.standing.Standing.{Standing}
 use Rattle.following.specs.declared.standing.Standing.TheVariants.{Beyond, Inside, New, Waits}
@@ -545,8 +545,8 @@ goes o size ahead some (Takes y ∷ acts) xs timed nearby =
 goes o size ahead some (Hands ∷ acts) xs timed nearby =
     step_early o size ahead xs acts (goes o size ahead some acts xs timed nearby)
 
--- Where no datagram was late, what was handed out, early or as it was due, is the frame of each time,
--- in rising order, of all datagrams of that time.
+-- Where no datagram was late, what was handed out, early or as it was due, is the frame of each
+-- time, in rising order, of all datagrams of that time.
 pub none_lost : (o : Opening) (size ahead : ℕ) (acts : List Act) → 0 < size
     → AreTimed o (taken_of acts) → AreNearby size (times_of o (taken_of acts))
     → NoneLost (opened o size ahead) acts

@@ -12,11 +12,11 @@ use Rattle.st_format.specs.Member.{IsMember}
 use Rattle.st_format.specs.Offer.{Offer}
 use Rattle.st_format.specs.Raster.{Raster, blank, cells_of, joined_cells, joined_rasters, raster_of}
 use Rattle.st_format.proofs.Rasters.{cells_of-append, length-cells_of, joined_none}
-use Rattle.path_merge.specs.declared.answer.Refusal.{Refusal}
-use Rattle.path_merge.specs.Grammar.{Datagram}
-use Rattle.path_merge.specs.Offers.{offers, offers_of}
-use Rattle.path_merge.specs.Opening.{Opening}
-use Rattle.path_merge.proofs.Frames.{cells_kept, holds_blank}
+use Rattle.path_receiver.specs.declared.answer.Refusal.{Refusal}
+use Rattle.path_receiver.specs.Grammar.{Datagram}
+use Rattle.path_receiver.specs.Offers.{offers, offers_of}
+use Rattle.path_receiver.specs.Opening.{Opening}
+use Rattle.path_receiver.proofs.Frames.{cells_kept, holds_blank}
 use Rattle.following.specs.Serial.{wrapped}
 use Rattle.following.specs.Follower.{reading_of}
 use Rattle.following.specs.Times.{Timed, datagrams_at, frame_of, octets_of, time_if, times_of}

@@ -3,7 +3,7 @@ use Rattle.std.proofs.Common.{◌≡◌, ℕ, Bool, true, false, cond, List, [],
 use Rattle.std.proofs.Common.{Option, None, refl, sym, ap, ◌∙◌, subst, arith, append_assoc}
 use Rattle.std.proofs.lemmas.List.{map-append}
 use Rattle.st_format.specs.Raster.{Raster}
-use Rattle.path_merge.specs.Opening.{Opening}
+use Rattle.path_receiver.specs.Opening.{Opening}
 use Rattle.following.specs.Follower.{Following, opened, reading_of, state_after, without_oldest}
 use Rattle.following.specs.Following.{Handed, RiseFrom, frames_in, is_due, stamps_of}
 use Rattle.following.specs.Turned.{goes_early, handed_all, handed_early, handed_in, handed_while}

@@ -11,13 +11,13 @@ use Rattle.st_format.specs.declared.cell.Cell.TheVariants.{Missing}
 use Rattle.st_format.specs.declared.format.Format.{Format}
 use Rattle.st_format.specs.Position.{sample_count}
 use Rattle.st_format.specs.Raster.{IsWhole, Raster, blank, cells_of, joined_cells, offers_in_all}
-use Rattle.path_merge.specs.declared.answer.Refusal.{Refusal}
-use Rattle.path_merge.specs.Frames.{IsReceiver}
-use Rattle.path_merge.specs.Grammar.{Datagram}
-use Rattle.path_merge.specs.Opening.{Opening}
-use Rattle.path_merge.specs.Sliding.{with_window}
-use Rattle.path_merge.proofs.Joined.{frames_kept, receiver_set, state}
-use Rattle.path_merge.proofs.Windows.{below_get}
+use Rattle.path_receiver.specs.declared.answer.Refusal.{Refusal}
+use Rattle.path_receiver.specs.Frames.{IsReceiver}
+use Rattle.path_receiver.specs.Grammar.{Datagram}
+use Rattle.path_receiver.specs.Opening.{Opening}
+use Rattle.path_receiver.specs.Sliding.{with_window}
+use Rattle.path_receiver.proofs.Joined.{frames_kept, receiver_set, state}
+use Rattle.path_receiver.proofs.Windows.{below_get}
 use Rattle.following.specs.declared.answer.Followed.{Followed}
 use Rattle.following.specs.declared.standing.Standing.{Standing}
 use Rattle.following.specs.declared.standing.Standing.TheVariants.{Beyond, Inside, New, Waits}

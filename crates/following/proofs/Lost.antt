@@ -4,9 +4,9 @@ use Rattle.std.proofs.Common.{◌∷◌, ◌++◌, length, map, take, drop, Resu
 use Rattle.std.proofs.Common.{ap, ◌∙◌, subst, arith, append_assoc, length-drop}
 use Rattle.std.proofs.lemmas.Bool.{false≢true}
 use Rattle.st_format.specs.Reading.{◌>>=◌}
-use Rattle.path_merge.specs.declared.answer.Refusal.{Refusal}
-use Rattle.path_merge.specs.Grammar.{Datagram}
-use Rattle.path_merge.specs.Opening.{Opening}
+use Rattle.path_receiver.specs.declared.answer.Refusal.{Refusal}
+use Rattle.path_receiver.specs.Grammar.{Datagram}
+use Rattle.path_receiver.specs.Opening.{Opening}
 use Rattle.following.specs.declared.answer.Followed.{Followed}
 use Rattle.following.specs.declared.answer.Followed.TheVariants.{Kept, Due, Late, Far}
 use Rattle.following.specs.declared.standing.Standing.{Standing}

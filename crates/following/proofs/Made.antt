@@ -6,12 +6,12 @@ use Rattle.std.specs.List.{insert}
 use Rattle.st_format.specs.Member.{IsMember}
 use Rattle.st_format.specs.Raster.{Raster, blank, joined_rasters}
 use Rattle.st_format.proofs.Members.{member_cases, member_left, member_right}
-use Rattle.path_merge.specs.declared.answer.Refusal.{Refusal}
-use Rattle.path_merge.specs.Frames.{joined_frames}
-use Rattle.path_merge.specs.Grammar.{Datagram}
-use Rattle.path_merge.specs.Opening.{Opening}
-use Rattle.path_merge.specs.Sender.{AreAmong}
-use Rattle.path_merge.specs.Sliding.{with_window}
+use Rattle.path_receiver.specs.declared.answer.Refusal.{Refusal}
+use Rattle.path_receiver.specs.Frames.{joined_frames}
+use Rattle.path_receiver.specs.Grammar.{Datagram}
+use Rattle.path_receiver.specs.Opening.{Opening}
+use Rattle.path_receiver.specs.Sender.{AreAmong}
+use Rattle.path_receiver.specs.Sliding.{with_window}
 use Rattle.following.specs.declared.standing.Standing.{Standing}
 use Rattle.following.specs.declared.standing.Standing.TheVariants.{Beyond, Inside, New, Waits}
 use Rattle.following.specs.declared.standing.Standing.TheVariants.{Nowhere}

@@ -8,8 +8,8 @@ use Rattle.st_format.specs.Member.{IsMember, SameMembers}
 use Rattle.st_format.proofs.Members.{SameMembers-flat_map, SameMembers-filter, SameMembers-map}
 use Rattle.st_format.proofs.Rasters.{cells_of-same}
 use Rattle.st_format.specs.declared.cell.Cell.{Cell}
-use Rattle.path_merge.specs.Offers.{offers}
-use Rattle.path_merge.specs.Opening.{Opening}
+use Rattle.path_receiver.specs.Offers.{offers}
+use Rattle.path_receiver.specs.Opening.{Opening}
 use Rattle.following.specs.Serial.{wrapped}
 use Rattle.following.specs.Following.{Handed, handed_out}
 use Rattle.following.specs.Follower.{opened}

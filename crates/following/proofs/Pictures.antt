@@ -22,13 +22,13 @@ use Rattle.packet_plan.specs.declared.stamp.Stamp.{Stamp}
 use Rattle.packet_plan.specs.Sender.{Sender, SendsFrom, stamp_of}
 use Rattle.packet_plan.specs.Sent.{AreSent, IsSentPacket, IsSentPicture, is_empty}
 use Rattle.packet_plan.proofs.Packets.{some_groups}
-use Rattle.path_merge.specs.declared.answer.Refusal.{Refusal}
-use Rattle.path_merge.specs.Grammar.{Datagram, IsDatagram, IsFor}
-use Rattle.path_merge.specs.Opening.{IsSource, Opening}
-use Rattle.path_merge.specs.Sender.{IsOpenFor, picture_raster}
-use Rattle.path_merge.specs.Sliding.{with_window}
-use Rattle.path_merge.proofs.Offered.{admitted_for}
-use Rattle.path_merge.proofs.SenderCells.{frame-all, sent-among}
+use Rattle.path_receiver.specs.declared.answer.Refusal.{Refusal}
+use Rattle.path_receiver.specs.Grammar.{Datagram, IsDatagram, IsFor}
+use Rattle.path_receiver.specs.Opening.{IsSource, Opening}
+use Rattle.path_receiver.specs.Sender.{IsOpenFor, picture_raster}
+use Rattle.path_receiver.specs.Sliding.{with_window}
+use Rattle.path_receiver.proofs.Offered.{admitted_for}
+use Rattle.path_receiver.proofs.SenderCells.{frame-all, sent-among}
 use Rattle.following.specs.Serial.{ahead_of, wrapped}
 use Rattle.following.specs.Follower.{opened, reading_of}
 use Rattle.following.specs.Following.{Handed, handed_out}

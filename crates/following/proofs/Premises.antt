@@ -4,10 +4,10 @@ use Rattle.std.proofs.Common.{Result, Ok, Err, refl, sym, subst, arith}
 use Rattle.st_format.specs.Device.{AreOctets}
 use Rattle.st_format.specs.Member.{IsMember}
 use Rattle.st_format.proofs.Members.{member-flat_map, member_left, member_right}
-use Rattle.path_merge.specs.declared.answer.Refusal.{Refusal}
-use Rattle.path_merge.specs.Grammar.{Datagram}
-use Rattle.path_merge.specs.Opening.{Opening}
-use Rattle.path_merge.proofs.Offered.{admitted_for, admitted_takes}
+use Rattle.path_receiver.specs.declared.answer.Refusal.{Refusal}
+use Rattle.path_receiver.specs.Grammar.{Datagram}
+use Rattle.path_receiver.specs.Opening.{Opening}
+use Rattle.path_receiver.proofs.Offered.{admitted_for, admitted_takes}
 use Rattle.following.specs.Follower.{reading_of}
 use Rattle.following.specs.Times.{AreInHalf, AreOfTimes, AreTimed, AreWithin, HasTime, IsInHalf, IsNear}
 use Rattle.following.specs.Times.{IsOrderly, Timed, newer_than, time_if, time_of, times_of}

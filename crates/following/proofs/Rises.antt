@@ -8,11 +8,11 @@ use Rattle.std.proofs.lemmas.Bool.{and_parts, ltb-true}
 use Rattle.std.specs.List.{insert}
 use Rattle.std.proofs.lemmas.List.Edits.{length-insert}
 use Rattle.st_format.specs.Raster.{Raster, blank}
-use Rattle.path_merge.specs.declared.answer.Refusal.{Refusal}
-use Rattle.path_merge.specs.Frames.{joined_frames}
-use Rattle.path_merge.specs.Grammar.{Datagram}
-use Rattle.path_merge.specs.Opening.{AreDifferent, Opening}
-use Rattle.path_merge.specs.Sliding.{with_window}
+use Rattle.path_receiver.specs.declared.answer.Refusal.{Refusal}
+use Rattle.path_receiver.specs.Frames.{joined_frames}
+use Rattle.path_receiver.specs.Grammar.{Datagram}
+use Rattle.path_receiver.specs.Opening.{AreDifferent, Opening}
+use Rattle.path_receiver.specs.Sliding.{with_window}
 use Rattle.st_format.specs.Member.{IsMember}
 use Rattle.following.specs.declared.standing.Standing.{Standing}
 use Rattle.following.specs.declared.standing.Standing.TheVariants.{Beyond, Inside, New, Waits}

@@ -6,7 +6,7 @@ use Rattle.std.specs.Prelude.{slice_get, nat_lt}
 use Rattle.std.specs.List.{AllByRecursion, insert, list_all}
 use Rattle.std.proofs.lemmas.Bool.{and_parts, eqb-true, false≢true, ltb-true}
 use Rattle.st_format.specs.Member.{IsMember}
-use Rattle.path_merge.specs.Opening.{AreDifferent}
+use Rattle.path_receiver.specs.Opening.{AreDifferent}
 use Rattle.following.specs.declared.standing.Standing.TheVariants.{Inside, New, Waits, Nowhere}
 use Rattle.following.specs.Serial.{ahead_of, is_newer, IsNewer}
 use Rattle.following.specs.Standing.{entry_at, is_behind, is_that, is_there, place_in, standing_in}

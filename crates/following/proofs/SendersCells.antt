@@ -9,11 +9,11 @@ use Rattle.st_format.specs.Position.{Position}
 use Rattle.st_format.specs.Raster.{cell_at}
 use Rattle.st_format.proofs.Members.{member-filter, member-map, member_of_map}
 use Rattle.packet_plan.specs.Sender.{IsSenderList, Sender}
-use Rattle.path_merge.specs.Frames.{cell_if}
-use Rattle.path_merge.specs.Opening.{Opening}
-use Rattle.path_merge.specs.Sender.{AreAmong, IsSendersCell}
-use Rattle.path_merge.specs.Sliding.{with_window}
-use Rattle.path_merge.proofs.SenderCells.{cells-senders}
+use Rattle.path_receiver.specs.Frames.{cell_if}
+use Rattle.path_receiver.specs.Opening.{Opening}
+use Rattle.path_receiver.specs.Sender.{AreAmong, IsSendersCell}
+use Rattle.path_receiver.specs.Sliding.{with_window}
+use Rattle.path_receiver.proofs.SenderCells.{cells-senders}
 use Rattle.following.specs.Serial.{wrapped}
 use Rattle.following.specs.Follower.{opened}
 use Rattle.following.specs.Following.{Handed, handed_out}

@@ -9,13 +9,13 @@ use Rattle.std.proofs.lemmas.List.Concat.{flat_map-append}
 use Rattle.st_format.specs.Member.{IsMember}
 use Rattle.st_format.specs.Offer.{Offer}
 use Rattle.st_format.specs.Raster.{Raster, blank, joined_rasters, raster_of}
-use Rattle.path_merge.specs.declared.answer.Refusal.{Refusal}
-use Rattle.path_merge.specs.Frames.{frame_at, frames_of, joined_frames}
-use Rattle.path_merge.specs.Grammar.{Datagram}
-use Rattle.path_merge.specs.Offers.{offers, offers_of}
-use Rattle.path_merge.specs.Opening.{AreDifferent, Opening}
-use Rattle.path_merge.specs.Sliding.{with_window}
-use Rattle.path_merge.proofs.Windows.{frame_none}
+use Rattle.path_receiver.specs.declared.answer.Refusal.{Refusal}
+use Rattle.path_receiver.specs.Frames.{frame_at, frames_of, joined_frames}
+use Rattle.path_receiver.specs.Grammar.{Datagram}
+use Rattle.path_receiver.specs.Offers.{offers, offers_of}
+use Rattle.path_receiver.specs.Opening.{AreDifferent, Opening}
+use Rattle.path_receiver.specs.Sliding.{with_window}
+use Rattle.path_receiver.proofs.Windows.{frame_none}
 use Rattle.following.specs.declared.standing.Standing.{Standing}
 use Rattle.following.specs.declared.standing.Standing.TheVariants.{Beyond, Inside, New, Waits}
 use Rattle.following.specs.declared.standing.Standing.TheVariants.{Nowhere}
@@ -274,8 +274,8 @@ since_read s octets (Err e) ts ds is read came m =
 since_read s octets (Ok d) ts ds is read came m =
     since_at s octets d (standing_of s d.timestamp) ts ds is read refl came m
 
--- After a datagram the frame of a timestamp that is in is that of what came since it came in, and of
--- this one.
+-- After a datagram the frame of a timestamp that is in is that of what came since it came in, and
+-- of this one.
 pub since_more : (s t : Following) (octets : List ℕ) → IsFollower s → t ≡ state_after s octets
     → (ts : ℕ) (ds : List (List ℕ)) → CameSince s ts ds → IsMember ts t.opening.window
     → CameSince t ts (ds ++ octets ∷ [])

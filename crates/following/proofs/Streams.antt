@@ -8,9 +8,9 @@ use Rattle.std.proofs.lemmas.List.Concat.{flat_map-append}
 use Rattle.st_format.specs.Member.{IsMember}
 use Rattle.st_format.proofs.Members.{member_cases, member_left, member_right}
 use Rattle.st_format.specs.Raster.{Raster}
-use Rattle.path_merge.specs.declared.answer.Refusal.{Refusal}
-use Rattle.path_merge.specs.Grammar.{Datagram}
-use Rattle.path_merge.specs.Opening.{Opening}
+use Rattle.path_receiver.specs.declared.answer.Refusal.{Refusal}
+use Rattle.path_receiver.specs.Grammar.{Datagram}
+use Rattle.path_receiver.specs.Opening.{Opening}
 use Rattle.following.specs.Serial.{wrapped}
 use Rattle.following.specs.Standing.{is_beyond}
 use Rattle.following.specs.Follower.{Following, opened, reading_of, state_after, without_oldest}

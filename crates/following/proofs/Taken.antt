@@ -11,14 +11,14 @@ use Rattle.st_format.specs.Device.{AreOctets}
 use Rattle.st_format.specs.Member.{IsMember}
 use Rattle.st_format.specs.Reading.{◌>>=◌}
 use Rattle.st_format.proofs.Members.{member_right}
-use Rattle.path_merge.specs.declared.answer.Refusal.{Refusal}
-use Rattle.path_merge.specs.Answers.{kept_or_outside, taken_at}
-use Rattle.path_merge.specs.Grammar.{Datagram, IsFor}
-use Rattle.path_merge.specs.Opening.{Opening}
-use Rattle.path_merge.specs.Refused.{IsRefusedDatagram}
-use Rattle.path_merge.proofs.Offered.{admitted_for, admitted_takes}
-use Rattle.path_merge.proofs.RefusedLemmas.{refusal_iff}
-use Rattle.path_merge.proofs.Windows.{member_get}
+use Rattle.path_receiver.specs.declared.answer.Refusal.{Refusal}
+use Rattle.path_receiver.specs.Answers.{kept_or_outside, taken_at}
+use Rattle.path_receiver.specs.Grammar.{Datagram, IsFor}
+use Rattle.path_receiver.specs.Opening.{Opening}
+use Rattle.path_receiver.specs.Refused.{IsRefusedDatagram}
+use Rattle.path_receiver.proofs.Offered.{admitted_for, admitted_takes}
+use Rattle.path_receiver.proofs.RefusedLemmas.{refusal_iff}
+use Rattle.path_receiver.proofs.Windows.{member_get}
 use Rattle.following.specs.declared.answer.Followed.{Followed}
 use Rattle.following.specs.declared.answer.Followed.TheVariants.{Kept, Due, Late, Far}
 use Rattle.following.specs.declared.standing.Standing.{Standing}

@@ -5,8 +5,8 @@ use Rattle.std.proofs.Common.{subst, append_assoc}
 use Rattle.std.specs.Prelude.{slice_get}
 use Rattle.st_format.specs.Device.{AreOctets}
 use Rattle.st_format.specs.Raster.{Raster}
-use Rattle.path_merge.specs.declared.answer.Refusal.{Refusal}
-use Rattle.path_merge.specs.Opening.{Opening}
+use Rattle.path_receiver.specs.declared.answer.Refusal.{Refusal}
+use Rattle.path_receiver.specs.Opening.{Opening}
 use Rattle.following.specs.declared.answer.Followed.{Followed}
 use Rattle.following.specs.declared.answer.Followed.TheVariants.{Due}
 use Rattle.following.specs.Acts.{Act, AreNearby, NoneLost, handed_by, taken_of}

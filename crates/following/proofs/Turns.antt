@@ -3,8 +3,8 @@ use Rattle.std.proofs.Common.{◌≡◌, ℕ, Bool, true, false, cond, List, [],
 use Rattle.std.proofs.Common.{Err, refl, sym, ap, ◌∙◌, subst, arith, length, drop, ◌<◌, ◌≤◌}
 use Rattle.std.proofs.Common.{length-drop}
 use Rattle.following.specs.Taking.{IsDueFor}
-use Rattle.path_merge.specs.declared.answer.Refusal.{Refusal}
-use Rattle.path_merge.specs.Grammar.{Datagram}
+use Rattle.path_receiver.specs.declared.answer.Refusal.{Refusal}
+use Rattle.path_receiver.specs.Grammar.{Datagram}
 use Rattle.st_format.specs.Reading.{◌>>=◌}
 use Rattle.following.specs.declared.answer.Followed.{Followed}
 use Rattle.following.specs.declared.answer.Followed.TheVariants.{Kept, Due, Late, Far}

@@ -11,11 +11,11 @@ use Rattle.st_format.specs.Offer.{Offer}
 use Rattle.st_format.specs.Raster.{Raster, cells_of, joined_cells, joined_rasters, raster_of}
 use Rattle.st_format.proofs.Rasters.{cells_of-append}
 use Rattle.st_format.proofs.Members.{member_left, member_right}
-use Rattle.path_merge.specs.declared.answer.Refusal.{Refusal}
-use Rattle.path_merge.specs.Grammar.{Datagram}
-use Rattle.path_merge.specs.Offers.{offers, offers_of}
-use Rattle.path_merge.specs.Opening.{Opening}
-use Rattle.path_merge.proofs.Frames.{cells_kept}
+use Rattle.path_receiver.specs.declared.answer.Refusal.{Refusal}
+use Rattle.path_receiver.specs.Grammar.{Datagram}
+use Rattle.path_receiver.specs.Offers.{offers, offers_of}
+use Rattle.path_receiver.specs.Opening.{Opening}
+use Rattle.path_receiver.proofs.Frames.{cells_kept}
 use Rattle.following.specs.Serial.{wrapped}
 use Rattle.following.specs.Follower.{opened, reading_of}
 use Rattle.following.specs.Following.{Handed, handed_out}

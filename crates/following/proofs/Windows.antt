@@ -6,11 +6,11 @@ use Rattle.std.specs.List.{insert}
 use Rattle.std.proofs.lemmas.Bool.{lt-ltb, le-ltb, cases_eq, ne_eqb}
 use Rattle.st_format.specs.Member.{IsMember}
 use Rattle.st_format.specs.Raster.{Raster, blank}
-use Rattle.path_merge.specs.declared.answer.Refusal.{Refusal}
-use Rattle.path_merge.specs.Frames.{joined_frames}
-use Rattle.path_merge.specs.Grammar.{Datagram}
-use Rattle.path_merge.specs.Opening.{Opening}
-use Rattle.path_merge.specs.Sliding.{with_window}
+use Rattle.path_receiver.specs.declared.answer.Refusal.{Refusal}
+use Rattle.path_receiver.specs.Frames.{joined_frames}
+use Rattle.path_receiver.specs.Grammar.{Datagram}
+use Rattle.path_receiver.specs.Opening.{Opening}
+use Rattle.path_receiver.specs.Sliding.{with_window}
 use Rattle.following.specs.declared.standing.Standing.TheVariants.{New, Waits, Nowhere}
 use Rattle.following.specs.Serial.{wrapped}
 use Rattle.following.specs.Standing.{standing_in, standing_near}

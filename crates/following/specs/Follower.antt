@@ -4,12 +4,12 @@ use Rattle.std.specs.Prelude.{length, drop, Option, Some, None, Result, Ok, Err,
 use Rattle.std.specs.List.{AllByRecursion, insert}
 use Rattle.st_format.specs.Raster.{Raster, IsWhole, blank}
 use Rattle.st_format.specs.Reading.{◌>>=◌}
-use Rattle.path_merge.specs.declared.answer.Refusal.{Refusal}
-use Rattle.path_merge.specs.Admission.{datagram_walk}
-use Rattle.path_merge.specs.Frames.{frames_of, joined_frames}
-use Rattle.path_merge.specs.Grammar.{Datagram}
-use Rattle.path_merge.specs.Opening.{Opening, IsWindowSize}
-use Rattle.path_merge.specs.Sliding.{with_window}
+use Rattle.path_receiver.specs.declared.answer.Refusal.{Refusal}
+use Rattle.path_receiver.specs.Admission.{datagram_walk}
+use Rattle.path_receiver.specs.Frames.{frames_of, joined_frames}
+use Rattle.path_receiver.specs.Grammar.{Datagram}
+use Rattle.path_receiver.specs.Opening.{Opening, IsWindowSize}
+use Rattle.path_receiver.specs.Sliding.{with_window}
 use Rattle.following.specs.declared.answer.Followed.{Followed}
 use Rattle.following.specs.declared.answer.Followed.TheVariants.{Kept, Due, Late, Far}
 use Rattle.following.specs.declared.standing.Standing.{Standing}

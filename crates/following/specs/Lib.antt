@@ -1,6 +1,5 @@
 pub mod Serial
 pub mod Standing
-pub mod Admission
 pub mod Follower
 pub mod Spare
 pub mod Names

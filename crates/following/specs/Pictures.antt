@@ -8,11 +8,11 @@ use Rattle.st_format.specs.Picture.{Values, timestamp_of}
 use Rattle.st_format.specs.Position.{Position, sample_count}
 use Rattle.st_format.specs.Raster.{cell_at}
 use Rattle.packet_plan.specs.Sender.{IsSenderList, Sender}
-use Rattle.path_merge.specs.declared.answer.Refusal.{Refusal}
-use Rattle.path_merge.specs.Grammar.{Datagram}
-use Rattle.path_merge.specs.Opening.{Opening}
-use Rattle.path_merge.specs.Sender.{AreAmong, IsOpenFor, IsSendersCell, IsSendersValue}
-use Rattle.path_merge.specs.Sender.{picture_raster}
+use Rattle.path_receiver.specs.declared.answer.Refusal.{Refusal}
+use Rattle.path_receiver.specs.Grammar.{Datagram}
+use Rattle.path_receiver.specs.Opening.{Opening}
+use Rattle.path_receiver.specs.Sender.{AreAmong, IsOpenFor, IsSendersCell, IsSendersValue}
+use Rattle.path_receiver.specs.Sender.{picture_raster}
 use Rattle.following.specs.Serial.{ahead_of}
 use Rattle.following.specs.Follower.{reading_of}
 use Rattle.following.specs.Following.{Handed}

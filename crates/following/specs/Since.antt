@@ -1,8 +1,8 @@
 -- What came since a frame came in.
 use Rattle.std.specs.Prelude.{◌≡◌, ℕ, List, [], Option, None, Some}
 use Rattle.st_format.specs.Raster.{Raster}
-use Rattle.path_merge.specs.Frames.{frame_at}
-use Rattle.path_merge.specs.Opening.{Opening}
+use Rattle.path_receiver.specs.Frames.{frame_at}
+use Rattle.path_receiver.specs.Opening.{Opening}
 use Rattle.following.specs.Follower.{Following}
 use Rattle.following.specs.Times.{frame_of}
 

@@ -7,8 +7,8 @@ use Rattle.st_format.specs.Device.{CountsOne}
 use Rattle.st_format.specs.Member.{IsMember}
 use Rattle.st_format.specs.Raster.{Raster}
 use Rattle.st_format.specs.Turns.{Due, GivesTurns, came_of, datagrams_of}
-use Rattle.path_merge.specs.declared.answer.Refusal.{Refusal}
-use Rattle.path_merge.specs.declared.receiving.Received.{Received}
+use Rattle.path_receiver.specs.declared.answer.Refusal.{Refusal}
+use Rattle.path_receiver.specs.declared.receiving.Received.{Received}
 use Rattle.following.specs.declared.answer.Followed.{Followed}
 use Rattle.following.specs.declared.answer.Followed.TheVariants.{Far, Late}
 use Rattle.following.specs.declared.fault.StreamFault.{StreamFault}

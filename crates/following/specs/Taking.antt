@@ -1,7 +1,7 @@
 -- What becomes of a datagram, in the words of the grammar (own).
 use Rattle.std.specs.Prelude.{◌≡◌, ◌⊎◌, ℕ, ◌<◌, ◌≤◌, List, ◌∷◌, ◌++◌, length, Some}
 use Rattle.st_format.specs.Member.{IsMember}
-use Rattle.path_merge.specs.Grammar.{Datagram, IsFor}
+use Rattle.path_receiver.specs.Grammar.{Datagram, IsFor}
 use Rattle.following.specs.Serial.{IsNewer, ahead_of}
 use Rattle.following.specs.Follower.{AreRising, Following, newest_of, since}
 

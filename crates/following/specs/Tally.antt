@@ -1,6 +1,6 @@
 -- Counts of a follower's answers (own).
 use Rattle.std.specs.Prelude.{ℕ, ◌+◌, ◌-◌, ◌^◌, min, Result, Ok, Err}
-use Rattle.path_merge.specs.declared.answer.Refusal.{Refusal}
+use Rattle.path_receiver.specs.declared.answer.Refusal.{Refusal}
 use Rattle.following.specs.declared.answer.Followed.{Followed}
 use Rattle.following.specs.declared.answer.Followed.TheVariants.{Kept, Due, Late, Far}
 use Rattle.following.specs.declared.tally.FollowTally.{FollowTally}

@@ -4,10 +4,10 @@ use Rattle.std.specs.Prelude.{◌∷◌, ◌++◌, length, map, Result, Ok, Err}
 use Rattle.std.specs.List.{filter, flat_map}
 use Rattle.st_format.specs.Member.{IsMember}
 use Rattle.st_format.specs.Raster.{Raster, raster_of}
-use Rattle.path_merge.specs.declared.answer.Refusal.{Refusal}
-use Rattle.path_merge.specs.Grammar.{Datagram, IsFor}
-use Rattle.path_merge.specs.Offers.{offers}
-use Rattle.path_merge.specs.Opening.{Opening}
+use Rattle.path_receiver.specs.declared.answer.Refusal.{Refusal}
+use Rattle.path_receiver.specs.Grammar.{Datagram, IsFor}
+use Rattle.path_receiver.specs.Offers.{offers}
+use Rattle.path_receiver.specs.Opening.{Opening}
 use Rattle.following.specs.Serial.{wrapped}
 use Rattle.following.specs.Follower.{reading_of}
 use Rattle.following.specs.Following.{Handed}

@@ -4,7 +4,7 @@ use Rattle.std.specs.Prelude.{ℕ, Bool, true, false, if◌then◌else◌, ◌==
 use Rattle.std.specs.Prelude.{count_by, take, Option, None, Some, Result, Ok, Err}
 use Rattle.st_format.specs.Cell.{is_missing}
 use Rattle.st_format.specs.Raster.{Raster}
-use Rattle.path_merge.specs.declared.answer.Refusal.{Refusal}
+use Rattle.path_receiver.specs.declared.answer.Refusal.{Refusal}
 use Rattle.following.specs.declared.answer.Followed.{Followed}
 use Rattle.following.specs.declared.answer.Followed.TheVariants.{Kept, Due, Late, Far}
 use Rattle.following.specs.Follower.{Following, answer_to, state_after, without_oldest}

@@ -4,7 +4,7 @@
 #[derive(Clone, Copy, Debug, PartialEq, Eq)]
 pub enum Followed {
     /// Its samples were joined to the frame of its timestamp, which was in or came in. This is its
-    /// packet number, as `path_merge::Taken::Kept` has it.
+    /// packet number, as `path_receiver::Taken::Kept` has it.
     Kept(u32),
     /// Its timestamp is new, and every place is taken: the oldest frame is to be handed out first.
     /// Nothing changed.

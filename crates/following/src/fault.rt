@@ -2,7 +2,7 @@
 ghost use Rattle.std.specs.Prelude.{◌≡◌};
 ghost use Rattle.following.specs.declared.fault.FollowFault.TheVariants.{NoMemory};
 
-use path_merge::ReceiveFault;
+use path_receiver::ReceiveFault;
 use std::alloc::{AllocError, AllocFailed};
 use thiserror::Error;
 

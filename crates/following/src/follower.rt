@@ -3,14 +3,14 @@ ghost use Rattle.std.specs.Prelude.{◌≡◌, ◌≢◌, ◌↔◌, ◌≤◌, 
 ghost use Rattle.std.specs.Prelude.{IfOk, IfSome, IfNone, IsErrOf, IsSome, OnErr, OnSome, length};
 ghost use Rattle.std.specs.Prelude.{Err, None, Ok, Some, slice_get};
 ghost use Rattle.std.specs.Option.{option_copied};
-ghost use Rattle.path_merge.specs.Frames.{frame_at, frames_of};
-ghost use Rattle.path_merge.specs.Opening.{IsWindowSize, Opening};
-ghost use Rattle.path_merge.specs.Sliding.{with_window};
+ghost use Rattle.path_receiver.specs.Frames.{frame_at, frames_of};
+ghost use Rattle.path_receiver.specs.Opening.{IsWindowSize, Opening};
+ghost use Rattle.path_receiver.specs.Sliding.{with_window};
 ghost use Rattle.following.specs.Follower.{Following, IsFollower, answer_to, opened, place_reached};
 ghost use Rattle.following.specs.Follower.{brought_in, reached, standing_of, state_after};
 ghost use Rattle.following.specs.Follower.{without_oldest};
-ghost use Rattle.path_merge.specs.Refused.{IsRefusedDatagram};
-ghost use Rattle.path_merge.specs.declared.answer.Refusal.{Refusal};
+ghost use Rattle.path_receiver.specs.Refused.{IsRefusedDatagram};
+ghost use Rattle.path_receiver.specs.declared.answer.Refusal.{Refusal};
 ghost use Rattle.following.specs.Serial.{IsNewer};
 ghost use Rattle.following.specs.Taking.{IsDueFor, IsFarFor, IsKeptBy, IsLateFor};
 ghost use Rattle.following.specs.Since.{CameSince};
@@ -18,7 +18,6 @@ ghost use Rattle.following.specs.Turned.{first_complete};
 ghost use Rattle.st_format.specs.Member.{IsMember};
 ghost use Rattle.following.specs.declared.answer.Followed.{Followed};
 
-use crate::admitting::{admit, packet_number};
 use crate::answer::Followed;
 use crate::fault::FollowFault;
 use crate::missing::missing_place;
@@ -26,14 +25,14 @@ use crate::places::{blank_frames, room_for, spare_frame};
 use crate::standing::{Standing, find_place, place_there};
 use arrayvec::ArrayVec;
 use frame_assembly::Frame;
-use path_merge::Refusal;
+use path_receiver::{MOST_TIMESTAMPS, Refusal, admit, packet_number};
 use st_format::Format;
 use std::alloc::{Allocator, Global};
 use std::marker::Model;
 use std::mem;
 
 /// The most frames that a follower has.
-pub const MOST_FRAMES: usize = 16;
+pub const MOST_FRAMES: usize = MOST_TIMESTAMPS;
 
 /// How many ticks of the 90 kHz clock a new timestamp may usually be ahead of the newest: 10 s.
 pub const TEN_SECONDS: u32 = 900_000;

@@ -22,7 +22,7 @@ ghost use Rattle.st_format.specs.Raster.{cell_at};
 ghost use Rattle.st_format.specs.Device.{AreOctets};
 ghost use Rattle.std.specs.List.Sorted.{IsStrictlyIncreasing};
 ghost use Rattle.st_format.specs.Member.{IsMember, SameMembers};
-ghost use Rattle.path_merge.specs.Opening.{AreDifferent, IsWindowSize, Opening};
+ghost use Rattle.path_receiver.specs.Opening.{AreDifferent, IsWindowSize, Opening};
 ghost use Rattle.st_format.specs.Picture.{Values};
 ghost use Rattle.packet_plan.specs.Sender.{Sender};
 ghost use Rattle.following.specs.Pictures.{BroughtAll, BroughtSome, IsOfSome, IsSendersSample};

@@ -3,7 +3,6 @@
 //! hands them out oldest first.
 #![tactic(auto)]
 
-mod admitting;
 mod answer;
 mod fault;
 mod follower;

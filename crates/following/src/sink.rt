@@ -1,12 +1,12 @@
 //! What takes frames that are handed out, and who are told the answers.
 ghost use Rattle.std.specs.Prelude.{◌≡◌, ◌++◌, ◌∷◌, ℕ, [], List, OnErr, OnOk, Result};
 ghost use Rattle.st_format.specs.Device.{CountsFaults};
-ghost use Rattle.path_merge.specs.declared.answer.Refusal.{Refusal};
+ghost use Rattle.path_receiver.specs.declared.answer.Refusal.{Refusal};
 ghost use Rattle.following.specs.declared.answer.Followed.{Followed};
 
 use crate::answer::Followed;
 use frame_assembly::Frame;
-use path_merge::Refusal;
+use path_receiver::Refusal;
 use std::alloc::Allocator;
 use thiserror::Error;
 

@@ -3,8 +3,8 @@ ghost use Rattle.std.specs.Prelude.{◌≡◌, ◌++◌, ◌≤◌, [], List, If
 ghost use Rattle.std.specs.Prelude.{length, map, take, true, false, Some};
 ghost use Rattle.st_format.specs.Device.{CountsOne};
 ghost use Rattle.st_format.specs.Turns.{Due, datagrams_of};
-ghost use Rattle.path_merge.specs.Opening.{Opening};
-ghost use Rattle.path_merge.specs.Took.{datagrams_since};
+ghost use Rattle.path_receiver.specs.Opening.{Opening};
+ghost use Rattle.path_receiver.specs.Took.{datagrams_since};
 ghost use Rattle.following.specs.Acts.{AreNearby};
 ghost use Rattle.following.specs.Follower.{IsFollower, opened};
 ghost use Rattle.following.specs.Following.{frames_in};
@@ -21,7 +21,7 @@ use crate::follower::Follower;
 use crate::sink::{FollowObserver, FrameSink};
 use crate::turn::{hand_out, take_turn};
 use frame_assembly::Frame;
-use path_merge::{ReceiveFault, Received};
+use path_receiver::{ReceiveFault, Received};
 use st_format::{DatagramSource, Turn};
 use std::alloc::Allocator;
 

@@ -1,7 +1,7 @@
 //! How many datagrams were answered how.
 use crate::answer::Followed;
 use crate::sink::FollowObserver;
-use path_merge::Refusal;
+use path_receiver::Refusal;
 
 /// Counts of answers, each at most 2^64 - 1.
 #[derive(Clone, Copy, Debug, PartialEq, Eq)]

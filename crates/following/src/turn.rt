@@ -8,7 +8,7 @@ ghost use Rattle.following.specs.Turned.{state_early, turned};
 use crate::answer::Followed;
 use crate::follower::Follower;
 use frame_assembly::Frame;
-use path_merge::Refusal;
+use path_receiver::Refusal;
 use std::alloc::Allocator;
 
 /// What came of a datagram that was taken in its turn.

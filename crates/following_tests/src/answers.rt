@@ -3,7 +3,7 @@ use crate::checks::{met, none_fails};
 use crate::sources::{datagram, opened};
 use following::{Followed, Follower, TEN_SECONDS};
 use frame_assembly::Frame;
-use path_merge::Refusal;
+use path_receiver::Refusal;
 use rtp_header::RtpFault;
 use std::process::Abort;
 use std::test::Fail;

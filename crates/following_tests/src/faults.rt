@@ -1,7 +1,7 @@
 //! The words of each fault of following, its number and its name.
 use crate::checks::met;
 use following::{FollowFault, FrameFault, FrameSinkFault, StreamFault};
-use path_merge::ReceiveFault;
+use path_receiver::ReceiveFault;
 use st_format::SourceFault;
 use test_kit::words::{all_say, says};
 

@@ -5,7 +5,7 @@ use crate::plain_model::{Fate, Gone, PlainModel};
 use crate::sources::{datagram, opened};
 use following::{Followed, Follower, TEN_SECONDS, take_turn};
 use frame_assembly::Frame;
-use path_merge::Refusal;
+use path_receiver::Refusal;
 use std::alloc::{AllocError, Global};
 use std::process::Abort;
 use std::test::Fail;

@@ -9,7 +9,7 @@ use following::{
     follow, follow_eagerly,
 };
 use frame_assembly::Frame;
-use path_merge::{ReceiveFault, Received};
+use path_receiver::{ReceiveFault, Received};
 use st_format::SourceFault;
 use st_format::memory::MemoryTurns;
 use std::alloc::Global;

@@ -5,7 +5,7 @@ use Rattle.std.proofs.Common.{arith, drop}
 use Rattle.std.specs.List.{flat_map}
 use Rattle.st_format.specs.Member.{IsMember}
 use Rattle.st_format.specs.Raster.{Raster}
-use Rattle.path_merge.specs.Frames.{State, frame_at}
+use Rattle.path_receiver.specs.Frames.{State, frame_at}
 use Rattle.frame_assembly.specs.declared.counts.Counts.{Counts}
 use Rattle.st_format.specs.Cell.{is_contested, is_missing, is_present}
 use Rattle.frame_report.specs.Gathers.{numbered_word}

@@ -2,7 +2,7 @@
 use Rattle.std.specs.Prelude.{ℕ, List, [], ◌++◌, codes, Option, Some, None}
 use Rattle.std.specs.List.{flat_map}
 use Rattle.st_format.specs.Raster.{Raster}
-use Rattle.path_merge.specs.Frames.{State, frame_at}
+use Rattle.path_receiver.specs.Frames.{State, frame_at}
 use Rattle.frame_assembly.specs.Kinds.{counts_of}
 use Rattle.frame_assembly.specs.declared.counts.Counts.{Counts}
 use Rattle.frame_report.specs.Gathers.{numbered_word}

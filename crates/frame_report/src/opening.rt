@@ -3,7 +3,7 @@ ghost use Rattle.std.specs.Prelude.{◌≡◌, ◌≤◌, ◌+◌, ◌++◌, len
 ghost use Rattle.frame_report.specs.Opening.{opening_line, raster_text, source_text};
 
 use crate::page::{GATHERED, Page};
-use path_merge::Receiver;
+use path_receiver::Receiver;
 use st_format::Format;
 use std::alloc::Allocator;
 

@@ -11,7 +11,7 @@ use crate::missing::put_missing;
 use crate::opening::opening_page;
 use crate::page::{GATHERED, LINE, Page};
 use frame_assembly::{Counts, Frame};
-use path_merge::Receiver;
+use path_receiver::Receiver;
 use st_format::{ByteSink, DeviceFault};
 use std::alloc::Allocator;
 

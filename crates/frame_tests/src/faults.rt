@@ -1,6 +1,6 @@
 //! The words of each fault of formats, devices, headers and receivers.
 use crate::checks::met;
-use path_merge::{OpenFault, OpenedUnlike, ReceiveFault, Refusal, SeqMapFault, SlideFault};
+use path_receiver::{OpenFault, OpenedUnlike, ReceiveFault, Refusal, SeqMapFault, SlideFault};
 use payload_header::PayloadFault;
 use rtp_header::RtpFault;
 use st_format::{DeviceFault, FormatFault, PictureFault, SinkFault, SourceFault};

@@ -2,7 +2,7 @@
 use crate::checks::met;
 use crate::pictures::contested;
 use frame_assembly::{Base, Frame};
-use path_merge::Receiver;
+use path_receiver::Receiver;
 use st_format::Picture;
 use std::alloc::{AllocError, Global};
 use std::test::Fail;

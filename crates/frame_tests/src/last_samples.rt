@@ -3,7 +3,7 @@
 use crate::checks::met;
 use crate::packed_marks::cell;
 use frame_assembly::{Counts, Frame};
-use path_merge::Receiver;
+use path_receiver::Receiver;
 use st_format::{Cell, Depth, Format, FormatFault, Path, Sampling};
 use std::alloc::{AllocError, Global};
 use std::process::Abort;

@@ -3,7 +3,7 @@
 use crate::checks::met;
 use crate::two_paths::OTHER_VERSION;
 use frame_assembly::Frame;
-use path_merge::{OpenFault, Opening, Receiver, Refusal};
+use path_receiver::{OpenFault, Opening, Receiver, Refusal};
 use rtp_header::RtpFault;
 use st_format::{Depth, Format, FormatFault, Path, Sampling};
 use std::alloc::{AllocError, Global};

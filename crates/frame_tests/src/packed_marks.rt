@@ -2,7 +2,7 @@
 use crate::checks::met;
 use crate::pictures::takes;
 use frame_assembly::{Counts, Frame};
-use path_merge::Receiver;
+use path_receiver::Receiver;
 use st_format::{Cell, Depth, Format, Sampling};
 use std::alloc::Global;
 use std::test::Fail;

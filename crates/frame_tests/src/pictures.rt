@@ -1,7 +1,7 @@
 //! Pictures, timestamps, and frames that are copied and settled.
 use crate::checks::met;
 use frame_assembly::{Base, Frame};
-use path_merge::Receiver;
+use path_receiver::Receiver;
 use st_format::{Depth, Format, Picture, PictureFault, Sampling};
 use std::alloc::{AllocError, Allocator, Global};
 use std::process::Abort;

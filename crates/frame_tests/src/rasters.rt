@@ -5,7 +5,7 @@ use crate::packed_marks::cell;
 use crate::packing::packed;
 use crate::rows::{copies_by_groups, part, rows_agree};
 use frame_assembly::{Counts, Frame};
-use path_merge::Receiver;
+use path_receiver::Receiver;
 use st_format::{Cell, Depth, Format, Path, Sampling};
 use std::alloc::{AllocError, Global};
 use std::test::Fail;

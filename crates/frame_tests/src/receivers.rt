@@ -1,7 +1,7 @@
 //! *contested* through a receiver, and a refusal. What scripts show is in the program's tests.
 use crate::checks::met;
 use frame_assembly::Frame;
-use path_merge::{Receiver, Refusal, Taken};
+use path_receiver::{Receiver, Refusal, Taken};
 use payload_header::PayloadFault;
 use rtp_header::RtpFault;
 use st_format::{Cell, Path};

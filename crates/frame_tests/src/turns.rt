@@ -4,7 +4,7 @@ ghost use Rattle.std.specs.Prelude.{◌≡◌};
 use crate::checks::{met, none_fails};
 use crate::two_paths::OTHER_VERSION;
 use frame_assembly::{Counts, Frame};
-use path_merge::{OpenFault, ReceiveFault, Received, Receiver, receive};
+use path_receiver::{OpenFault, ReceiveFault, Received, Receiver, receive};
 use payload_header::{PayloadFault, read_payload};
 use refusing::Refusing;
 use st_format::memory::{MemoryTurn, MemoryTurns};

@@ -4,7 +4,7 @@ ghost use Rattle.std.specs.Prelude.{◌≡◌, ◌↔◌, IsTrue};
 
 use crate::checks::{met, none_fails};
 use frame_assembly::{Counts, Frame};
-use path_merge::{OpenFault, OpenedUnlike, Receiver, Refusal, SlideFault, Taken};
+use path_receiver::{OpenFault, OpenedUnlike, Receiver, Refusal, SlideFault, Taken};
 use refusing::Refusing;
 use rtp_header::RtpFault;
 use st_format::{Depth, Format, Path, Sampling};

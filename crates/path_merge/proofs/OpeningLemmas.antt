@@ -9,8 +9,8 @@ use Rattle.st_format.specs.declared.format.Format.{Format}
 use Rattle.st_format.specs.Picture.{Values}
 use Rattle.packet_plan.specs.declared.stamp.Stamp.{Stamp}
 use Rattle.packet_plan.specs.Plan.{RasterPlan}
-use Rattle.path_merge.specs.Frames.{Holds, State}
-use Rattle.path_merge.specs.Opening.{Opening}
+use Rattle.path_receiver.specs.Frames.{Holds, State}
+use Rattle.path_receiver.specs.Opening.{Opening}
 use Rattle.path_merge.specs.declared.schedule.played.Handed.{Handed}
 use Rattle.path_merge.specs.declared.schedule.stage.Stage.{Stage}
 use Rattle.path_merge.specs.Played.{IsHanded}

@@ -10,9 +10,9 @@ use Rattle.st_format.specs.Member.{IsMember}
 use Rattle.st_format.specs.Raster.{raster_of}
 use Rattle.st_format.proofs.Members.{member_cases}
 use Rattle.st_format.specs.Device.{AreOctets}
-use Rattle.path_merge.specs.Frames.{State, frames_of, joined_frames}
-use Rattle.path_merge.specs.Opening.{Opening, AreDifferent}
-use Rattle.path_merge.specs.Sliding.{slid_state, with_window}
+use Rattle.path_receiver.specs.Frames.{State, frames_of, joined_frames}
+use Rattle.path_receiver.specs.Opening.{Opening, AreDifferent}
+use Rattle.path_receiver.specs.Sliding.{slid_state, with_window}
 use Rattle.path_merge.specs.declared.schedule.event.Event.{Event}
 use Rattle.path_merge.specs.declared.schedule.event.Event.TheVariants.{Send, Arrive, Slide, Merge}
 use Rattle.path_merge.specs.Admitted.{AreAdmittedTo, CanSlide, IsAdmitted, send_count}

@@ -14,11 +14,11 @@ use Rattle.packet_plan.specs.Text.{IsStamp, datagram_texts}
 use Rattle.packet_plan.proofs.Texts.{picture_sent}
 use Rattle.path_merge.specs.declared.schedule.event.Event.{Event}
 use Rattle.path_merge.specs.declared.schedule.stage.Stage.{Stage}
-use Rattle.path_merge.specs.declared.schedule.play_fault.PlayFault.{PlayFault}
-use Rattle.path_merge.specs.declared.schedule.play_fault.PlayFault.TheVariants.{BadEvent}
-use Rattle.path_merge.specs.declared.schedule.play_fault.PlayFault.TheVariants.{BadPictures}
-use Rattle.path_merge.specs.declared.schedule.play_fault.PlayFault.TheVariants.{BadReceivers}
-use Rattle.path_merge.specs.declared.schedule.play_fault.PlayFault.TheVariants.{NoMemory}
+use Rattle.path_receiver.specs.declared.play_fault.PlayFault.{PlayFault}
+use Rattle.path_receiver.specs.declared.play_fault.PlayFault.TheVariants.{BadEvent}
+use Rattle.path_receiver.specs.declared.play_fault.PlayFault.TheVariants.{BadPictures}
+use Rattle.path_receiver.specs.declared.play_fault.PlayFault.TheVariants.{BadReceivers}
+use Rattle.path_receiver.specs.declared.play_fault.PlayFault.TheVariants.{NoMemory}
 use Rattle.path_merge.specs.Played.{ArePictures, IsPlayed}
 use Rattle.path_merge.specs.Sent.{AreSentBy, sender_of, texts_from}
 use Rattle.path_merge.specs.Admitted.{AreAdmittedTo, IsAdmitted, IsFirstBad}

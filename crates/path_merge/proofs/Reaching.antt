@@ -15,13 +15,13 @@ use Rattle.st_format.specs.Raster.{Raster, blank, raster_of, cells_of, joined_ce
 use Rattle.st_format.proofs.Members.{member_left, member_right, member_cases}
 use Rattle.st_format.proofs.Rasters.{cells_of-append, joined_none, length-cells_of}
 use Rattle.st_format.specs.Device.{AreOctets}
-use Rattle.path_merge.specs.declared.answer.Refusal.{Refusal}
-use Rattle.path_merge.specs.Admission.{datagram_walk}
-use Rattle.path_merge.specs.Grammar.{Datagram}
-use Rattle.path_merge.specs.Offers.{offers, offers_of}
-use Rattle.path_merge.specs.Opening.{Opening}
-use Rattle.path_merge.proofs.Frames.{cells_kept, holds_blank}
-use Rattle.path_merge.proofs.Offered.{admitted_for, admitted_takes}
+use Rattle.path_receiver.specs.declared.answer.Refusal.{Refusal}
+use Rattle.path_receiver.specs.Admission.{datagram_walk}
+use Rattle.path_receiver.specs.Grammar.{Datagram}
+use Rattle.path_receiver.specs.Offers.{offers, offers_of}
+use Rattle.path_receiver.specs.Opening.{Opening}
+use Rattle.path_receiver.proofs.Frames.{cells_kept, holds_blank}
+use Rattle.path_receiver.proofs.Offered.{admitted_for, admitted_takes}
 use Rattle.path_merge.specs.declared.schedule.event.Event.{Event}
 use Rattle.path_merge.specs.declared.schedule.event.Event.TheVariants.{Send, Arrive, Slide, Merge}
 use Rattle.path_merge.specs.Stays.{Stay, Lasts, slide_timestamp, slide_timestamps}

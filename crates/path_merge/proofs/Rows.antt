@@ -10,9 +10,9 @@ use Rattle.st_format.specs.Position.{place, place_in_row}
 use Rattle.st_format.specs.Samples.{bits, number, pieces, values_in}
 use Rattle.payload_header.specs.Reading.{header_of, headers_at, payload_walk}
 use Rattle.rtp_header.specs.Reading.{rtp_walk}
-use Rattle.path_merge.specs.Opening.{Opening}
-use Rattle.path_merge.specs.Admission.{datagram_walk}
-use Rattle.path_merge.specs.Frames.{frames_of}
+use Rattle.path_receiver.specs.Opening.{Opening}
+use Rattle.path_receiver.specs.Admission.{datagram_walk}
+use Rattle.path_receiver.specs.Frames.{frames_of}
 
 -- 60 / 1 is in lowest terms
 sixty : IsLowest 60 1

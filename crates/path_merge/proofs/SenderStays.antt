@@ -17,12 +17,13 @@ use Rattle.st_format.proofs.Members.{member-map, member_of_map, member-filter, m
 use Rattle.st_format.proofs.Members.{member-flat_map, member_of_flat_map, SameMembers-flat_map}
 use Rattle.st_format.proofs.Rasters.{cell_at-raster_of, cells_of-same}
 use Rattle.packet_plan.specs.Sender.{Sender}
-use Rattle.path_merge.specs.Frames.{cell_if}
-use Rattle.path_merge.specs.Offers.{offers, Carries}
-use Rattle.path_merge.specs.Opening.{Opening}
-use Rattle.path_merge.specs.Sender.{AreAmong, IsSendersCell}
-use Rattle.path_merge.specs.Sliding.{with_window}
-use Rattle.path_merge.proofs.SenderCells.{cells-senders, frame_cell}
+use Rattle.path_receiver.specs.Frames.{cell_if}
+use Rattle.path_receiver.specs.Offers.{offers, Carries}
+use Rattle.path_receiver.specs.Opening.{Opening}
+use Rattle.path_receiver.specs.Sender.{AreAmong, IsSendersCell}
+use Rattle.path_receiver.specs.Sliding.{with_window}
+use Rattle.path_receiver.proofs.Carried.{carried_by, none_carried, offered_here}
+use Rattle.path_receiver.proofs.SenderCells.{cells-senders, frame_cell}
 use Rattle.path_merge.specs.declared.schedule.event.Event.{Event}
 use Rattle.path_merge.specs.Stays.{Stay}
 use Rattle.path_merge.specs.Reached.{Scene, Reaches, IsFrameOf}
@@ -70,60 +71,6 @@ reached_among : (s : Scene) (es : List Event) (stay : Stay) (q : Raster) (ds : L
     → AreAmong s.sent ds → (is : IsFrameOf q stay s es) → AreAmong is.reached ds
 reached_among s es stay q ds among is d m = let r =
     (is.each d).0 m in among d (slice_member s.sent r.number d r.sent)
-
-same_place_here : (p : Position) → same_place p p ≡ true
-same_place_here p =
-    rw (
-      eq-eqb p.row p.row refl,
-      eq-eqb p.column p.column refl,
-      eq-eqb p.component p.component refl,
-    ) refl
-
-for_here : (ts : ℕ) (at : Position) (v : ℕ)
-    → is_for ts at (record { timestamp = ts; position = at; value = v }) ≡ true
-for_here ts at v = rw (eq-eqb ts ts refl, same_place_here at) refl
-
-pub offered_here : (o : Opening) (xs : List (List ℕ)) (ts : ℕ) (at : Position) (octets : List ℕ)
-    (c : Carries octets o ts at) → IsMember octets xs
-    → IsMember c.value (values_for (flat_map (offers o) xs) ts at)
-offered_here o xs ts at octets c m =
-    let x : Offer = record { timestamp = ts; position = at; value = c.value } in
-    let os : List Offer = flat_map (offers o) xs in
-    member_of_map (λ (y : Offer). y.value) x (filter (is_for ts at) os)
-    (member_of_filter (is_for ts at) x os (for_here ts at c.value)
-    (member_of_flat_map (offers o) octets x xs m c.offered))
-
-abbrev offer : ℕ → Position → ℕ → Offer
-offer t p v = record { timestamp = t; position = p; value = v }
-
-pub carried_by : (o : Opening) (xs : List (List ℕ)) (ts : ℕ) (at : Position) (v : ℕ)
-    → IsMember v (values_for (flat_map (offers o) xs) ts at)
-    → (octets : List ℕ) × IsMember octets xs × Carries octets o ts at
-carried_by o xs ts at v m =
-    let os : List Offer = flat_map (offers o) xs in
-    let x = member-map (λ (y : Offer). y.value) v (filter (is_for ts at) os) m in
-    let f = member-filter (is_for ts at) x.0 os x.1 in
-    let d = member-flat_map (offers o) x.0 xs f.0 in
-    let is = is_for-true ts at x.0 f.1 in (
-      d.0,
-      d.1,
-      record {
-        value = x.0.value;
-        offered =
-            subst (λ (y : Offer). IsMember y (offers o d.0)) (rebuilt x.0 is.0 is.1) d.2;
-      },
-    )
-  where
-    rebuilt : (x : Offer) → x.timestamp ≡ ts → x.position ≡ at
-        → x ≡ record { timestamp = ts; position = at; value = x.value }
-    rebuilt x e f =
-        ap (λ (t : ℕ). offer t x.position x.value) e ∙ ap (λ (p : Position). offer ts p x.value) f
-
-pub none_carried : (vs : List ℕ) (c : Cell) → IsCellOf vs c → ((v : ℕ) → IsMember v vs → ⊥)
-    → c ≡ Missing
-none_carried vs Missing is none = refl
-none_carried vs (Value v) is none = absurd (none v is.0)
-none_carried vs Contested is none = absurd (none is.0 is.2)
 
 missing_iff : (s : Scene) (es : List Event) (stay : Stay) (q : Raster) → IsFrameOf q stay s es
     → (at : Position) → IsPosition at s.opening.format

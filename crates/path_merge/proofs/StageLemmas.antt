@@ -11,9 +11,9 @@ use Rattle.st_format.specs.Member.{IsMember}
 use Rattle.st_format.specs.Picture.{Values}
 use Rattle.packet_plan.specs.declared.stamp.Stamp.{Stamp}
 use Rattle.packet_plan.specs.Plan.{RasterPlan}
-use Rattle.path_merge.specs.Frames.{State}
-use Rattle.path_merge.specs.Opening.{Opening, AreDifferent}
-use Rattle.path_merge.specs.Sliding.{with_window, slid_state}
+use Rattle.path_receiver.specs.Frames.{State}
+use Rattle.path_receiver.specs.Opening.{Opening, AreDifferent}
+use Rattle.path_receiver.specs.Sliding.{with_window, slid_state}
 use Rattle.path_merge.specs.declared.schedule.event.Event.{Event}
 use Rattle.path_merge.specs.declared.schedule.event.Event.TheVariants.{Send, Arrive, Slide, Merge}
 use Rattle.path_merge.specs.declared.schedule.played.Handed.{Handed}

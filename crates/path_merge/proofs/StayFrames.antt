@@ -11,11 +11,11 @@ use Rattle.st_format.specs.declared.path.Path.{Path}
 use Rattle.st_format.specs.Member.{IsMember}
 use Rattle.st_format.specs.Raster.{Raster, blank, raster_of}
 use Rattle.st_format.specs.Device.{AreOctets}
-use Rattle.path_merge.specs.Frames.{State, Holds, frames_of, joined_frames}
-use Rattle.path_merge.specs.Offers.{offers}
-use Rattle.path_merge.specs.Opening.{Opening, AreDifferent}
-use Rattle.path_merge.specs.Sliding.{with_window, slid_state}
-use Rattle.path_merge.proofs.Windows.{member_get}
+use Rattle.path_receiver.specs.Frames.{State, Holds, frames_of, joined_frames}
+use Rattle.path_receiver.specs.Offers.{offers}
+use Rattle.path_receiver.specs.Opening.{Opening, AreDifferent}
+use Rattle.path_receiver.specs.Sliding.{with_window, slid_state}
+use Rattle.path_receiver.proofs.Windows.{member_get}
 use Rattle.path_merge.specs.declared.schedule.event.Event.{Event}
 use Rattle.path_merge.specs.declared.schedule.event.Event.TheVariants.{Send, Arrive, Slide, Merge}
 use Rattle.path_merge.specs.Stays.{Stay, Lasts, slide_timestamp, slide_timestamps, window_after}

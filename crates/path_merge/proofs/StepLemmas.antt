@@ -6,10 +6,10 @@ use Rattle.std.proofs.lemmas.Option.{slice_get_read, slice_get-get_or}
 use Rattle.st_format.specs.declared.format.Format.{Format}
 use Rattle.st_format.specs.Member.{IsMember}
 use Rattle.st_format.specs.Device.{AreOctets}
-use Rattle.path_merge.specs.declared.fault.SlideFault.{SlideFault}
-use Rattle.path_merge.specs.declared.fault.SlideFault.TheVariants.{InWindow, OtherFormat}
-use Rattle.path_merge.specs.Frames.{State, IsReceiver, frames_of, joined_frames}
-use Rattle.path_merge.specs.declared.schedule.play_fault.Stop.{Stop}
+use Rattle.path_receiver.specs.declared.fault.SlideFault.{SlideFault}
+use Rattle.path_receiver.specs.declared.fault.SlideFault.TheVariants.{InWindow, OtherFormat}
+use Rattle.path_receiver.specs.Frames.{State, IsReceiver, frames_of, joined_frames}
+use Rattle.path_merge.specs.declared.schedule.stop.Stop.{Stop}
 use Rattle.path_merge.specs.declared.schedule.played.Handed.{Handed}
 use Rattle.path_merge.specs.Steps.{Arrives, SlidesOut, SlidesOne, MergesInto}
 

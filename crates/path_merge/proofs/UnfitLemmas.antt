@@ -3,15 +3,15 @@ use Rattle.std.proofs.Common.{◌≡◌, ℕ, List, length, refl, sym, subst, Re
 use Rattle.std.specs.Prelude.{◌↔◌, IfErr, IsErrOf}
 use Rattle.st_format.specs.declared.format.Format.{Format}
 use Rattle.st_format.specs.Picture.{Values}
-use Rattle.path_merge.specs.Opening.{AreDifferent, IsWindow, IsWindowSize}
+use Rattle.path_receiver.specs.Opening.{AreDifferent, IsWindow, IsWindowSize}
 use Rattle.path_merge.specs.Played.{ArePictures, IsReceiverCount}
 use Rattle.path_merge.specs.Unfit.{IsUnfitPlay, SpeaksAgainst}
-use Rattle.path_merge.specs.declared.schedule.play_fault.PlayFault.{PlayFault}
-use Rattle.path_merge.specs.declared.schedule.play_fault.PlayFault.TheVariants.{NoMemory, BadEvent}
-use Rattle.path_merge.specs.declared.schedule.play_fault.PlayFault.TheVariants.{BadWindow}
-use Rattle.path_merge.specs.declared.schedule.play_fault.PlayFault.TheVariants.{DoubleTimestamp}
-use Rattle.path_merge.specs.declared.schedule.play_fault.PlayFault.TheVariants.{BadPictures}
-use Rattle.path_merge.specs.declared.schedule.play_fault.PlayFault.TheVariants.{BadReceivers}
+use Rattle.path_receiver.specs.declared.play_fault.PlayFault.{PlayFault}
+use Rattle.path_receiver.specs.declared.play_fault.PlayFault.TheVariants.{NoMemory, BadEvent}
+use Rattle.path_receiver.specs.declared.play_fault.PlayFault.TheVariants.{BadWindow}
+use Rattle.path_receiver.specs.declared.play_fault.PlayFault.TheVariants.{DoubleTimestamp}
+use Rattle.path_receiver.specs.declared.play_fault.PlayFault.TheVariants.{BadPictures}
+use Rattle.path_receiver.specs.declared.play_fault.PlayFault.TheVariants.{BadReceivers}
 
 -- Where the window is one, a fault of the rest speaks against the whole.
 pub rest_speaks : {T : Type 0} (r : Result T PlayFault) (w : List ℕ) (ps : List Values)

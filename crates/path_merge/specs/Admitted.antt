@@ -4,7 +4,7 @@ use Rattle.st_format.specs.Member.{IsMember}
 use Rattle.path_merge.specs.declared.schedule.event.Event.{Event}
 use Rattle.path_merge.specs.declared.schedule.event.Event.TheVariants.{Send, Arrive, Slide, Merge}
 use Rattle.st_format.specs.Device.{AreOctets}
-use Rattle.path_merge.specs.Opening.{IsWindow}
+use Rattle.path_receiver.specs.Opening.{IsWindow}
 use Rattle.path_merge.specs.Stays.{window_after}
 use Rattle.path_merge.specs.Reached.{Scene}
 

@@ -1,14 +1,3 @@
-pub mod Opening
-pub mod Grammar
-pub mod Refused
-pub mod Admission
-pub mod Offers
-pub mod Frames
-pub mod Answers
-pub mod Sliding
-pub mod Sender
-pub mod TookSent
-pub mod Took
 pub mod Stays
 pub mod Reached
 pub mod Sent
@@ -16,7 +5,4 @@ pub mod Admitted
 pub mod Played
 pub mod Steps
 pub mod Stage
-pub mod PlayFault
-pub use Rattle.packet_numbers.specs.BitList
-pub use Rattle.packet_numbers.specs.Numbers
 pub mod Unfit

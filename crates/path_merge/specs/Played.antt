@@ -4,7 +4,7 @@ use Rattle.std.specs.Prelude.{slice_index}
 use Rattle.std.specs.List.{AllZip}
 use Rattle.st_format.specs.declared.format.Format.{Format}
 use Rattle.st_format.specs.Picture.{Values}
-use Rattle.path_merge.specs.Frames.{State}
+use Rattle.path_receiver.specs.Frames.{State}
 use Rattle.path_merge.specs.declared.schedule.event.Event.{Event}
 use Rattle.path_merge.specs.declared.schedule.event.Event.TheVariants.{Send, Arrive, Slide, Merge}
 use Rattle.path_merge.specs.declared.schedule.played.Handed.{Handed}

@@ -5,11 +5,11 @@ use Rattle.std.specs.List.{flat_map}
 use Rattle.st_format.specs.declared.path.Path.{Path}
 use Rattle.st_format.specs.Member.{IsMember}
 use Rattle.st_format.specs.Raster.{Raster, raster_of}
-use Rattle.path_merge.specs.Frames.{State}
-use Rattle.path_merge.specs.Grammar.{Datagram, IsFor}
-use Rattle.path_merge.specs.Offers.{offers}
-use Rattle.path_merge.specs.Opening.{Opening}
-use Rattle.path_merge.specs.Sliding.{with_window}
+use Rattle.path_receiver.specs.Frames.{State}
+use Rattle.path_receiver.specs.Grammar.{Datagram, IsFor}
+use Rattle.path_receiver.specs.Offers.{offers}
+use Rattle.path_receiver.specs.Opening.{Opening}
+use Rattle.path_receiver.specs.Sliding.{with_window}
 use Rattle.path_merge.specs.declared.schedule.event.Event.{Event}
 use Rattle.path_merge.specs.declared.schedule.event.Event.TheVariants.{Send, Arrive, Slide, Merge}
 use Rattle.path_merge.specs.Stays.{Stay, Lasts, slide_timestamps, window_after}

@@ -10,8 +10,8 @@ use Rattle.packet_plan.specs.Plan.{RasterPlan}
 use Rattle.packet_plan.specs.Sender.{IsSenderList, Sender, stamp_of}
 use Rattle.packet_plan.specs.Sent.{IsSentPicture}
 use Rattle.packet_plan.specs.Text.{datagram_texts}
-use Rattle.path_merge.specs.Offers.{Carries}
-use Rattle.path_merge.specs.Sender.{AreAmong, IsSendersCell}
+use Rattle.path_receiver.specs.Offers.{Carries}
+use Rattle.path_receiver.specs.Sender.{AreAmong, IsSendersCell}
 use Rattle.path_merge.specs.declared.schedule.event.Event.{Event}
 use Rattle.path_merge.specs.Stays.{Stay}
 use Rattle.path_merge.specs.Reached.{Scene, Reaches}

@@ -8,8 +8,8 @@ use Rattle.packet_plan.specs.declared.stamp.Stamp.{Stamp}
 use Rattle.packet_plan.specs.Plan.{RasterPlan, packet_at}
 use Rattle.packet_plan.specs.Sender.{stamp_of}
 use Rattle.packet_plan.specs.Text.{datagram_text, datagram_texts}
-use Rattle.path_merge.specs.Frames.{State, IsReceiver, frames_of, joined_frames}
-use Rattle.path_merge.specs.Sliding.{slid_state}
+use Rattle.path_receiver.specs.Frames.{State, IsReceiver, frames_of, joined_frames}
+use Rattle.path_receiver.specs.Sliding.{slid_state}
 use Rattle.path_merge.specs.declared.schedule.played.Handed.{Handed}
 use Rattle.path_merge.specs.declared.schedule.sending.Next.{Next}
 use Rattle.path_merge.specs.Sent.{sender_of, texts_from}

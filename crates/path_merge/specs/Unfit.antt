@@ -2,14 +2,14 @@
 use Rattle.std.specs.Prelude.{ℕ, List, length}
 use Rattle.st_format.specs.declared.format.Format.{Format}
 use Rattle.st_format.specs.Picture.{Values}
-use Rattle.path_merge.specs.Opening.{AreDifferent, IsWindow, IsWindowSize}
+use Rattle.path_receiver.specs.Opening.{AreDifferent, IsWindow, IsWindowSize}
 use Rattle.path_merge.specs.Played.{ArePictures, IsReceiverCount}
-use Rattle.path_merge.specs.declared.schedule.play_fault.PlayFault.{PlayFault}
-use Rattle.path_merge.specs.declared.schedule.play_fault.PlayFault.TheVariants.{NoMemory, BadEvent}
-use Rattle.path_merge.specs.declared.schedule.play_fault.PlayFault.TheVariants.{BadWindow}
-use Rattle.path_merge.specs.declared.schedule.play_fault.PlayFault.TheVariants.{DoubleTimestamp}
-use Rattle.path_merge.specs.declared.schedule.play_fault.PlayFault.TheVariants.{BadPictures}
-use Rattle.path_merge.specs.declared.schedule.play_fault.PlayFault.TheVariants.{BadReceivers}
+use Rattle.path_receiver.specs.declared.play_fault.PlayFault.{PlayFault}
+use Rattle.path_receiver.specs.declared.play_fault.PlayFault.TheVariants.{NoMemory, BadEvent}
+use Rattle.path_receiver.specs.declared.play_fault.PlayFault.TheVariants.{BadWindow}
+use Rattle.path_receiver.specs.declared.play_fault.PlayFault.TheVariants.{DoubleTimestamp}
+use Rattle.path_receiver.specs.declared.play_fault.PlayFault.TheVariants.{BadPictures}
+use Rattle.path_receiver.specs.declared.play_fault.PlayFault.TheVariants.{BadReceivers}
 
 -- the faults of the pictures and of the number of receivers, in this order
 abbrev pub IsUnfitPlay : PlayFault → List Values → Format → ℕ → Type 0

@@ -1,31 +1,16 @@
-//! A receiver of one stream of datagrams by two redundant paths (SMPTE ST 2022-7): it holds the
-//! cells of all offers that it took, whatever their order, their paths and their repeats; and
-//! schedules of receivers, played before they happen. The map of the packet numbers that came is
-//! passed on from below.
+//! The merge of two redundant paths (SMPTE ST 2022-7): receivers, passed on from below, and
+//! schedules of receivers, played before they happen.
 #![tactic(auto)]
 
-mod admitting;
-mod answer;
-mod fault;
-mod joining;
 pub mod laws;
-mod listing;
-mod observer;
-mod opening;
-mod receiver;
-mod receiving;
 mod schedule;
-mod window;
 
-pub use answer::{Refusal, Taken};
-pub use fault::{OpenFault, SlideFault};
-pub use listing::{Refusals, WindowFrames};
-pub use observer::Observer;
-pub use opening::Opening;
 pub use packet_numbers::{MAX_COUNT, Noted, OpenedUnlike, SeqMap, SeqMapFault, number_laws};
-pub use receiver::Receiver;
-pub use receiving::{ReceiveFault, Received, receive, receive_each};
+pub use path_receiver::{
+    MOST_TIMESTAMPS, Observer, OpenFault, Opening, PlayFault, REFUSAL_COUNT, ReceiveFault,
+    Received, Receiver, Refusal, Refusals, SlideFault, Taken, Tally, WindowFrames, receive,
+    receive_each, refusal_at,
+};
 pub use schedule::event::Event;
-pub use schedule::play_fault::PlayFault;
 pub use schedule::played::{Handed, Played};
 pub use schedule::playing::play;

@@ -2,9 +2,9 @@
 mod check;
 pub mod event;
 mod opening;
-pub mod play_fault;
 pub mod played;
 pub mod playing;
 mod sending;
 mod stage;
 mod steps;
+mod stop;

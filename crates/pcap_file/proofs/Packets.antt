@@ -7,6 +7,7 @@ use Rattle.std.specs.Prelude.{IfOk, slice_get}
 use Rattle.std.proofs.lemmas.Bool.{ltb-false, le-ltb}
 use Rattle.std.proofs.lemmas.List.{length-append, length-take-le, take-append-drop, take_at}
 use Rattle.std.proofs.lemmas.List.{drop_at}
+use Rattle.interface_name.specs.declared.name.InterfaceName.{InterfaceName}
 use Rattle.pcap_file.specs.declared.blocks.Interface.{Interface}
 use Rattle.pcap_file.specs.declared.fault.RecordingFault.{RecordingFault}
 use Rattle.pcap_file.specs.declared.fault.RecordingFault.TheVariants.{BadBlock}
@@ -26,15 +27,22 @@ yes p = Ok p
 abbrev no : RecordingFault → Read
 no f = Err f
 
-abbrev head : Option ℕ → ℕ → ℕ → ℕ → PacketHead
-head time link captured original =
-    record { time = time; link = link; captured = captured; original = original }
+abbrev head : Option ℕ → ℕ → ℕ → ℕ → Option InterfaceName → PacketHead
+head time link captured original interface =
+    record {
+      time = time;
+      link = link;
+      captured = captured;
+      original = original;
+      interface = interface;
+    }
 
-same_head : (a k : Option ℕ) (b c d l m n : ℕ) → a ≡ k → b ≡ l → c ≡ m → d ≡ n
-    → head a b c d ≡ head k l m n
-same_head a k b c d l m n p q r s =
-    ap (λ (x : Option ℕ). head x b c d) p ∙ ap (λ (x : ℕ). head k x c d) q
-    ∙ ap (λ (x : ℕ). head k l x d) r ∙ ap (λ (x : ℕ). head k l m x) s
+same_head : (a k : Option ℕ) (b c d l m n : ℕ) (e o : Option InterfaceName) → a ≡ k → b ≡ l
+    → c ≡ m → d ≡ n → e ≡ o → head a b c d e ≡ head k l m n o
+same_head a k b c d l m n e o p q r s t =
+    ap (λ (x : Option ℕ). head x b c d e) p ∙ ap (λ (x : ℕ). head k x c d e) q
+    ∙ ap (λ (x : ℕ). head k l x d e) r ∙ ap (λ (x : ℕ). head k l m x e) s
+    ∙ ap (head k l m n) t
 
 -- what a reading that answers a value tells of a test
 fits : (b : Bool) (f : RecordingFault) (r : Read) (p : PacketHead) → cond b (no f) r ≡ yes p
@@ -56,19 +64,21 @@ record Timed (t : Option ℕ) (i : Interface) (captured original : ℕ) (p : Pac
   link : p.link ≡ i.link
   captured_is : p.captured ≡ captured
   original_is : p.original ≡ original
+  named : p.interface ≡ i.name
 
 timed : (t : Option ℕ) (i : Interface) (captured original : ℕ) (p : PacketHead)
     → packet_by t i captured original ≡ yes p → Timed t i captured original p
 timed None i captured original p e = absurd cc
 timed (Some n) i captured original p e =
-    let same : head (Some n) i.link captured original ≡ p =
-    same_yes (head (Some n) i.link captured original) p e in
+    let same : head (Some n) i.link captured original i.name ≡ p =
+    same_yes (head (Some n) i.link captured original i.name) p e in
     record {
       time = ap (λ (x : PacketHead). x.time) (sym same);
       told = (n, refl);
       link = ap (λ (x : PacketHead). x.link) (sym same);
       captured_is = ap (λ (x : PacketHead). x.captured) (sym same);
       original_is = ap (λ (x : PacketHead). x.original) (sym same);
+      named = ap (λ (x : PacketHead). x.interface) (sym same);
     }
 
 stamped_takes_by : (number : List ℕ → ℕ) (order : ByteOrder) (is : List Interface) (body : List ℕ)
@@ -97,6 +107,7 @@ stamped_takes_by number order is body p (Some i) long whole at e =
       captured = t.captured_is;
       counted = length-take-le p.captured (drop 20 body) there;
       original = t.original_is;
+      named = t.named;
       whole =
           sym (take-append-drop 20 body)
           ∙ ap (λ (x : List ℕ). front ++ x) (sym (take-append-drop p.captured (drop 20 body)));
@@ -168,7 +179,8 @@ stamped_again number order is body p octets e =
     (sym e.time ∙ e.told.1)
     ∙ ap (λ (x : PacketHead). yes x)
     (same_head (Some e.told.0) p.time i.link (long_at order 12 front) (long_at order 16 front)
-    p.link p.captured p.original (sym e.told.1) (sym e.link) (sym e.captured) (sym e.original))
+    p.link p.captured p.original i.name p.interface (sym e.told.1) (sym e.link) (sym e.captured)
+    (sym e.original) (sym e.named))
 
 pub stamped_octets : (number : List ℕ → ℕ) (order : ByteOrder) (is : List Interface)
     (body : List ℕ) (p : PacketHead)
@@ -188,7 +200,7 @@ simple_takes_by order is body p None long at e = absurd cc
 simple_takes_by order is body p (Some i) long at e =
     let front : List ℕ = take 4 body in
     let k : ℕ = kept_of (long_at order 0 front) i.snap in
-    let made : PacketHead = head None i.link k (long_at order 0 front) in
+    let made : PacketHead = head None i.link k (long_at order 0 front) i.name in
     let a = fits (ltb (length (drop 4 body)) k) BadBlock (yes made) p e in
     let same : made ≡ p = same_yes made p a.1 in
     let captured : p.captured ≡ k = ap (λ (x : PacketHead). x.captured) (sym same) in
@@ -206,6 +218,7 @@ simple_takes_by order is body p (Some i) long at e =
       link = ap (λ (x : PacketHead). x.link) (sym same);
       original = original;
       captured = captured ∙ ap (λ (n : ℕ). kept_of n i.snap) (sym original);
+      named = ap (λ (x : PacketHead). x.interface) (sym same);
       counted = length-take-le p.captured (drop 4 body) there;
       whole =
           sym (take-append-drop 4 body)
@@ -238,11 +251,12 @@ simple_again order is body p octets e =
     ∙ ap (λ (x : Option Interface). simple_by order x (take 4 body) (drop 4 body)) e.interface_is
     ∙ ap (λ (x : List ℕ). simple_by order (Some i) x (drop 4 body)) c.front_is
     ∙ ap (simple_by order (Some i) front) c.rest_is
-    ∙ ap (λ (b : Bool). cond b (no BadBlock) (yes (head None i.link k (long_at order 0 front))))
+    ∙ ap (λ (b : Bool). cond b (no BadBlock)
+    (yes (head None i.link k (long_at order 0 front) i.name)))
     (le-ltb (length (octets ++ e.behind)) k there)
     ∙ ap (λ (x : PacketHead). yes x)
-    (same_head None p.time i.link k (long_at order 0 front) p.link p.captured p.original
-    (sym e.time) (sym e.link) (sym kept) (sym e.original))
+    (same_head None p.time i.link k (long_at order 0 front) p.link p.captured p.original i.name
+    p.interface (sym e.time) (sym e.link) (sym kept) (sym e.original) (sym e.named))
 
 pub simple_octets : (order : ByteOrder) (is : List Interface) (body : List ℕ) (p : PacketHead)
     (octets : List ℕ) → IsSimple order is body p octets

@@ -11,6 +11,7 @@ use Rattle.st_format.proofs.Readings.{bind_ok}
 use Rattle.pcap_file.specs.declared.fault.RecordingFault.{RecordingFault}
 use Rattle.pcap_file.specs.declared.fault.RecordingFault.TheVariants.{PacketTooLong, Truncated}
 use Rattle.pcap_file.specs.declared.pcap.PacketHead.{PacketHead}
+use Rattle.interface_name.specs.declared.name.InterfaceName.{InterfaceName}
 use Rattle.pcap_file.specs.declared.pcap.PcapHead.{PcapHead}
 use Rattle.pcap_file.specs.Orders.{long_at}
 use Rattle.pcap_file.specs.Fields.{field_at}
@@ -81,15 +82,22 @@ cuts n o xs rest h = cuts_at n o xs rest (ltb (length o) n) refl h
 
 -- ---- the head of a record
 
-abbrev head : Option ℕ → ℕ → ℕ → ℕ → PacketHead
-head time link captured original =
-    record { time = time; link = link; captured = captured; original = original }
+abbrev head : Option ℕ → ℕ → ℕ → ℕ → Option InterfaceName → PacketHead
+head time link captured original interface =
+    record {
+      time = time;
+      link = link;
+      captured = captured;
+      original = original;
+      interface = interface;
+    }
 
-same_head : (a k : Option ℕ) (b c d l m n : ℕ) → a ≡ k → b ≡ l → c ≡ m → d ≡ n
-    → head a b c d ≡ head k l m n
-same_head a k b c d l m n p q r s =
-    ap (λ (x : Option ℕ). head x b c d) p ∙ ap (λ (x : ℕ). head k x c d) q
-    ∙ ap (λ (x : ℕ). head k l x d) r ∙ ap (λ (x : ℕ). head k l m x) s
+same_head : (a k : Option ℕ) (b c d l m n : ℕ) (e o : Option InterfaceName) → a ≡ k → b ≡ l
+    → c ≡ m → d ≡ n → e ≡ o → head a b c d e ≡ head k l m n o
+same_head a k b c d l m n e o p q r s t =
+    ap (λ (x : Option ℕ). head x b c d e) p ∙ ap (λ (x : ℕ). head k x c d e) q
+    ∙ ap (λ (x : ℕ). head k l x d e) r ∙ ap (λ (x : ℕ). head k l m x e) s
+    ∙ ap (head k l m n) t
 
 head_is : (file : PcapHead) (front : List ℕ) (p : PacketHead) → IsRecordHead file front p
     → record_head_of file front ≡ p
@@ -98,10 +106,12 @@ head_is file front p is =
     (long_at file.order 0 front * 1000000000
     + long_at file.order 4 front * unit_of file.nanoseconds) in
     same_head time p.time file.link (long_at file.order 8 front) (long_at file.order 12 front)
-    p.link p.captured p.original (sym is.time) (sym is.link) (sym is.captured) (sym is.original)
+    p.link p.captured p.original None p.interface (sym is.time) (sym is.link) (sym is.captured)
+    (sym is.original) (sym is.unnamed)
 
 is_head : (file : PcapHead) (front : List ℕ) → IsRecordHead file front (record_head_of file front)
-is_head file front = record { time = refl; link = refl; captured = refl; original = refl }
+is_head file front =
+    record { time = refl; link = refl; captured = refl; original = refl; unnamed = refl }
 
 head_at_whole : (file : PcapHead) (o : List ℕ) → 0 < length o
     → head_at file o ≡ (field_at 16 o >>= λ y. head_by file y.0 y.1)

@@ -171,6 +171,7 @@ module _ (e : Envelope) (fits : EnvelopeFits e) (payload : List ℕ) (few : leng
             link = refl;
             captured = sym size;
             original = sym size;
+            unnamed = refl;
           };
           counted = frame_octets;
           whole = refl;

@@ -161,6 +161,7 @@ module _ (e : Envelope6) (fits : EnvelopeFits6 e) (payload : List ℕ)
           link = refl;
           captured = sym size;
           original = sym size;
+          unnamed = refl;
         };
         counted = frame_octets;
         whole = refl;

@@ -5,8 +5,10 @@ use Rattle.std.specs.Prelude.{◌==◌, if◌then◌else◌, List, [], ◌∷◌
 use Rattle.std.specs.Prelude.{slice_get, Option, Some, None, Result, Ok, Err}
 use Rattle.std.specs.Int.{w64}
 use Rattle.st_format.specs.Reading.{◌>>=◌}
-use Rattle.pcap_file.specs.Blocks.{kept_of, most_octets, option_octets, order_number, per_second_of}
-use Rattle.pcap_file.specs.Blocks.{long_number, short_number, time_at}
+use Rattle.interface_name.specs.declared.name.InterfaceName.{InterfaceName}
+use Rattle.interface_name.specs.Name.{name_of}
+use Rattle.pcap_file.specs.Blocks.{before_zero, kept_of, long_number, most_octets, option_octets}
+use Rattle.pcap_file.specs.Blocks.{order_number, per_second_of, short_number, time_at}
 use Rattle.pcap_file.specs.Orders.{long_at, number_by, short_at}
 use Rattle.pcap_file.specs.declared.blocks.Interface.{Interface}
 use Rattle.pcap_file.specs.declared.fault.RecordingFault.{RecordingFault}
@@ -70,15 +72,21 @@ offset_of order None = Ok 0
 offset_of order (Some value) =
     if not (length value == 8) then Err BadInterface else Ok (number_by order w64 value)
 
+abbrev pub name_by : Option (List ℕ) → Option InterfaceName
+name_by None = None
+name_by (Some value) = name_of (before_zero value)
+
 abbrev pub interface_by : ByteOrder → List ℕ → List ℕ → Result Interface RecordingFault
 interface_by order fixed options =
     option_at order 9 options >>= λ r. resolution_of r >>= λ per_second.
     option_at order 14 options >>= λ o. offset_of order o >>= λ offset.
+    option_at order 2 options >>= λ n.
     Ok (record {
       link = short_at order 0 fixed;
       snap = long_at order 4 fixed;
       per_second = per_second;
       offset = offset;
+      name = name_by n;
     })
 
 unfoldable pub interface_of : ByteOrder → List ℕ → Result Interface RecordingFault
@@ -94,6 +102,7 @@ packet_by (Some t) i captured original =
       link = i.link;
       captured = captured;
       original = original;
+      interface = i.name;
     })
 
 abbrev pub stamped_by : ByteOrder → Option Interface → List ℕ → Result PacketHead RecordingFault
@@ -131,6 +140,7 @@ simple_by order (Some i) front octets =
       link = i.link;
       captured = kept_of (long_at order 0 front) i.snap;
       original = long_at order 0 front;
+      interface = i.name;
     })
 
 unfoldable pub simple_of : ByteOrder → List Interface → List ℕ → Result PacketHead RecordingFault

@@ -5,6 +5,8 @@ use Rattle.std.specs.Prelude.{nat_lt, ◌==◌, if◌then◌else◌, List, [], �
 use Rattle.std.specs.Prelude.{take, slice_get, Option, Some, None}
 use Rattle.std.specs.Int.{w64}
 use Rattle.std.specs.List.{concat, AllByRecursion}
+use Rattle.interface_name.specs.declared.name.InterfaceName.{InterfaceName}
+use Rattle.interface_name.specs.Name.{name_of}
 use Rattle.pcap_file.specs.Orders.{long_at, number_by, short_at}
 use Rattle.pcap_file.specs.declared.blocks.Interface.{Interface}
 use Rattle.pcap_file.specs.declared.order.ByteOrder.{ByteOrder}
@@ -109,6 +111,18 @@ IsOffset order options offset =
     ⊎ ((value : List ℕ) × HasOption order 14 options value × (length value ≡ 8)
     × (offset ≡ number_by order w64 value))
 
+-- a text up to the first zero, which ends it (Options)
+abbrev pub before_zero : List ℕ → List ℕ
+before_zero [] = []
+before_zero (x ∷ xs) = if x == 0 then [] else (x ∷ before_zero xs)
+
+-- The name is that which the option if_name says, or none: also where it is no name as words of
+-- commands can have it (own).
+abbrev pub IsNamed : ByteOrder → List ℕ → Option InterfaceName → Type 0
+IsNamed order options name =
+    (LacksOption order 2 options × (name ≡ None))
+    ⊎ ((value : List ℕ) × HasOption order 2 options value × (name ≡ name_of (before_zero value)))
+
 -- The body of a block that describes an interface: the link layer, two octets, how much of a packet
 -- is kept, and options.
 pub record IsInterface (order : ByteOrder) (body : List ℕ) (i : Interface) : Type 0 where
@@ -119,6 +133,7 @@ pub record IsInterface (order : ByteOrder) (body : List ℕ) (i : Interface) : T
   pub snap : i.snap ≡ long_at order 4 fixed
   pub unit : IsUnit order options i.per_second
   pub offset : IsOffset order options i.offset
+  pub name : IsNamed order options i.name
   pub whole : body ≡ fixed ++ options
 
 -- nanoseconds in so many units
@@ -155,6 +170,7 @@ pub record IsStamped (number : List ℕ → ℕ) (order : ByteOrder) (interfaces
   pub captured : p.captured ≡ long_at order 12 front
   pub counted : length octets ≡ p.captured
   pub original : p.original ≡ long_at order 16 front
+  pub named : p.interface ≡ interface.name
   pub whole : body ≡ front ++ (octets ++ behind)
 
 -- the number of the interface in all four octets, or in the first two of them
@@ -192,6 +208,7 @@ pub record IsSimple (order : ByteOrder) (interfaces : List Interface) (body : Li
   pub link : p.link ≡ interface.link
   pub original : p.original ≡ long_at order 0 front
   pub captured : p.captured ≡ kept_of p.original interface.snap
+  pub named : p.interface ≡ interface.name
   pub counted : length octets ≡ p.captured
   pub whole : body ≡ front ++ (octets ++ behind)
 

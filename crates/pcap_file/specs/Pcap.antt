@@ -56,7 +56,7 @@ abbrev pub unit_of : Bool → ℕ
 unit_of nanoseconds = if nanoseconds then 1 else 1000
 
 -- The 16 octets before a packet's own: seconds, the fraction of a second, how many octets were
--- kept, and how many there were.
+-- kept, and how many there were. No interface is named.
 pub record IsRecordHead (head : PcapHead) (octets : List ℕ) (p : PacketHead) : Type 0 where
   pub time : p.time ≡ Some
       (long_at head.order 0 octets * 1000000000
@@ -64,6 +64,7 @@ pub record IsRecordHead (head : PcapHead) (octets : List ℕ) (p : PacketHead) :
   pub link : p.link ≡ head.link
   pub captured : p.captured ≡ long_at head.order 8 octets
   pub original : p.original ≡ long_at head.order 12 octets
+  pub unnamed : p.interface ≡ None
 
 -- ---- reading
 
@@ -108,4 +109,5 @@ record_head_of head octets =
       link = head.link;
       captured = long_at head.order 8 octets;
       original = long_at head.order 12 octets;
+      interface = None;
     }

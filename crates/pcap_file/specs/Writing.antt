@@ -4,7 +4,7 @@
 use Rattle.std.specs.Prelude.{◌≡◌, ℕ, ◌+◌, ◌-◌, ◌*◌, ◌/◌, ◌%◌, ◌^◌, ◌<◌, ◌==◌, if◌then◌else◌}
 use Rattle.std.specs.Prelude.{Bool, List, [], ◌∷◌, ◌++◌, length, slice_index}
 use Rattle.std.specs.Int.{w16, w32, to_be_bytes}
-use Rattle.std.specs.Prelude.{true, Some}
+use Rattle.std.specs.Prelude.{true, None, Some}
 use Rattle.pcap_file.specs.declared.order.ByteOrder.TheVariants.{Big}
 use Rattle.pcap_file.specs.declared.pcap.PcapHead.{PcapHead}
 use Rattle.pcap_file.specs.declared.writing.Envelope.{Envelope}
@@ -145,6 +145,7 @@ recorded_of e time payload =
         link = 1;
         captured = 42 + length payload;
         original = 42 + length payload;
+        interface = None;
       };
       octets = frame_text e payload;
     }

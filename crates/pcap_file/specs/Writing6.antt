@@ -1,7 +1,7 @@
 -- What is written of a datagram of IPv6: a record of pcap with a frame of Ethernet, IPv6 and UDP.
 -- RFC 8200, 3 and 8.1; RFC 4291, 2.7; RFC 2464, 3 and 7; RFC 768; RFC 1071, 1.
 use Rattle.std.specs.Prelude.{◌≡◌, ℕ, ◌+◌, ◌^◌, ◌<◌, ◌==◌, if◌then◌else◌, Bool, List, [], ◌∷◌, ◌++◌}
-use Rattle.std.specs.Prelude.{Some, length, slice_index}
+use Rattle.std.specs.Prelude.{None, Some, length, slice_index}
 use Rattle.std.specs.Int.{w16, to_be_bytes}
 use Rattle.pcap_file.specs.declared.writing.Envelope.{Envelope}
 use Rattle.pcap_file.specs.declared.writing6.Envelope6.{Envelope6}
@@ -84,6 +84,7 @@ recorded6_of e time payload =
         link = 1;
         captured = 62 + length payload;
         original = 62 + length payload;
+        interface = None;
       };
       octets = frame6_text e payload;
     }

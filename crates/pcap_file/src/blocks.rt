@@ -6,9 +6,10 @@ ghost use Rattle.std.specs.Prelude.{slice_get};
 ghost use Rattle.st_format.specs.Reading.{Gives};
 ghost use Rattle.pcap_file.specs.BlockReading.{body_of_total, enhanced_of, interface_of, offset_of};
 ghost use Rattle.pcap_file.specs.BlockReading.{option_at, order_of, section_of, simple_of};
-ghost use Rattle.pcap_file.specs.BlockReading.{obsolete_of, packet_by, resolution_of, stamped_in};
+ghost use Rattle.pcap_file.specs.BlockReading.{name_by, obsolete_of, packet_by, resolution_of};
+ghost use Rattle.pcap_file.specs.BlockReading.{stamped_in};
 ghost use Rattle.pcap_file.specs.Blocks.{IsEnhanced, IsInterface, IsSection, IsSimple, IsTotal};
-ghost use Rattle.pcap_file.specs.Blocks.{IsObsolete, order_number};
+ghost use Rattle.pcap_file.specs.Blocks.{IsObsolete, before_zero, order_number};
 ghost use Rattle.pcap_file.specs.declared.blocks.Interface.{Interface as Described};
 ghost use Rattle.pcap_file.specs.Blocks.{per_second_of, time_at};
 ghost use Rattle.pcap_file.specs.Fields.{IsContent};
@@ -19,6 +20,7 @@ ghost use Rattle.pcap_file.specs.declared.pcap.PacketHead.{PacketHead as Head};
 use crate::fault::RecordingFault;
 use crate::order::{ByteOrder, long_at, short_at};
 use crate::pcap::PacketHead;
+use interface_name::InterfaceName;
 
 /// The type of the block that begins a section: the same in either order.
 pub const SECTION: u32 = 0x0a0d_0d0a;
@@ -41,6 +43,9 @@ pub const ENHANCED: u32 = 6;
 /// How many octets a block has at most (own).
 const MOST: u32 = 0x100_0000;
 
+/// The option of an interface that says its name.
+const NAME: u16 = 2;
+
 /// The option of an interface that says the unit of its times.
 const RESOLUTION: u16 = 9;
 
@@ -58,6 +63,8 @@ pub struct Interface {
     pub per_second: u64,
     /// The seconds that belong to its times, modulo 2^64.
     pub offset: u64,
+    /// Its name; `None` where the block says none, or a text that is none.
+    pub name: Option<InterfaceName>,
 }
 
 /// How many octets the body of a block has that has so many.
@@ -193,6 +200,28 @@ fn offset_of(order: ByteOrder, value: Option<&[u8]>) -> Result<u64, RecordingFau
     }
 }
 
+/// A text up to the first zero, which ends it (pcapng: options whose values are strings).
+fn before_zero(text: &[u8]) -> &[u8]
+    ensures { result.now ≡ before_zero text.now }
+{
+    for (place, octet) in text.iter().enumerate() {
+        if *octet == 0 {
+            return &text[..place];
+        }
+    }
+    text
+}
+
+/// The name of an interface, by the option that says it; none where that says no name.
+fn name_by(value: Option<&[u8]>) -> Option<InterfaceName>
+    ensures { result ≡ name_by (option_copied value.entry) }
+{
+    match value {
+        Some(value) => InterfaceName::read(before_zero(value)),
+        None => None,
+    }
+}
+
 /// What reading the body of such a block gives.
 #[tactic(auto, unfolding(crate::specs::BlockReading::interface_of))]
 fn described(order: ByteOrder, body: &[u8]) -> Result<Interface, RecordingFault>
@@ -207,11 +236,13 @@ fn described(order: ByteOrder, body: &[u8]) -> Result<Interface, RecordingFault>
     let per_second = resolution_of(resolution)?;
     let offset = option_of(order, options, OFFSET)?;
     let offset = offset_of(order, offset)?;
+    let name = option_of(order, options, NAME)?;
     Ok(Interface {
         link: short_at(order, fixed, 0),
         snap: long_at(order, fixed, 4),
         per_second,
         offset,
+        name: name_by(name),
     })
 }
 
@@ -277,6 +308,7 @@ fn packet_by(
             link: interface.link,
             captured,
             original,
+            interface: interface.name,
         }),
         None => Err(RecordingFault::BadTime),
     }
@@ -426,6 +458,7 @@ fn simple(
         link: interface.link,
         captured,
         original,
+        interface: interface.name,
     })
 }
 

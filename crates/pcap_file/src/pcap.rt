@@ -10,6 +10,7 @@ ghost use Rattle.pcap_file.specs.declared.pcap.PcapHead.{PcapHead as Head};
 
 use crate::fault::RecordingFault;
 use crate::order::{ByteOrder, long_at, short_at};
+use interface_name::InterfaceName;
 
 /// The octets before the packets.
 pub const PCAP_HEAD: usize = 24;
@@ -50,6 +51,9 @@ pub struct PacketHead {
     pub captured: u32,
     /// How many it had.
     pub original: u32,
+    /// The interface that it was taken at; `None` where the recording doesn't say its name, as no
+    /// recording of the classic layout does, or says a text that is no name.
+    pub interface: Option<InterfaceName>,
 }
 
 /// The order and the unit of time that a file's first four octets say.
@@ -141,5 +145,6 @@ pub fn read_record_head(head: &PcapHead, octets: &[u8]) -> PacketHead
         link: head.link,
         captured: long_at(head.order, octets, 8),
         original: long_at(head.order, octets, 12),
+        interface: None,
     }
 }

@@ -8,7 +8,7 @@ use Rattle.run_outcome.specs.Refusing.{OfRefusal}
 use Rattle.run_outcome.specs.declared.fault.Fault.{Fault}
 use Rattle.run_outcome.specs.declared.fault.Fault.TheVariants as fault
 use Rattle.run_outcome.specs.declared.refusal.Refusal.{Refusal}
-use Rattle.path_merge.specs.Frames.{State}
+use Rattle.path_receiver.specs.Frames.{State}
 use Rattle.receiver_engines.specs.Reading.{SayReceivers}
 use Rattle.receiver_engines.specs.Merging.{SaysReceiver}
 use Rattle.receiver_engines.specs.States.{IsStateRefusal}

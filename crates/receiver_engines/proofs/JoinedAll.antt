@@ -6,7 +6,7 @@ use Rattle.std.proofs.lemmas.List.Elements.{All-append, All-cons, All-nil}
 use Rattle.std.specs.List.{AllZip}
 use Rattle.st_format.specs.Raster.{Raster}
 use Rattle.media_file.specs.StateFile.{Kept, state_text}
-use Rattle.path_merge.specs.Frames.{Holds, State, joined_frames}
+use Rattle.path_receiver.specs.Frames.{Holds, State, joined_frames}
 use Rattle.receiver_file.specs.Saved.{kept_of}
 use Rattle.run_outcome.specs.Frames.{frame_lines}
 use Rattle.receiver_engines.specs.MergedAll.{AreAlike, GiveReceivers, IsFileOf, JoinsAll, JoinsEach}

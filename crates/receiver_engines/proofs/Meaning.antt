@@ -2,7 +2,7 @@
 use Rattle.std.proofs.Common.{ℕ, List}
 use Rattle.st_format.specs.Picture.{Values}
 use Rattle.packet_plan.specs.declared.stamp.Stamp.{Stamp}
-use Rattle.path_merge.proofs.SentOffers.{offers-picture}
+use Rattle.path_receiver.proofs.SentOffers.{offers-picture}
 use Rattle.key_mix.specs.Sending.{IsSentJob}
 use Rattle.key_mix.specs.declared.Job.{Job}
 use Rattle.receiver_engines.specs.Offered.{OffersJob}

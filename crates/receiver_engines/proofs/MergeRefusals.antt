@@ -1,7 +1,7 @@
 -- Which refusal ends a run of `merge`, of two files and of any number.
 use Rattle.std.proofs.Common.{◌≡◌, ℕ, ◌+◌, ◌<◌, List, inl, inr, drop, get_or, length, take, subst}
 use Rattle.std.proofs.Common.{◌∙◌}
-use Rattle.path_merge.specs.Frames.{State}
+use Rattle.path_receiver.specs.Frames.{State}
 use Rattle.receiver_engines.specs.MergeAllRefused.{IsJoinRefusal, IsMergeAllRefusal, IsUnlike}
 use Rattle.receiver_engines.specs.MergeAllRefused.{StopsAt}
 use Rattle.receiver_engines.specs.MergeRefused.{AreUnlike, IsMergeRefusal}

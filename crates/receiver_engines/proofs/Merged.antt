@@ -2,9 +2,9 @@
 use Rattle.std.proofs.Common.{◌≡◌, ℕ, List, [], ◌++◌, refl, sym, ap, subst, ◌∙◌}
 use Rattle.st_format.specs.Raster.{Raster}
 use Rattle.media_file.specs.StateFile.{Kept, state_text}
-use Rattle.path_merge.specs.Frames.{Holds, State, frames_of, joined_frames}
-use Rattle.path_merge.specs.Opening.{Opening}
-use Rattle.path_merge.proofs.Frames.{frames_of-append}
+use Rattle.path_receiver.specs.Frames.{Holds, State, frames_of, joined_frames}
+use Rattle.path_receiver.specs.Opening.{Opening}
+use Rattle.path_receiver.proofs.Frames.{frames_of-append}
 use Rattle.receiver_file.specs.Saved.{kept_of}
 use Rattle.receiver_engines.specs.Merging.{IsAgain, JoinsFirst, MergesFiles, SavesMerged}
 use Rattle.receiver_engines.specs.Merging.{PrintsMerged, merged_state}

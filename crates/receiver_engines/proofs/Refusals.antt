@@ -16,7 +16,7 @@ use Rattle.key_mix.specs.declared.Job.{Job}
 use Rattle.key_mix.specs.declared.faults.JobFault.TheVariants as job_fault
 use Rattle.key_mix.specs.declared.faults.SendJobFault.{SendJobFault}
 use Rattle.key_mix.specs.declared.faults.SendJobFault.TheVariants as sending
-use Rattle.path_merge.specs.Frames.{State}
+use Rattle.path_receiver.specs.Frames.{State}
 use Rattle.st_format.specs.declared.format.Format.{Format}
 use Rattle.st_format.specs.Member.{IsMember}
 use Rattle.st_format.specs.Picture.{FitsDepth, Values}

@@ -6,7 +6,7 @@ use Rattle.std.specs.Borrow.{Bor}
 use Rattle.frame_assembly.specs.declared.base.Base.TheVariants.{Fill, Hold}
 use Rattle.key_mix.specs.declared.sending.JobInput.{JobInput}
 use Rattle.frame_assembly.specs.Settled.{settled_cell}
-use Rattle.path_merge.specs.Frames.{State, frame_at}
+use Rattle.path_receiver.specs.Frames.{State, frame_at}
 use Rattle.st_format.specs.declared.format.Format.{Format}
 use Rattle.st_format.specs.Picture.{FitsDepth, Values, value_at}
 use Rattle.st_format.specs.Position.{Position, places}

@@ -1,7 +1,7 @@
 -- Which refusal ends a run of `merge` of a first receiver's file and of others (own). Each is said
 -- to stand only where none before it does.
 use Rattle.std.specs.Prelude.{◌≡◌, ℕ, ◌⊎◌, List, ◌∷◌, ◌++◌}
-use Rattle.path_merge.specs.Frames.{State}
+use Rattle.path_receiver.specs.Frames.{State}
 use Rattle.receiver_engines.specs.Merging.{GivesReceiver, SaysReceiver}
 use Rattle.receiver_engines.specs.MergedAll.{AreAlike}
 use Rattle.receiver_engines.specs.MergeRefused.{AreUnlike}

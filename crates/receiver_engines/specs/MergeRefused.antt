@@ -1,6 +1,6 @@
 -- Which refusal ends a run of `merge` (own). Each is said to stand only where none before it does.
 use Rattle.std.specs.Prelude.{◌≡◌, ℕ, ◌⊎◌, List}
-use Rattle.path_merge.specs.Frames.{State}
+use Rattle.path_receiver.specs.Frames.{State}
 use Rattle.receiver_engines.specs.Merging.{GivesReceiver, SaysReceiver}
 use Rattle.receiver_engines.specs.States.{IsStateRefusal}
 use Rattle.run_outcome.specs.declared.refusal.Refusal.{Refusal}

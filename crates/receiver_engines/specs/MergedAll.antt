@@ -4,7 +4,7 @@
 use Rattle.std.specs.Prelude.{◌≡◌, ℕ, List, [], ◌∷◌, ◌++◌, All}
 use Rattle.std.specs.List.{AllZip, flat_map}
 use Rattle.media_file.specs.StateFile.{state_text}
-use Rattle.path_merge.specs.Frames.{Holds, State}
+use Rattle.path_receiver.specs.Frames.{Holds, State}
 use Rattle.receiver_file.specs.Saved.{kept_of}
 use Rattle.run_outcome.specs.Frames.{frame_lines}
 use Rattle.receiver_engines.specs.Merging.{GivesReceiver, IsAgain, SaysReceiver, merged_state}

@@ -2,7 +2,7 @@
 -- begin with those, and of no other where the source has ended.
 use Rattle.std.specs.Prelude.{◌≡◌, ℕ, List, [], ◌++◌, ◌⊎◌}
 use Rattle.media_file.specs.StateFile.{state_text}
-use Rattle.path_merge.specs.Frames.{Holds, State, joined_frames}
+use Rattle.path_receiver.specs.Frames.{Holds, State, joined_frames}
 use Rattle.run_outcome.specs.Frames.{frame_lines}
 use Rattle.st_format.specs.Device.{GrowsPart}
 use Rattle.receiver_file.specs.Saved.{IsReceiverFile, IsWritable, kept_of}

@@ -4,9 +4,9 @@ use Rattle.std.specs.List.{flat_map}
 use Rattle.st_format.specs.Picture.{Values}
 use Rattle.st_format.specs.Position.{places}
 use Rattle.packet_plan.specs.declared.stamp.Stamp.{Stamp}
-use Rattle.path_merge.specs.Offers.{offers}
-use Rattle.path_merge.specs.Opening.{Opening}
-use Rattle.path_merge.specs.Sender.{IsOpenFor, offer_at}
+use Rattle.path_receiver.specs.Offers.{offers}
+use Rattle.path_receiver.specs.Opening.{Opening}
+use Rattle.path_receiver.specs.Sender.{IsOpenFor, offer_at}
 use Rattle.key_mix.specs.Jobs.{IsJobPicture}
 use Rattle.key_mix.specs.declared.Job.{Job}
 

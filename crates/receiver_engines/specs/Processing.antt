@@ -13,7 +13,7 @@ use Rattle.packet_plan.specs.declared.plan.PlanFault.TheVariants as plan
 use Rattle.key_mix.specs.Sending.{IsSendable, IsSentJob}
 use Rattle.key_mix.specs.declared.Job.{Job}
 use Rattle.packet_plan.specs.declared.stamp.Stamp.{Stamp}
-use Rattle.path_merge.specs.Frames.{State}
+use Rattle.path_receiver.specs.Frames.{State}
 use Rattle.st_format.specs.Device.{CountsOne, GrowsPart}
 use Rattle.st_format.specs.Picture.{Values}
 use Rattle.st_format.specs.Raster.{Raster}

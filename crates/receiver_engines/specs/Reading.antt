@@ -1,7 +1,7 @@
 -- What the files say that are processed (own). What was read of a source is told by a predicate.
 use Rattle.std.specs.Prelude.{ℕ, List, [], ◌∷◌, Option, None, Some, ⊤}
 use Rattle.std.specs.List.{AllZip}
-use Rattle.path_merge.specs.Frames.{State}
+use Rattle.path_receiver.specs.Frames.{State}
 use Rattle.receiver_engines.specs.Merging.{SaysReceiver}
 use Rattle.run_outcome.specs.Pictures.{SaysPicture}
 use Rattle.st_format.specs.Picture.{Values}

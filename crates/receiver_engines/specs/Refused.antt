@@ -10,7 +10,7 @@ use Rattle.key_mix.specs.Jobs.{IsRefusal}
 use Rattle.key_mix.specs.Sending.{IsBadSize}
 use Rattle.key_mix.specs.declared.Job.{Job}
 use Rattle.packet_plan.specs.declared.plan.PlanFault.TheVariants as plan
-use Rattle.path_merge.specs.Frames.{State}
+use Rattle.path_receiver.specs.Frames.{State}
 use Rattle.st_format.specs.declared.format.Format.{Format}
 use Rattle.st_format.specs.Member.{IsMember}
 use Rattle.st_format.specs.Picture.{Values}

@@ -2,7 +2,7 @@
 use Rattle.std.specs.Prelude.{◌≡◌, ℕ, List, ◌++◌, ◌⊎◌}
 use Rattle.receiver_engines.specs.Merging.{GivesReceiver, IsAgain, SaysReceiver}
 use Rattle.frame_report.specs.Report.{report_text}
-use Rattle.path_merge.specs.Frames.{State}
+use Rattle.path_receiver.specs.Frames.{State}
 use Rattle.st_format.specs.Device.{GrowsPart}
 
 -- What was read is the file of a receiver, and its report was written; so whichever receiver's it

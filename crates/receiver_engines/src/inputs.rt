@@ -17,7 +17,7 @@ ghost use Rattle.st_format.specs.Picture.{FitsDepth};
 use crate::fill_text::read_fill;
 use frame_assembly::{Base, Frame};
 use key_mix::JobInput;
-use path_merge::Receiver;
+use path_receiver::Receiver;
 use run_outcome::{Fault, Refusal};
 use st_format::{Format, Picture};
 use std::alloc::Allocator;

@@ -9,7 +9,7 @@ ghost use Rattle.run_outcome.specs.Refusing.{OfRefusal};
 
 use crate::merging_all::join;
 use crate::states::{read_receiver, save};
-use path_merge::Receiver;
+use path_receiver::Receiver;
 use run_outcome::{Fault, print_frames};
 use st_format::{ByteSink, ByteSource};
 use std::alloc::Allocator;

@@ -12,7 +12,7 @@ ghost use Rattle.receiver_engines.specs.MergedAll.{PrintsAll};
 ghost use Rattle.receiver_engines.specs.Merging.{Saves, SavesPart};
 
 use crate::states::{read_receiver, save};
-use path_merge::Receiver;
+use path_receiver::Receiver;
 use run_outcome::{Fault, Refusal, print_frames};
 use st_format::{ByteSink, ByteSource};
 use std::alloc::Allocator;

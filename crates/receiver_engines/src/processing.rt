@@ -22,7 +22,7 @@ use crate::late_capture::LateCapture;
 use crate::reading::{read_held, read_receivers};
 use key_mix::{Job, JobInput, SendJobFault, send_job};
 use packet_plan::{PlanFault, Stamp};
-use path_merge::Receiver;
+use path_receiver::Receiver;
 use run_outcome::{Fault, Line, Refusal, print, read_checked};
 use st_format::{ByteSink, ByteSource, Picture};
 use std::alloc::Allocator;

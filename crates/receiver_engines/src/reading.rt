@@ -13,7 +13,7 @@ ghost use Rattle.receiver_engines.specs.Reading.{SayReceivers, SaysHeld};
 ghost use Rattle.st_format.specs.History.{IsRead};
 
 use crate::states::read_receiver;
-use path_merge::Receiver;
+use path_receiver::Receiver;
 use run_outcome::{Fault, read_unpacked};
 use st_format::{ByteSource, Picture};
 use std::alloc::Allocator;

@@ -8,9 +8,9 @@ ghost use Rattle.st_format.specs.History.{GrewFrom, IsRead};
 ghost use Rattle.media_file.specs.StateFile.{state_text};
 ghost use Rattle.receiver_file.specs.Saved.{kept_of};
 ghost use Rattle.receiver_engines.specs.States.{IsStateRefusal};
-ghost use Rattle.path_merge.specs.Frames.{State};
+ghost use Rattle.path_receiver.specs.Frames.{State};
 
-use path_merge::Receiver;
+use path_receiver::Receiver;
 use receiver_file::{load_receiver, save_receiver};
 use run_outcome::{Fault, of_state};
 use st_format::{ByteSink, ByteSource};

@@ -11,9 +11,9 @@ use Rattle.std.proofs.lemmas.Nat.{from_be_bytes-to_be_bytes_4}
 use Rattle.st_format.specs.declared.cell.Cell.{Cell}
 use Rattle.st_format.specs.Fields.{Fields}
 use Rattle.st_format.specs.Member.{IsMember}
-use Rattle.path_merge.specs.Frames.{State}
-use Rattle.path_merge.specs.Opening.{AreDifferent}
-use Rattle.path_merge.proofs.Answered.{member_from_any}
+use Rattle.path_receiver.specs.Frames.{State}
+use Rattle.path_receiver.specs.Opening.{AreDifferent}
+use Rattle.path_receiver.proofs.Answered.{member_from_any}
 use Rattle.media_file.specs.declared.fault.FileFault.{FileFault}
 use Rattle.media_file.specs.declared.fault.FileFault.TheVariants.{NoMemory, Device, BadName}
 use Rattle.media_file.specs.declared.fault.FileFault.TheVariants.{BadVersion, Truncated, BadField}

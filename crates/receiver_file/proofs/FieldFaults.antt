@@ -7,7 +7,7 @@ use Rattle.std.proofs.lemmas.Bool.{eq-eqb, eqb-true, eqb-false, lt-ltb, ltb-fals
 use Rattle.std.proofs.lemmas.Bool.{or_parts}
 use Rattle.st_format.specs.Device.{AreOctets}
 use Rattle.st_format.specs.Fields.{Fields}
-use Rattle.path_merge.specs.Opening.{IsWindowSize}
+use Rattle.path_receiver.specs.Opening.{IsWindowSize}
 use Rattle.media_file.specs.declared.fault.FileFault.{FileFault}
 use Rattle.media_file.specs.declared.fault.FileFault.TheVariants.{BadField, Truncated}
 use Rattle.media_file.specs.Blocks.{block_at, block_of}

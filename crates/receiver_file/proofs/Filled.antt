@@ -5,8 +5,8 @@ use Rattle.std.specs.List.{AllByRecursion}
 use Rattle.std.proofs.lemmas.Bool.{eq-eqb, ne_eqb}
 use Rattle.st_format.specs.Member.{IsMember}
 use Rattle.st_format.specs.Raster.{Raster}
-use Rattle.path_merge.specs.Frames.{IsReceiver, State, frame_at}
-use Rattle.path_merge.specs.Opening.{AreDifferent}
+use Rattle.path_receiver.specs.Frames.{IsReceiver, State, frame_at}
+use Rattle.path_receiver.specs.Opening.{AreDifferent}
 use Rattle.receiver_file.specs.Saved.{IsFilled}
 use Rattle.receiver_file.proofs.KeptRuns.{member_of}
 

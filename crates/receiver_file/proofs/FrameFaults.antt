@@ -9,8 +9,8 @@ use Rattle.st_format.specs.declared.cell.Cell.{Cell}
 use Rattle.st_format.specs.Device.{AreOctets}
 use Rattle.st_format.specs.Fields.{Fields}
 use Rattle.st_format.specs.Member.{IsMember}
-use Rattle.path_merge.specs.Opening.{AreDifferent}
-use Rattle.path_merge.proofs.Answered.{any_from_member, member_from_any}
+use Rattle.path_receiver.specs.Opening.{AreDifferent}
+use Rattle.path_receiver.proofs.Answered.{any_from_member, member_from_any}
 use Rattle.media_file.specs.declared.fault.FileFault.{FileFault}
 use Rattle.media_file.specs.declared.fault.FileFault.TheVariants.{BadField, Truncated}
 use Rattle.media_file.specs.Fields.{field_at}

@@ -13,8 +13,8 @@ use Rattle.st_format.specs.Device.{AppendsPrefix}
 use Rattle.st_format.specs.Fields.{Fields, fields_of}
 use Rattle.st_format.specs.Member.{IsMember}
 use Rattle.st_format.specs.Raster.{Raster}
-use Rattle.path_merge.specs.Frames.{IsReceiver, State, frame_at}
-use Rattle.path_merge.specs.Opening.{AreDifferent}
+use Rattle.path_receiver.specs.Frames.{IsReceiver, State, frame_at}
+use Rattle.path_receiver.specs.Opening.{AreDifferent}
 use Rattle.media_file.specs.StateFile.{Held, Kept, format_text, held_of, held_text, opening_text}
 use Rattle.media_file.specs.StateFile.{ssrc_text, state_text}
 use Rattle.media_file.specs.declared.front.Version.TheVariants.{One}

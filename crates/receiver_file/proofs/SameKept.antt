@@ -8,8 +8,8 @@ use Rattle.st_format.specs.Fields.{fields_of}
 use Rattle.st_format.proofs.SameFields.{same_format}
 use Rattle.st_format.specs.Raster.{IsWhole, Raster}
 use Rattle.frame_assembly.proofs.Segments.{sample_count_groups}
-use Rattle.path_merge.specs.Frames.{Holds, IsReceiver, State, frames_of}
-use Rattle.path_merge.specs.Opening.{Opening}
+use Rattle.path_receiver.specs.Frames.{Holds, IsReceiver, State, frames_of}
+use Rattle.path_receiver.specs.Opening.{Opening}
 use Rattle.media_file.specs.declared.fault.FileFault.{FileFault}
 use Rattle.media_file.specs.Fields.{Fails}
 use Rattle.st_format.specs.Given.{Takes}

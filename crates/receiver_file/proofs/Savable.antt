@@ -15,8 +15,8 @@ use Rattle.st_format.specs.Raster.{Raster}
 use Rattle.st_format.proofs.Made.{format_at-fields}
 use Rattle.st_format.specs.Position.{group_start, row_groups}
 use Rattle.frame_assembly.specs.Rows.{group_cells}
-use Rattle.path_merge.specs.Frames.{State}
-use Rattle.path_merge.specs.Opening.{IsWindow}
+use Rattle.path_receiver.specs.Frames.{State}
+use Rattle.path_receiver.specs.Opening.{IsWindow}
 use Rattle.media_file.specs.Groups.{IsGroup, IsHad}
 use Rattle.media_file.specs.StateFile.{IsHeld, cut_cells, raster_groups, held_of}
 use Rattle.receiver_file.specs.Known.{shape_in}

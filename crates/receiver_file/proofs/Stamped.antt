@@ -10,8 +10,8 @@ use Rattle.st_format.specs.declared.format.Format.{Format}
 use Rattle.st_format.specs.Fields.{Fields}
 use Rattle.st_format.specs.Member.{IsMember}
 use Rattle.st_format.specs.Raster.{Raster}
-use Rattle.path_merge.specs.Opening.{AreDifferent}
-use Rattle.path_merge.proofs.Answered.{any_from_member}
+use Rattle.path_receiver.specs.Opening.{AreDifferent}
+use Rattle.path_receiver.proofs.Answered.{any_from_member}
 use Rattle.media_file.specs.declared.fault.FileFault.{FileFault}
 use Rattle.media_file.specs.declared.fault.FileFault.TheVariants.{BadField}
 use Rattle.media_file.specs.Fields.{Fails}

@@ -8,7 +8,7 @@ use Rattle.std.proofs.lemmas.List.{length-map}
 use Rattle.std.proofs.lemmas.Slice.Eq.{bytes_eq-Decides}
 use Rattle.st_format.specs.Device.{AreOctets, TellsOctets}
 use Rattle.st_format.specs.Fields.{Fields}
-use Rattle.path_merge.specs.Frames.{State}
+use Rattle.path_receiver.specs.Frames.{State}
 use Rattle.media_file.specs.declared.fault.FileFault.{FileFault}
 use Rattle.media_file.specs.declared.fault.FileFault.TheVariants.{NoMemory, Device, BadName}
 use Rattle.media_file.specs.declared.fault.FileFault.TheVariants.{BadVersion, Truncated, BadField}

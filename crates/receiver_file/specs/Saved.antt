@@ -7,8 +7,8 @@ use Rattle.st_format.specs.Fit.{ValuesFit}
 use Rattle.st_format.specs.Fields.{Fields, fields_of, format_at}
 use Rattle.st_format.specs.Raster.{IsWhole, Raster}
 use Rattle.frame_assembly.specs.Rows.{GroupsAreWhole}
-use Rattle.path_merge.specs.Frames.{IsReceiver, State}
-use Rattle.path_merge.specs.Opening.{IsWindow}
+use Rattle.path_receiver.specs.Frames.{IsReceiver, State}
+use Rattle.path_receiver.specs.Opening.{IsWindow}
 use Rattle.media_file.specs.declared.front.Version.TheVariants.{One}
 use Rattle.media_file.specs.Fronts.{kind_text, receiver_name}
 use Rattle.media_file.specs.StateFile.{Held, IsKeptReceiver, Kept, SsrcFits, cut_cells}

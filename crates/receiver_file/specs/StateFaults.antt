@@ -9,7 +9,7 @@ use Rattle.st_format.specs.declared.cell.Cell.{Cell}
 use Rattle.st_format.specs.Fields.{Fields}
 use Rattle.st_format.specs.Member.{IsMember}
 use Rattle.st_format.specs.Samples.{values_in}
-use Rattle.path_merge.specs.Opening.{AreDifferent, IsWindowSize}
+use Rattle.path_receiver.specs.Opening.{AreDifferent, IsWindowSize}
 use Rattle.media_file.specs.declared.fault.FileFault.{FileFault}
 use Rattle.media_file.specs.declared.fault.FileFault.TheVariants.{BadName, BadVersion, Truncated}
 use Rattle.media_file.specs.declared.fault.FileFault.TheVariants.{BadField, TrailingBytes}

@@ -1,7 +1,7 @@
 //! The frames of a receiver, from a source.
 ghost use Rattle.std.specs.Prelude.{◌≡◌, ◌≤◌, [], All, IfErr, IfOk, length};
 ghost use Rattle.st_format.specs.Fields.{fields_of};
-ghost use Rattle.path_merge.specs.Opening.{AreDifferent};
+ghost use Rattle.path_receiver.specs.Opening.{AreDifferent};
 ghost use Rattle.st_format.specs.Member.{IsMember};
 ghost use Rattle.media_file.specs.Faults.{CountsDevice};
 ghost use Rattle.media_file.specs.Fields.{Fails, GaveFault};

@@ -2,7 +2,7 @@
 ghost use Rattle.std.specs.Prelude.{◌≡◌, ◌↔◌, ◌⊎◌, ℕ, Err, List};
 ghost use Rattle.st_format.specs.Device.{AreOctets};
 ghost use Rattle.st_format.specs.Member.{SameDatagrams};
-ghost use Rattle.path_merge.specs.Frames.{Holds, State};
+ghost use Rattle.path_receiver.specs.Frames.{Holds, State};
 ghost use Rattle.media_file.specs.declared.fault.FileFault.{FileFault};
 ghost use Rattle.media_file.specs.StateFile.{Kept, state_text};
 ghost use Rattle.receiver_file.specs.Saved.{IsSaved, kept_of};

@@ -3,7 +3,7 @@ ghost use Rattle.std.specs.Prelude.{◌≡◌, ◌∷◌, ◌++◌, [], IfErr, O
 ghost use Rattle.std.specs.Int.{w32, to_be_bytes};
 ghost use Rattle.std.specs.Io.KnownBytes.{Appends};
 ghost use Rattle.st_format.specs.Device.{AppendsPrefix, CountsFaults, GrowsPart};
-ghost use Rattle.path_merge.specs.Frames.{IsReceiver, State};
+ghost use Rattle.path_receiver.specs.Frames.{IsReceiver, State};
 ghost use Rattle.media_file.specs.Faults.{CountsDevice, IsDevice};
 ghost use Rattle.media_file.specs.StateFile.{opening_text, ssrc_text, state_text};
 ghost use Rattle.receiver_file.specs.Saved.{IsWritable, kept_of};
@@ -15,7 +15,7 @@ use crate::telling::tell_receiver;
 use byteorder::{BigEndian, ByteOrder};
 use frame_assembly::Frame;
 use media_file::{FileFault, format_block};
-use path_merge::Receiver;
+use path_receiver::Receiver;
 use st_format::{ByteSink, DeviceFault, write_whole};
 use std::alloc::Allocator;
 

@@ -1,13 +1,13 @@
 //! What the types and the frames of a receiver tell of it.
 ghost use Rattle.std.specs.Prelude.{◌≡◌, ◌<◌, ◌^◌, [], Ok};
 ghost use Rattle.std.specs.List.{AllByRecursion};
-ghost use Rattle.path_merge.specs.Frames.{IsReceiver, State};
+ghost use Rattle.path_receiver.specs.Frames.{IsReceiver, State};
 ghost use Rattle.media_file.specs.StateFile.{SsrcFits, state_text};
 ghost use Rattle.receiver_file.specs.Saved.{IsFilled, IsWritable, kept_of};
 ghost use Rattle.receiver_file.specs.StateReading.{state_walk};
 
 use frame_assembly::Frame;
-use path_merge::Receiver;
+use path_receiver::Receiver;
 use std::alloc::Allocator;
 
 /// What is always so of a receiver. It only asks for what a proof needs: no cell is looked at.

@@ -170,8 +170,8 @@ apart_from k q other =
 
 -- ---- a number between runs
 
--- The new tree has the run from first to last, in which the number is, and not the one that began right behind
--- the number, if there was one.
+-- The new tree has the run from first to last, in which the number is, and not the one that began
+-- right behind the number, if there was one.
 pub record IsJoined (first n last : ℕ) (old new : Tree) : Type 0 where
   pub ends : ((at old (n + 1) ≡ None) × (last ≡ n)) ⊎ (at old (n + 1) ≡ Some last)
   pub own : at new first ≡ Some last

@@ -9,8 +9,8 @@ use Rattle.recording_counts.specs.Timestamps.{ticks_from}
 use Rattle.recording_counts.specs.declared.rtp_stream.RtpStream.{RtpStream}
 use Rattle.recording_counts.specs.declared.rtp_streams.Streams.{Streams}
 
--- Of two timestamps the earlier one, and the later one: this is less than half a round of 2^32 ticks
--- ahead of that. RFC 3550, 5.1; RFC 1982, 3.2
+-- Of two timestamps the earlier one, and the later one: this is less than half a round of 2^32
+-- ticks ahead of that. RFC 3550, 5.1; RFC 1982, 3.2
 abbrev pub earlier : ℕ → ℕ → ℕ
 earlier t u = if nat_lt (ticks_from u t) (2 ^ 31) then u else t
 

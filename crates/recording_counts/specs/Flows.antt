@@ -7,8 +7,8 @@ use Rattle.std.specs.Net.Addr.{ipv4_octets, ipv6_octets}
 use Rattle.std.specs.Net.Socket.{socket_ip, socket_port}
 use Rattle.recording_counts.specs.declared.noted.Noted.{Noted}
 
--- A UDP datagram that arrived: when it was recorded, if that is known, where it was sent to, and its
--- octets. RFC 768
+-- A UDP datagram that arrived: when it was recorded, if that is known, where it was sent to, and
+-- its octets. RFC 768
 pub record Arrival : Type 0 where
   pub time : Option ℕ
   pub destination : SocketAddr

@@ -19,9 +19,9 @@ use std::fmt;
 ///   from 1732600000.000000000 to 1732600001.000000000, 207.36 Mbit/s
 /// ```
 ///
-/// RTCP is told where a datagram is such. A line is there for each stream of RTP, and one that there
-/// are others where there are. The last one is there where a datagram has a time. A rate is told
-/// where the last time is behind the first.
+/// RTCP is told where a datagram is such. A line is there for each stream of RTP, and one that
+/// there are others where there are. The last one is there where a datagram has a time. A rate is
+/// told where the last time is behind the first.
 impl fmt::Display for FlowCount {
     ghost output = { λ c. Some (count_text c) };
 
@@ -123,7 +123,8 @@ impl fmt::Display for StreamLine {
     }
 }
 
-/// The least and the greatest time, where there are such, and the rate of so many octets between them.
+/// The least and the greatest time, where there are such, and the rate of so many octets between
+/// them.
 #[derive(Clone, Copy)]
 struct TimesLine(Times, u64);
 

@@ -6,3 +6,4 @@ pub mod Files
 pub mod Progress
 pub mod Opened
 pub mod Imported
+pub mod Ways

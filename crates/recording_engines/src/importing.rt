@@ -42,14 +42,14 @@ pub struct Importing<'a> {
 
 /// Makes a capture of captures and of recordings of other tools, each told by its first octets.
 ///
-/// The SDP text is read first, of at most 65,535 octets, and becomes the capture's text. A capture's
-/// records are taken with their paths and moments. Of a recording a record is a UDP datagram of a
-/// flow: its path, when it came, in nanoseconds since 1970, or 0 where the recording doesn't say,
-/// and its octets. The flows of the paths are those that `wanted` names, or else those of the SDP's
-/// video sections, one or two, the first path A's. Where both paths have one flow, the first of two
-/// files is path A's, and the second path B's. Each file is read once, and its order is kept; always
-/// the earliest of the next records is written, of equally early ones the first file's. All else is
-/// left out.
+/// The SDP text is read first, of at most 65,535 octets, and becomes the capture's text. A
+/// capture's records are taken with their paths and moments. Of a recording a record is a UDP
+/// datagram of a flow: its path, when it came, in nanoseconds since 1970, or 0 where the recording
+/// doesn't say, and its octets. The flows of the paths are those that `wanted` names, or else those
+/// of the SDP's video sections, one or two, the first path A's. Where both paths have one flow, the
+/// first of two files is path A's, and the second path B's. Each file is read once, and its order
+/// is kept; always the earliest of the next records is written, of equally early ones the first
+/// file's. All else is left out.
 ///
 /// Behind the last record `recorded A N B M left out K` is printed to `output`, and these numbers
 /// are answered, what was left out by the reason; K is their sum.
@@ -57,8 +57,8 @@ pub struct Importing<'a> {
 /// # Errors
 ///
 /// A refusal where the SDP, a word for a flow, the flows or a file is refused, or where there are
-/// more than 16,777,216 records; nothing is written to `capture` before each file was read as far as
-/// its first record. And else that a device failed or memory was wanted. Where it is refused
+/// more than 16,777,216 records; nothing is written to `capture` before each file was read as far
+/// as its first record. And else that a device failed or memory was wanted. Where it is refused
 /// nothing is printed.
 pub fn import<A, D, S, K, O>(
     alloc: A,

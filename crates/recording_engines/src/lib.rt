@@ -8,6 +8,8 @@ mod files;
 mod importing;
 mod joining;
 mod opening;
+mod ways;
 
 pub use file::ImportFile;
 pub use importing::{ImportCounts, Importing, flows_each, flows_of, import};
+pub use ways::ways_each;

@@ -21,7 +21,7 @@ use Rattle.st_format.specs.History.{GrewFrom, IsRead, since}
 use Rattle.st_format.proofs.Histories.{grew_by, since_is}
 use Rattle.recording_reader.specs.Capturing.{FailsRecord, ReadsRecord}
 use Rattle.recording_reader.specs.FileReader.{IsKnownBy}
-use Rattle.recording_reader.specs.Files.{AreFirst, HaveFileRecords, IsFileFault}
+use Rattle.recording_reader.specs.Files.{AreFirst, HasFirstRecords, HaveFileRecords, IsFileFault}
 use Rattle.recording_reader.specs.Files.{IsWholeFile, records_of_file, text_of_file}
 use Rattle.recording_reader.specs.Kinds.{is_recording}
 use Rattle.recording_reader.specs.Ways.{CaptureStands, IsBehindRecords, IsFront}
@@ -125,6 +125,15 @@ module _ (standing : Standing) (before now : List ℕ) (ended : Type 0) (text : 
     pub capture_said : text_of_file octets ≡ text
     capture_said =
         text_is flows octets s.front text s.is_front records s.fit (s.behind ++ read.behind) whole
+
+    pub capture_parts : HasFirstRecords text records octets
+    capture_parts = record {
+      behind = s.behind ++ read.behind;
+      fit = s.fit;
+      front =
+          front_is flows octets s.front text s.is_front records s.fit (s.behind ++ read.behind)
+          whole;
+    }
 
 -- a record that is none, at the front of octets
 by_fault : (f : FileFault) (r : Result (Entry × List ℕ) FileFault) → fault_by r ≡ Some f

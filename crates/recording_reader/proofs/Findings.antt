@@ -34,15 +34,19 @@ part_is at n xs =
 
 pub record_by : (flows : Flows) (p : Packet) (buffer : List ℕ) (d : Result Datagram NoDatagram)
     → walk_of (link_of p.head.link) (part_of p buffer) ≡ d
-    → record_of flows (packet_seen p buffer) ≡ entry_of flows (moment_of p.head.time) d
+    → record_of flows (packet_seen p buffer)
+    ≡ entry_of flows p.head.interface (moment_of p.head.time) d
 record_by flows p buffer d read =
-    ap (λ (o : List ℕ). entry_of flows (moment_of p.head.time) (walk_of (link_of p.head.link) o))
-    (part_is p.place p.head.captured buffer)
-    ∙ ap (λ (r : Result Datagram NoDatagram). entry_of flows (moment_of p.head.time) r) read
+    ap
+    (λ (o : List ℕ). entry_of flows p.head.interface (moment_of p.head.time)
+    (walk_of (link_of p.head.link) o)) (part_is p.place p.head.captured buffer)
+    ∙ ap
+    (λ (r : Result Datagram NoDatagram). entry_of flows p.head.interface (moment_of p.head.time) r)
+    read
 
 pub record_to : (flows : Flows) (p : Packet) (buffer : List ℕ) (d : Datagram) (path : Option Path)
     → walk_of (link_of p.head.link) (part_of p buffer) ≡ Ok d
-    → path ≡ path_to flows d.source d.destination d.destination_port
+    → path ≡ path_to flows p.head.interface d.source d.destination d.destination_port
     → record_of flows (packet_seen p buffer) ≡ entry_by path (moment_of p.head.time) d.payload
 record_to flows p buffer d path read is =
     record_by flows p buffer (Ok d) read
@@ -51,15 +55,15 @@ record_to flows p buffer d path read is =
 -- why there is none
 pub omission_at : (flows : Flows) (p : Packet) (buffer : List ℕ) (d : Result Datagram NoDatagram)
     → walk_of (link_of p.head.link) (part_of p buffer) ≡ d
-    → omission_of flows (packet_seen p buffer) ≡ omission_by flows d
+    → omission_of flows (packet_seen p buffer) ≡ omission_by flows p.head.interface d
 omission_at flows p buffer d read =
-    ap (λ (o : List ℕ). omission_by flows (walk_of (link_of p.head.link) o))
+    ap (λ (o : List ℕ). omission_by flows p.head.interface (walk_of (link_of p.head.link) o))
     (part_is p.place p.head.captured buffer)
-    ∙ ap (omission_by flows) read
+    ∙ ap (omission_by flows p.head.interface) read
 
 pub omission_to : (flows : Flows) (p : Packet) (buffer : List ℕ) (d : Datagram) (path : Option Path)
     → walk_of (link_of p.head.link) (part_of p buffer) ≡ Ok d
-    → path ≡ path_to flows d.source d.destination d.destination_port
+    → path ≡ path_to flows p.head.interface d.source d.destination d.destination_port
     → omission_of flows (packet_seen p buffer) ≡ other_by path
 omission_to flows p buffer d path read is =
     omission_at flows p buffer (Ok d) read ∙ ap other_by (sym is)
@@ -100,7 +104,7 @@ placed_within at n place part octets buffer is inside stands =
 -- what is found in it
 pub found_is : (flows : Flows) (p : Packet) (buffer : List ℕ) (d : Datagram) (path : Path)
     (moment place start stop : ℕ) → walk_of (link_of p.head.link) (part_of p buffer) ≡ Ok d
-    → some_path path ≡ path_to flows d.source d.destination d.destination_port
+    → some_path path ≡ path_to flows p.head.interface d.source d.destination d.destination_port
     → moment ≡ moment_of p.head.time → StandAt place d.payload (part_of p buffer)
     → start ≡ p.place + place → stop ≡ start + length d.payload
     → some_entry path moment (take (stop - start) (drop start buffer))

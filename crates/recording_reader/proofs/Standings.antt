@@ -6,7 +6,7 @@ use Rattle.flow.specs.declared.flows.Flows.{Flows}
 use Rattle.media_file.specs.Records.{Entry}
 use Rattle.st_format.specs.History.{GrewFrom, IsRead, since}
 use Rattle.recording_reader.specs.FileReader.{IsExact, IsKnownBy}
-use Rattle.recording_reader.specs.Files.{HaveFileRecords, text_of_file}
+use Rattle.recording_reader.specs.Files.{HasFirstRecords, HaveFileRecords, text_of_file}
 use Rattle.recording_reader.specs.Found.{entry_at}
 use Rattle.recording_reader.specs.Kinds.{is_recording}
 use Rattle.recording_reader.specs.Reading.{entry_there}
@@ -22,7 +22,7 @@ use Rattle.recording_reader.specs.declared.way.Way.{Way}
 use Rattle.recording_reader.specs.declared.way.Way.TheVariants.{Capture, Recording}
 use Rattle.recording_reader.proofs.Captures.{capture_again, capture_end, capture_fails, capture_grew}
 use Rattle.recording_reader.proofs.Captures.{capture_has, capture_kind, capture_known, capture_said}
-use Rattle.recording_reader.proofs.Captures.{capture_text_is}
+use Rattle.recording_reader.proofs.Captures.{capture_parts, capture_text_is}
 use Rattle.recording_reader.proofs.Recordings.{recording_again, recording_end, recording_fails}
 use Rattle.recording_reader.proofs.Recordings.{recording_grew, recording_has, recording_kind}
 use Rattle.recording_reader.proofs.Recordings.{recording_known, recording_said, recording_text_is}
@@ -71,6 +71,14 @@ pub way_given : (way : Way) (flows : Option Flows) (standing : Standing) (before
 way_given Capture flows standing before now ended text records s kind =
     capture_has standing before now ended text records s flows
 way_given (Recording t) flows standing before now ended text records s kind = absurd cc
+
+pub way_parts : (way : Way) (flows : Option Flows) (standing : Standing) (before now : List ℕ)
+    (ended : Type 0) (text : List ℕ) (records : List Entry) (octets : List ℕ)
+    → WayStands way flows standing before now ended text records → is_recording_way way ≡ false
+    → IsRead before now ended octets → HasFirstRecords text records octets
+way_parts Capture flows standing before now ended text records octets s kind read =
+    capture_parts standing before now ended text records s flows octets read
+way_parts (Recording t) flows standing before now ended text records octets s kind read = absurd cc
 
 -- a recording is read by flows
 pub way_by_flows : (way : Way) (flows : Option Flows) (standing : Standing)

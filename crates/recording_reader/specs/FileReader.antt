@@ -7,7 +7,8 @@ use Rattle.recording_counts.specs.declared.left_out.LeftOut.{LeftOut}
 use Rattle.media_file.specs.Records.{Entry}
 use Rattle.pcap_file.specs.Fields.{IsContent}
 use Rattle.recording_reader.specs.Files.{AreFirst, CountsReadingFault, HaveFileRecords, IfFile}
-use Rattle.recording_reader.specs.Files.{IsFileFault, IsWholeFile, records_of_file, source_fault}
+use Rattle.recording_reader.specs.Files.{HasFirstRecords, IsFileFault, IsWholeFile, records_of_file}
+use Rattle.recording_reader.specs.Files.{source_fault}
 use Rattle.recording_reader.specs.Files.{text_of_file}
 use Rattle.recording_reader.specs.Kinds.{is_recording}
 use Rattle.recording_reader.specs.declared.fault.ReadingFault.{ReadingFault}
@@ -73,8 +74,14 @@ abbrev pub HasGivenFile : {S : Type 0} → (S → List ℕ) → (S → Type 0) �
 HasGivenFile gave ended r = (octets : List ℕ)
     → IsRead r.before.gave (gave r.source) (ended r.source) octets → IsKnownFile r octets
 
--- Just what was given is known where a reader stands: but where its source failed within a packet of
--- a recording, of which it isn't said that the octets so far have no other record.
+-- of a capture, its front and the text of its records among all such octets
+abbrev pub HasGivenRecords : {S : Type 0} → (S → List ℕ) → (S → Type 0) → FileReader S → Type 0
+HasGivenRecords gave ended r = (octets : List ℕ)
+    → IsRead r.before.gave (gave r.source) (ended r.source) octets
+    → HasFirstRecords r.text r.records octets
+
+-- Just what was given is known where a reader stands: but where its source failed within a packet
+-- of a recording, of which it isn't said that the octets so far have no other record.
 abbrev pub IsExact : Standing → Type 0
 IsExact Reads = ⊤
 IsExact Ended = ⊤
@@ -145,8 +152,8 @@ TellsNext (Datagram path count) buf old new = TellsOne path count buf old new
 TellsNext Quiet buf old new = ⊥
 TellsNext End buf old new = FindsNone old new
 
--- The datagram at hand was told, whose octets stand at the front of a buffer, or the end where there
--- is none.
+-- The datagram at hand was told, whose octets stand at the front of a buffer, or the end where
+-- there is none.
 abbrev pub TellsTurn : Option Entry → Turn → List ℕ → Type 0
 TellsTurn None End buf = ⊤
 TellsTurn (Some e) (Datagram path count) buf =

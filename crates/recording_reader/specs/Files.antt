@@ -121,6 +121,12 @@ IsFrontFault (Capture f) octets = (is_recording octets ≡ false) × (front_at o
 IsFrontFault (Recording f) octets = (is_recording octets ≡ true)
     × (packets_in room octets ≡ []) × (fault_in room octets ≡ Some f)
 
+-- Octets begin with a capture's front, which has this text, and with the text of these records.
+pub record HasFirstRecords (text : List ℕ) (records : List Entry) (octets : List ℕ) : Type 0 where
+  pub behind : List ℕ
+  pub fit : AllFit records
+  pub front : front_at octets ≡ Ok (text, records_text records ++ behind)
+
 -- A capture is whole: behind its front there are records, and nothing else.
 pub record IsWholeCapture (octets : List ℕ) : Type 0 where
   pub text : List ℕ

@@ -3,6 +3,7 @@ use Rattle.std.specs.Prelude.{ℕ, List, Option, None, Some, Result, Ok, Err, is
 use Rattle.std.specs.List.{count_by, filter_map}
 use Rattle.flow.specs.Flow.{path_to}
 use Rattle.flow.specs.declared.flows.Flows.{Flows}
+use Rattle.interface_name.specs.declared.name.InterfaceName.{InterfaceName}
 use Rattle.recording_counts.specs.declared.omission.Omission.{Omission}
 use Rattle.recording_counts.specs.declared.omission.Omission.TheVariants as by
 use Rattle.media_file.specs.Records.{Entry}
@@ -28,14 +29,15 @@ entry_by None moment octets = None
 entry_by (Some path) moment octets =
     Some (record { path = path; moment = moment; octets = octets })
 
-abbrev pub entry_of : Flows → ℕ → Result Datagram NoDatagram → Option Entry
-entry_of flows moment (Err reason) = None
-entry_of flows moment (Ok d) =
-    entry_by (path_to flows d.source d.destination d.destination_port) moment d.payload
+abbrev pub entry_of : Flows → Option InterfaceName → ℕ → Result Datagram NoDatagram → Option Entry
+entry_of flows interface moment (Err reason) = None
+entry_of flows interface moment (Ok d) =
+    entry_by (path_to flows interface d.source d.destination d.destination_port) moment d.payload
 
--- the record of a packet: that of its datagram, where it has one of the flows
+-- the record of a packet: that of its datagram, where it has one of the flows, which may name the
+-- interface that the packet was taken at
 abbrev pub record_of : Flows → Recorded → Option Entry
-record_of flows p = entry_of flows (moment_of p.head.time) (datagram_in p)
+record_of flows p = entry_of flows p.head.interface (moment_of p.head.time) (datagram_in p)
 
 -- the records of packets, and how many packets are left out
 abbrev pub records_of : Flows → List Recorded → List Entry
@@ -49,12 +51,14 @@ abbrev pub other_by : Option Path → Option Omission
 other_by None = Some by.OtherFlow
 other_by (Some path) = None
 
-abbrev pub omission_by : Flows → Result Datagram NoDatagram → Option Omission
-omission_by flows (Err reason) = Some (by.NoDatagram reason)
-omission_by flows (Ok d) = other_by (path_to flows d.source d.destination d.destination_port)
+abbrev pub omission_by : Flows → Option InterfaceName → Result Datagram NoDatagram
+    → Option Omission
+omission_by flows interface (Err reason) = Some (by.NoDatagram reason)
+omission_by flows interface (Ok d) =
+    other_by (path_to flows interface d.source d.destination d.destination_port)
 
 abbrev pub omission_of : Flows → Recorded → Option Omission
-omission_of flows p = omission_by flows (datagram_in p)
+omission_of flows p = omission_by flows p.head.interface (datagram_in p)
 
 -- the reasons for which packets are left out
 abbrev pub omissions_of : Flows → List Recorded → List Omission

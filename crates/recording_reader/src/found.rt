@@ -54,7 +54,8 @@ pub(crate) fn find(flows: &Flows, packet: &Packet, buf: &[u8]) -> Result<Found, 
             let start = place + placed.place;
             let end = start + datagram.payload.len();
             let port = datagram.destination_port;
-            match flows.path_of(datagram.source, datagram.destination, port) {
+            let interface = &packet.head.interface;
+            match flows.path_of(interface, datagram.source, datagram.destination, port) {
                 Some(path) => Ok(Found {
                     path,
                     moment,

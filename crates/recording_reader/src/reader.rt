@@ -4,8 +4,8 @@ ghost use Rattle.std.specs.Prelude.{IfErr, IfOk, IfSome, IsSome, OnErr, OnOk, Ma
 ghost use Rattle.std.specs.Prelude.{length, take};
 ghost use Rattle.std.specs.Option.{option_map};
 ghost use Rattle.recording_reader.specs.FileReader.{CountsDeviceAt, Finds, FindsFault};
-ghost use Rattle.recording_reader.specs.FileReader.{HasGivenFile, IsExact, IsNewFileReader};
-ghost use Rattle.recording_reader.specs.FileReader.{IsSameFile};
+ghost use Rattle.recording_reader.specs.FileReader.{HasGivenFile, HasGivenRecords, IsExact};
+ghost use Rattle.recording_reader.specs.FileReader.{IsNewFileReader, IsSameFile};
 ghost use Rattle.recording_reader.specs.FileReader.{TellsNext, TellsTurn, fault_of, last_fault_of};
 ghost use Rattle.recording_reader.specs.FileReader.{octets_at_hand, record_seen};
 ghost use Rattle.recording_reader.specs.Files.{CountsReading, HaveFileRecords, datagrams_of};
@@ -38,12 +38,12 @@ use std::snapshot::Snapshot;
 /// two paths, and others are left out, and counted by why.
 ///
 /// [`DatagramReader::advance`] goes on to the next datagram and copies nothing: what it found is
-/// borrowed where it lies, until the next call. [`DatagramSource::next`] puts it into a buffer: of a
-/// recording it copies a datagram's octets once.
+/// borrowed where it lies, until the next call. [`DatagramSource::next`] puts it into a buffer: of
+/// a recording it copies a datagram's octets once.
 ///
 /// After the end it answers the end, and after a fault that fault: it then asks the source for
-/// nothing more. As a source of datagrams it tells a fault of the file as one of the content, by its
-/// number; [`DatagramReader::fault`] names it.
+/// nothing more. As a source of datagrams it tells a fault of the file as one of the content, by
+/// its number; [`DatagramReader::fault`] names it.
 #[derive(Drop)]
 pub struct DatagramReader<A: Allocator, S: ByteSource> {
     source: S,
@@ -100,11 +100,11 @@ impl<A: Allocator, S: ByteSource> Model for DatagramReader<A, S> {
 impl<A: Allocator, S: ByteSource> DatagramReader<A, S> {
     /// Begins to read a file: reads what stands before all records. A recording is taken by the
     /// flows of the paths. The text of a capture then stands at the front of `text`, which has room
-    /// for any, 65,535 octets; [`DatagramReader::text_len`] tells its length, 0 of a recording. What
-    /// `text` holds behind it, or after a fault, is not said.
+    /// for any, 65,535 octets; [`DatagramReader::text_len`] tells its length, 0 of a recording.
+    /// What `text` holds behind it, or after a fault, is not said.
     ///
-    /// Takes room for a capture's record, 65,535 octets, or for a recording's packet, 1,048,576, and
-    /// none later.
+    /// Takes room for a capture's record, 65,535 octets, or for a recording's packet, 1,048,576,
+    /// and none later.
     ///
     /// # Errors
     ///
@@ -114,8 +114,8 @@ impl<A: Allocator, S: ByteSource> DatagramReader<A, S> {
     /// - `Reading(Capture(Truncated))`: there are fewer.
     /// - `NoFlows`: it is a recording, and `flows` are none.
     /// - `NoMemory`: the room was refused.
-    /// - `Reading(Recording(f))` of a recording: `Device`, `Truncated`, `BadMagic` where a section has
-    ///   no order, `BadVersion`, `BadBlock` where the lengths of the first block don't fit.
+    /// - `Reading(Recording(f))` of a recording: `Device`, `Truncated`, `BadMagic` where a section
+    ///   has no order, `BadVersion`, `BadBlock` where the lengths of the first block don't fit.
     /// - `Reading(Capture(f))` of all else: `Device`, `Truncated`, `BadName`, `BadVersion`.
     pub fn open(
         alloc: A,
@@ -175,8 +175,8 @@ impl<A: Allocator, S: ByteSource> DatagramReader<A, S> {
     /// - `Capture` of a capture: `Device`; `Truncated` and `BadField` by what stands behind the
     ///   records.
     /// - `Recording` of a recording: `Device`, `Truncated`, `BadMagic`, `BadVersion`, `BadBlock`,
-    ///   `BadInterface`, `TooManyInterfaces`, `BadTime`; `PacketTooLong` where a packet has more than
-    ///   1,048,576 octets; `TooManyBlocks`.
+    ///   `BadInterface`, `TooManyInterfaces`, `BadTime`; `PacketTooLong` where a packet has more
+    ///   than 1,048,576 octets; `TooManyBlocks`.
     pub fn advance(&mut self) -> Result<bool, ReadingFault>
         ensures found { IfOk result (λ is_one. Finds is_one self.old self.new) }
         ensures fault { IfErr result (λ f. FindsFault f self.old self.new) }
@@ -316,6 +316,8 @@ impl<A: Allocator, S: ByteSource> DatagramReader<A, S> {
         ensures of_capture { self.now.is_recording ≡ false → HaveFileRecords self.now.flows
             (since self.now.before.gave (S.gave self.now.source)) self.now.records
             self.now.left_out }
+        // Those octets begin with its front and the text of its records.
+        ensures parts { self.now.is_recording ≡ false → HasGivenRecords S.gave S.ended self.now }
         // A recording is read by flows.
         ensures by_flows { self.now.is_recording ≡ true → IsSome self.now.flows }
         ensures grown { GrewFrom self.now.before.gave (S.gave self.now.source) }
@@ -331,8 +333,8 @@ impl<A: Allocator, S: ByteSource> DatagramReader<A, S> {
         self.source
     }
 
-    /// Tells the datagram at hand, and puts its octets at the front of `buf`, or tells the end where
-    /// there is none.
+    /// Tells the datagram at hand, and puts its octets at the front of `buf`, or tells the end
+    /// where there is none.
     fn tell(&self, buf: &mut [u8]) -> Turn
         requires { 65535 ≤ length buf.old }
         ensures room { length buf.new ≡ length buf.old }
@@ -371,8 +373,8 @@ impl<A: Allocator, S: ByteSource> DatagramReader<A, S> {
         }
     }
 
-    /// Reads the next record of a capture into `buf`, where its octets stand from the front on. None
-    /// is at hand then.
+    /// Reads the next record of a capture into `buf`, where its octets stand from the front on.
+    /// None is at hand then.
     fn read_next(&mut self, buf: &mut [u8]) -> Result<Turn, ReadingFault>
         requires room { 65535 ≤ length buf.old }
         requires reads { self.old.standing ≡ Reads }
@@ -407,8 +409,8 @@ impl<A: Allocator, S: ByteSource> DatagramReader<A, S> {
         }
     }
 
-    /// Tells the next datagram, whose octets then stand at the front of `buf`, or the end. None is at
-    /// hand then. A capture's record is read there, and a recording's copied from its packet.
+    /// Tells the next datagram, whose octets then stand at the front of `buf`, or the end. None is
+    /// at hand then. A capture's record is read there, and a recording's copied from its packet.
     fn take_next(&mut self, buf: &mut [u8]) -> Result<Turn, ReadingFault>
         requires { 65535 ≤ length buf.old }
         ensures room { length buf.new ≡ length buf.old }

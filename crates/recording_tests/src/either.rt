@@ -43,8 +43,8 @@ fn read(alloc: Global, octets: &[u8], fails_in: u64) -> Result<Came, AllocError>
 }
 
 /// How many octets of the capture there are, how many datagrams then come, and the number of the
-/// fault behind them: within the name and the text; up to the text's end; within a record's head and
-/// its octets; up to each record's end, and one fewer.
+/// fault behind them: within the name and the text; up to the text's end; within a record's head
+/// and its octets; up to each record's end, and one fewer.
 const CUTS: [(usize, usize, Option<u8>); 12] = [
     (0, 0, Some(5)),
     (4, 0, Some(5)),
@@ -189,8 +189,8 @@ fn of_either_kind(rt: HostRuntime) -> Result<(), Fail> {
     Ok(())
 }
 
-/// A recording is refused where there are no flows, with its first four octets read; it is so before
-/// memory is wanted.
+/// A recording is refused where there are no flows, with its first four octets read; it is so
+/// before memory is wanted.
 #[test]
 fn without_flows(rt: HostRuntime) -> Result<(), Fail> {
     let mut text = [0u8; 65535];

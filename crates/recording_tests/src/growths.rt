@@ -31,8 +31,8 @@ impl Wanting for Engine {
     }
 }
 
-/// For the SDP text, for the flows of each file, for a capture's text, for a packet of each recording,
-/// and for a record of the capture.
+/// For the SDP text, for the flows of each file, for a capture's text, for a packet of each
+/// recording, and for a record of the capture.
 #[test]
 fn of_import(rt: HostRuntime) -> Result<(), Fail> {
     met(&rt, grows(rt.alloc(), &Engine::Import, 6)?);

@@ -35,8 +35,9 @@ const OLDER: &[u8] = b"S20CAP02\x00\x03abc\
     \x00\x00\x00\x00\x00\x3b\x9a\xca\x01\x00\x00\
     \x01\x00\x00\x00\x00\x77\x35\x94\x00\x00\x02\x04\x05";
 
-/// The records of all three: by B at 3 nanoseconds of the capture, at 5,000 of the second recording;
-/// by A at 1,000,000,001 of the first recording, and then of the capture; by B of the capture.
+/// The records of all three: by B at 3 nanoseconds of the capture, at 5,000 of the second
+/// recording; by A at 1,000,000,001 of the first recording, and then of the capture; by B of the
+/// capture.
 const RECORDS: &[u8] = b"\x01\x00\x00\x00\x00\x00\x00\x00\x03\x00\x01\x09\
     \x01\x00\x00\x00\x00\x00\x00\x13\x88\x00\x03\x07\x08\x09\
     \x00\x00\x00\x00\x00\x3b\x9a\xca\x01\x00\x02\x01\x02\

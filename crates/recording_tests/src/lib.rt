@@ -26,6 +26,8 @@ mod import;
 #[cfg(test)]
 mod inspect;
 #[cfg(test)]
+mod interfaces;
+#[cfg(test)]
 mod numbers;
 #[cfg(test)]
 mod paced;
@@ -35,6 +37,8 @@ mod packets;
 mod pcap;
 #[cfg(test)]
 mod reading;
+#[cfg(test)]
+mod receiving;
 #[cfg(test)]
 mod recordings;
 #[cfg(test)]

@@ -134,6 +134,7 @@ const fn head(link: u16) -> PacketHead {
         link,
         captured: 31,
         original: 31,
+        interface: None,
     }
 }
 

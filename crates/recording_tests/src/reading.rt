@@ -48,11 +48,13 @@ pub const DATAGRAMS: [(Path, u64, &[u8]); 3] = [
 /// Path A by port 5004 and path B by port 5006, of any address.
 pub const FLOWS: Flows = Flows {
     a: Some(Flow {
+        interface: None,
         source: None,
         address: None,
         port: 5004,
     }),
     b: Some(Flow {
+        interface: None,
         source: None,
         address: None,
         port: 5006,

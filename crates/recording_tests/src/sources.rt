@@ -43,17 +43,22 @@ const FLOWS: [(&str, &str, &[(Path, u8)]); 4] = [
 ];
 
 /// The flows of two texts.
-fn flows_of(a: &str, b: &str) -> Flows {
+pub fn flows_of(a: &str, b: &str) -> Flows {
     Flows {
         a: read_flow(a.as_bytes()),
         b: read_flow(b.as_bytes()),
     }
 }
 
-/// Whether just these datagrams come by the flows.
-fn comes(alloc: Global, flows: Flows, wanted: &[(Path, u8)]) -> Result<bool, AllocError> {
+/// Whether just these datagrams of a recording come by the flows.
+pub fn comes(
+    alloc: Global,
+    recording: &[u8],
+    flows: Flows,
+    wanted: &[(Path, u8)],
+) -> Result<bool, AllocError> {
     let mut text = [0u8; 65535];
-    let source = source(alloc, RECORDING)?;
+    let source = source(alloc, recording)?;
     let mut reader = match DatagramReader::open(alloc, Some(flows), source, &mut text) {
         Ok(reader) => reader,
         Err(_) => return Ok(false),
@@ -76,7 +81,7 @@ fn comes(alloc: Global, flows: Flows, wanted: &[(Path, u8)]) -> Result<bool, All
 #[test]
 fn told_by_sources(rt: HostRuntime) -> Result<(), Fail> {
     for (a, b, wanted) in &FLOWS {
-        met(&rt, comes(rt.alloc(), flows_of(a, b), wanted)?);
+        met(&rt, comes(rt.alloc(), RECORDING, flows_of(a, b), wanted)?);
     }
     Ok(())
 }

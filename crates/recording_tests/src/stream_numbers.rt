@@ -71,14 +71,15 @@ fn begun(global: Global, octets: usize) -> Result<MemorySink, Fail> {
 fn is_told(global: Global, capture: &MemorySink, told: &[u8]) -> Result<bool, Fail> {
     let octets = Vec::from_slice(global, capture.held())?;
     let mut captures = [MemorySource::new(octets, 4096, 0)];
-    let mut sdp = None;
     let mut printed = MemorySink::new(Vec::with_capacity(global, 8192)?, 4096, 0);
     let ended = inspect_streams(
         global,
         Wanted::Said,
         Form::Json,
-        &mut sdp,
+        None,
         &mut captures,
+        &[],
+        &mut [],
         &mut printed,
     );
     Ok(ended.is_ok() && printed.held() == told)

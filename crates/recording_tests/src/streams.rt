@@ -1,7 +1,10 @@
-//! The streams of captures inspected, against texts by hand.
+//! The streams of captures and recordings inspected, against texts by hand.
 use crate::checks::met;
 use crate::engines::{Run, sink, source};
+use crate::reading::{FLOWS, RECORDING};
+use flow::Flows;
 use media_file::{FileFault, write_front, write_record};
+use pcap_file::RecordingFault;
 use run_outcome::{Fault, Refusal};
 use st_format::Path;
 use st_format::memory::MemorySource;
@@ -142,14 +145,15 @@ fn streams_of_a_capture(rt: HostRuntime) -> Result<(), Fail> {
         (Form::Columns, COLUMNS, true),
     ] {
         let mut captures = [capture(rt.alloc(), SDP, is_low)?];
-        let mut sdp = None;
         let mut printed = sink(rt.alloc())?;
         let ended = inspect_streams(
             rt.alloc(),
             Wanted::Said,
             form,
-            &mut sdp,
+            None,
             &mut captures,
+            &[],
+            &mut [],
             &mut printed,
         );
         met(&rt, ended.is_ok() && printed.held() == text);
@@ -157,8 +161,8 @@ fn streams_of_a_capture(rt: HostRuntime) -> Result<(), Fail> {
     Ok(())
 }
 
-/// The paths one after the other, a capture each: B's numbers are those of A, however far A has come
-/// meanwhile. By A 65534 and 200000 came, by B 65534.
+/// The paths one after the other, a capture each: B's numbers are those of A, however far A has
+/// come meanwhile. By A 65534 and 200000 came, by B 65534.
 const AFTER: &[u8] = b"\
 {\"kind\":\"path\",\"payload_type\":96,\"ssrc\":7,\"path\":\"A\",\"datagrams\":2,\"lowest\":65534,\
 \"highest\":200000,\"lost\":134465,\"repeated\":0,\"late\":0}
@@ -198,14 +202,15 @@ fn paths(global: Global, octets: usize) -> Result<[MemorySource; 2], Fail> {
 #[test]
 fn paths_after_each_other(rt: HostRuntime) -> Result<(), Fail> {
     let mut captures = paths(rt.alloc(), 49 + 30)?;
-    let mut sdp = Some(source(rt.alloc(), SDP)?);
     let mut printed = sink(rt.alloc())?;
     let ended = inspect_streams(
         rt.alloc(),
         Wanted::Said,
         Form::Json,
-        &mut sdp,
+        Some(SDP),
         &mut captures,
+        &[],
+        &mut [],
         &mut printed,
     );
     let is_cut = matches!(
@@ -220,14 +225,15 @@ fn paths_after_each_other(rt: HostRuntime) -> Result<(), Fail> {
 #[test]
 fn no_text(rt: HostRuntime) -> Result<(), Fail> {
     let mut captures = paths(rt.alloc(), 100)?;
-    let mut sdp = None;
     let mut printed = sink(rt.alloc())?;
     let ended = inspect_streams(
         rt.alloc(),
         Wanted::Said,
         Form::Json,
-        &mut sdp,
+        None,
         &mut captures,
+        &[],
+        &mut [],
         &mut printed,
     );
     let is_refused = matches!(ended, Err(Fault::Refused(Refusal::ReceiveNoSdp)));
@@ -235,17 +241,77 @@ fn no_text(rt: HostRuntime) -> Result<(), Fail> {
     Ok(())
 }
 
+/// Three datagrams that are too short for a header.
+const SHORT: &[u8] = b"\
+{\"kind\":\"skew\",\"timestamps\":0,\"least\":null,\"middle\":null,\"greatest\":null}
+{\"kind\":\"refused\",\"number\":1,\"name\":\"ShortHeader\",\"datagrams\":3}
+{\"kind\":\"nothing\",\"payload_type\":96}
+";
+
+/// How a run over files ends, and whether this was printed.
+fn run(
+    global: Global,
+    files: &[&[u8]],
+    ways: &[Result<Flows, Refusal>],
+    told: &[u8],
+) -> Result<(Result<(), Fault>, bool), Fail> {
+    let mut sources = Vec::new(global);
+    for file in files {
+        sources.push(source(global, file)?)?;
+    }
+    let mut printed = sink(global)?;
+    let outcome = inspect_streams(
+        global,
+        Wanted::Said,
+        Form::Json,
+        Some(SDP),
+        sources.as_mut_slice(),
+        ways,
+        &mut [],
+        &mut printed,
+    );
+    Ok((outcome, printed.held() == told))
+}
+
+/// Recordings by their flows, of which the second is cut within its first packet; one that is not
+/// taken, so; and one that is taken as a capture.
+#[test]
+fn recordings(rt: HostRuntime) -> Result<(), Fail> {
+    let global = rt.alloc();
+    let (outcome, is_told) = run(global, &[RECORDING], &[Ok(FLOWS)], SHORT)?;
+    met(&rt, outcome.is_ok() && is_told);
+    let files = [RECORDING, &RECORDING[..70]];
+    let (outcome, is_told) = run(global, &files, &[Ok(FLOWS), Ok(FLOWS)], SHORT)?;
+    let is_cut = matches!(
+        outcome,
+        Err(Fault::Refused(Refusal::Recording(RecordingFault::Truncated)))
+    );
+    met(&rt, is_cut && is_told);
+    let none = [Ok(FLOWS), Err(Refusal::ReceiveNoSdp)];
+    let (outcome, is_told) = run(global, &[RECORDING, RECORDING], &none, b"")?;
+    let is_untaken = matches!(outcome, Err(Fault::Refused(Refusal::ReceiveNoSdp)));
+    met(&rt, is_untaken && is_told);
+    let (outcome, is_told) = run(global, &[RECORDING], &[], b"")?;
+    let is_other = matches!(
+        outcome,
+        Err(Fault::Refused(Refusal::Capture(FileFault::BadName)))
+    );
+    met(&rt, is_other && is_told);
+    Ok(())
+}
+
 /// Whether the streams of a capture are told, or `None` where memory is wanted.
 pub fn are_told<A: Allocator + Copy>(global: Global, alloc: A) -> Result<Option<bool>, Fail> {
     let mut captures = [capture(global, SDP, false)?];
-    let mut sdp = None;
     let mut printed = sink(global)?;
     let outcome = inspect_streams(
         alloc,
         Wanted::Said,
         Form::Columns,
-        &mut sdp,
+        None,
         &mut captures,
+        &[],
+        &mut [],
         &mut printed,
     );
     let run = Run {

@@ -15,12 +15,12 @@ use Rattle.payload_header.specs.Reading.{counted_octets, data_at, fault_or, head
 use Rattle.payload_header.specs.Reading.{headers_fault, number_at, payload_walk, segments_at}
 use Rattle.payload_header.proofs.Grammar.{all_described, all_inside}
 use Rattle.rtp_header.specs.Reading.{rtp_walk}
-use Rattle.path_merge.specs.declared.answer.Refusal.{Refusal}
-use Rattle.path_merge.specs.Admission.{by_header, by_payload, datagram_walk, datagram_with}
-use Rattle.path_merge.specs.Admission.{header_for}
-use Rattle.path_merge.specs.Grammar.{Datagram}
-use Rattle.path_merge.specs.Offers.{offers, offers_of}
-use Rattle.path_merge.specs.Opening.{Opening}
+use Rattle.path_receiver.specs.declared.answer.Refusal.{Refusal}
+use Rattle.path_receiver.specs.Admission.{by_header, by_payload, datagram_walk, datagram_with}
+use Rattle.path_receiver.specs.Admission.{header_for}
+use Rattle.path_receiver.specs.Grammar.{Datagram}
+use Rattle.path_receiver.specs.Offers.{offers, offers_of}
+use Rattle.path_receiver.specs.Opening.{Opening}
 use Rattle.receiver_file.specs.Saved.{IsFilled}
 use Rattle.run_laws.proofs.Filled.{ValuesOf, filled, fit-append, segments-fit}
 use Rattle.run_laws.proofs.WholeGroups.{WholeAt, segments_whole, whole-append, whole_none}

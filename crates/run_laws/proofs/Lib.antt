@@ -8,3 +8,7 @@ pub mod Merging
 pub mod ScriptLines
 pub mod ScriptFrames
 pub mod Uncontested
+pub mod Captures
+pub mod SentAgain
+pub mod Looped
+pub mod NoRefusals

@@ -6,8 +6,8 @@ use Rattle.std.proofs.lemmas.List.Elements.{All-cons, All-nil}
 use Rattle.st_format.specs.History.{since}
 use Rattle.st_format.specs.Member.{SameDatagrams}
 use Rattle.st_format.proofs.Histories.{since_is}
-use Rattle.path_merge.specs.Frames.{Holds, State}
-use Rattle.path_merge.specs.Opening.{Opening}
+use Rattle.path_receiver.specs.Frames.{Holds, State}
+use Rattle.path_receiver.specs.Opening.{Opening}
 use Rattle.media_file.specs.StateFile.{state_text}
 use Rattle.receiver_file.specs.Saved.{IsReceiverFile, IsWritable, kept_of}
 use Rattle.run_outcome.specs.Moments.{WasRead}

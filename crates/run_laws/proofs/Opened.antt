@@ -13,7 +13,7 @@ use Rattle.sdp_format.specs.Bytes.{lines}
 use Rattle.sdp_format.specs.Grammar.{IsDescribed}
 use Rattle.sdp_format.specs.Sections.{Description, video_sections}
 use Rattle.sdp_format.proofs.TextFaults.{text_said}
-use Rattle.path_merge.specs.Opening.{Opening}
+use Rattle.path_receiver.specs.Opening.{Opening}
 use Rattle.media_file.specs.StateFile.{SsrcFits}
 use Rattle.run_outcome.specs.Sources.{IsSourceText}
 use Rattle.run_outcome.specs.Timestamps.{AreTimestamps, IsNumberOf}

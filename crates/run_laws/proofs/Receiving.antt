@@ -1,21 +1,24 @@
 -- What a run of `receive` wrote is a received file, and there is one.
-use Rattle.std.proofs.Common.{◌≡◌, ℕ, List, [], ◌∷◌, Bool, Option, None, Some, append-nil}
+use Rattle.std.proofs.Common.{◌≡◌, ℕ, List, [], ◌∷◌, Bool, Option, None, Some, Result, append-nil}
 use Rattle.std.proofs.Common.{refl, sym, ap, ◌∙◌, subst}
 use Rattle.st_format.specs.History.{since}
 use Rattle.st_format.specs.Member.{SameDatagrams}
 use Rattle.st_format.proofs.Histories.{since_is}
-use Rattle.path_merge.specs.Frames.{State, frames_of}
-use Rattle.path_merge.specs.Opening.{Opening}
-use Rattle.path_merge.proofs.Frames.{frames_of-same}
+use Rattle.path_receiver.specs.Frames.{State, frames_of}
+use Rattle.path_receiver.specs.Opening.{Opening}
+use Rattle.path_receiver.proofs.Frames.{frames_of-same}
 use Rattle.media_file.specs.StateFile.{state_text}
 use Rattle.receiver_file.specs.Saved.{kept_of}
 use Rattle.receiver_file.proofs.SameKept.{equal_kept}
 use Rattle.run_outcome.specs.Moments.{WasRead}
 use Rattle.run_outcome.specs.Timestamps.{AreTimestamps}
 use Rattle.run_outcome.specs.Sources.{IsSourceText}
+use Rattle.run_outcome.specs.declared.refusal.Refusal.{Refusal}
+use Rattle.flow.specs.declared.flows.Flows.{Flows}
+use Rattle.capture_engines.specs.Files.{files_datagrams}
 use Rattle.capture_engines.specs.Receiving.{SavesShown}
 use Rattle.capture_engines.specs.Taking.{AnnouncesStream, AreRead, IsOpeningText, Receives}
-use Rattle.capture_engines.specs.Taking.{SavesHolding}
+use Rattle.capture_engines.specs.Taking.{ReceivesFiles, SavesHolding, said_behind}
 use Rattle.run_laws.specs.Received.{IsReceivedFile, all_read, datagrams_read, read_of, text_read}
 use Rattle.run_laws.proofs.Opened.{one_opening, source_fits, window_fits}
 use Rattle.run_laws.proofs.Writable.{same_as_written}
@@ -87,6 +90,21 @@ run_received gave ended window source text sdp captures wanted shown printed old
     (datagrams_read gave captures) shows
     (receives.saved (all_read gave captures) (all_were_read gave ended captures))
     (opening_text gave ended sdp captures text said)
+
+pub files_received : {S : Type 0} (gave : S → List ℕ) (ended : S → Type 0)
+    (window source text : List ℕ) (sdp : Option (List ℕ)) (ways : List (Result Flows Refusal))
+    (files : List (S × S)) (wanted : Bool) (shown printed old new : List ℕ)
+    → SavesShown wanted shown printed old new
+    → ReceivesFiles window source sdp ways (WasRead gave ended) files wanted shown printed old new
+    → said_behind sdp (all_read gave files) ≡ Some text
+    → IsReceivedFile window source text (files_datagrams ways (all_read gave files))
+    (since old new)
+files_received gave ended window source text sdp ways files wanted shown printed old new shows
+    receives said =
+    saved_file window source text old new shown printed wanted
+    (λ t. said_behind sdp (all_read gave files) ≡ Some t)
+    (files_datagrams ways (all_read gave files)) shows
+    (receives.saved (all_read gave files) (all_were_read gave ended files)) said
 
 -- ---- one file
 

@@ -1,6 +1,6 @@
 -- A script without a slide ends with the frame lines of a receiver of its datagrams.
 use Rattle.std.proofs.Common.{◌≡◌, ℕ, Bool, true, false, List, [], ◌∷◌, ◌++◌, append_assoc, append-nil}
-use Rattle.std.proofs.Common.{Option, None, Some, Ok, codes, length, drop, take}
+use Rattle.std.proofs.Common.{Option, None, Ok, codes, length, drop, take}
 use Rattle.std.proofs.Common.{refl, sym, ap, ◌∙◌, subst, arith, inl, inr}
 use Rattle.std.specs.Prelude.{bytes_eq}
 use Rattle.std.specs.List.{flat_map}
@@ -8,12 +8,12 @@ use Rattle.std.proofs.lemmas.Slice.Eq.{bytes_eq-Decides}
 use Rattle.hex.specs.Hex.{decode_of}
 use Rattle.hex.proofs.HexLemmas.{decode_of-ok}
 use Rattle.st_format.specs.declared.path.Path.{Path}
-use Rattle.st_format.specs.Member.{IsMember, SameDatagrams}
+use Rattle.st_format.specs.Member.{SameDatagrams}
 use Rattle.st_format.specs.Raster.{Raster}
-use Rattle.path_merge.specs.Frames.{Holds, State, frame_at, frames_of, joined_frames}
-use Rattle.path_merge.specs.Numbers.{Numbers}
-use Rattle.path_merge.specs.Opening.{Opening}
-use Rattle.path_merge.proofs.Frames.{frames_of-append, frames_of-same}
+use Rattle.path_receiver.specs.Frames.{Holds, State, frame_at, frames_of, joined_frames}
+use Rattle.path_receiver.specs.Numbers.{Numbers}
+use Rattle.path_receiver.specs.Opening.{Opening}
+use Rattle.path_receiver.proofs.Frames.{frames_of-append, frames_of-same}
 use Rattle.run_outcome.specs.Frames.{frame_line, frame_lines}
 use Rattle.run_outcome.specs.declared.line.Line.{Line}
 use Rattle.script_engines.specs.Forms.{IsOctetsText}

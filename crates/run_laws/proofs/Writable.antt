@@ -9,9 +9,9 @@ use Rattle.st_format.specs.Fields.{fields_of}
 use Rattle.st_format.specs.Offer.{Offer}
 use Rattle.st_format.specs.Raster.{IsWhole, Raster, raster_of}
 use Rattle.st_format.proofs.Rasters.{length-cells_of}
-use Rattle.path_merge.specs.Frames.{Holds, IsReceiver, State, frames_of}
-use Rattle.path_merge.specs.Offers.{offers}
-use Rattle.path_merge.specs.Opening.{IsWindow, Opening}
+use Rattle.path_receiver.specs.Frames.{Holds, IsReceiver, State, frames_of}
+use Rattle.path_receiver.specs.Offers.{offers}
+use Rattle.path_receiver.specs.Opening.{IsWindow, Opening}
 use Rattle.media_file.specs.StateFile.{FitsBlock, IsHeld, IsKeptReceiver, Kept, SsrcFits, held_of}
 use Rattle.media_file.specs.StateFile.{state_text}
 use Rattle.media_file.proofs.Once.{state_once}

@@ -2,7 +2,7 @@
 use Rattle.std.specs.Prelude.{◌≡◌, ℕ, List, [], ◌∷◌}
 use Rattle.std.specs.List.{AllZip}
 use Rattle.media_file.specs.StateFile.{state_text}
-use Rattle.path_merge.specs.Frames.{State}
+use Rattle.path_receiver.specs.Frames.{State}
 use Rattle.receiver_file.specs.Saved.{IsReceiverFile, kept_of}
 use Rattle.receiver_engines.specs.MergedAll.{AreAlike, behind_each_other, merged_all}
 use Rattle.run_laws.specs.Received.{IsReceivedFile}

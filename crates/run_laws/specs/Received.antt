@@ -1,14 +1,15 @@
 -- A received file (own): what `receive` writes, by the words, the SDP text and the datagrams that
--- it was given. Which captures brought them, in which order, by which path and how often, does not
+-- it was given. Which files brought them, in which order, by which path and how often, does not
 -- enter.
 use Rattle.std.specs.Prelude.{ℕ, List, Option, None, Some, map}
 use Rattle.std.specs.List.{flat_map}
 use Rattle.st_format.specs.History.{since}
-use Rattle.path_merge.specs.Frames.{Holds, State}
+use Rattle.path_receiver.specs.Frames.{Holds, State}
 use Rattle.receiver_file.specs.Saved.{IsReceiverFile}
 use Rattle.run_outcome.specs.Sources.{IsSourceText}
 use Rattle.run_outcome.specs.Timestamps.{AreTimestamps}
-use Rattle.capture_engines.specs.Taking.{AnnouncesStream, capture_datagrams, said_behind}
+use Rattle.capture_engines.specs.Files.{capture_datagrams}
+use Rattle.capture_engines.specs.Taking.{AnnouncesStream, said_behind}
 
 -- Octets are the file of a receiver that was opened with the timestamps and the source that these
 -- words say and the stream that an SDP text announces, and that holds the Frames of datagrams.

@@ -5,8 +5,8 @@ use Rattle.std.specs.Prelude.{map, take, drop, Option, None, Result, Ok, Err}
 use Rattle.std.specs.List.{flat_map}
 use Rattle.hex.specs.Hex.{decode_of}
 use Rattle.st_format.specs.Member.{IsMember}
-use Rattle.path_merge.specs.Frames.{State}
-use Rattle.path_merge.specs.Numbers.{Numbers}
+use Rattle.path_receiver.specs.Frames.{State}
+use Rattle.path_receiver.specs.Numbers.{Numbers}
 use Rattle.run_outcome.specs.Frames.{frame_lines}
 use Rattle.script_engines.specs.Script.{numbered_lines}
 use Rattle.script_engines.specs.Traced.{FollowsAll, OpensBy, absent_lines}

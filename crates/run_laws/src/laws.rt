@@ -1,17 +1,20 @@
 //! Laws on whole runs, over the definitions alone: each is the contract of a function that does
 //! nothing. A caller of `receive` or `merge` has the premises of each from that call's own clauses.
 //!
-//! - What a run of `receive` wrote is a received file: `received_file`; one of `merge` a merged
-//!   one: `merged_file`, `merged_files`.
+//! - What a run of `receive` wrote is a received file: `received_file`, and of files of either kind
+//!   `received_files`; what one of `merge` did is a merged one: `merged_file`, `merged_files`.
 //! - The same datagrams, the same file, octet for octet: `one_file`.
 //! - Received in pieces and merged is received at once: `received_in_pieces`; in any tree:
 //!   `received_in_trees`.
-ghost use Rattle.std.specs.Prelude.{◌≡◌, ◌∷◌, ◌++◌, ℕ, Bool, List, [], Option, Some};
+ghost use Rattle.std.specs.Prelude.{◌≡◌, ◌∷◌, ◌++◌, ℕ, Bool, List, [], Option, Result, Some};
 ghost use Rattle.st_format.specs.History.{since};
 ghost use Rattle.st_format.specs.Member.{SameDatagrams};
+ghost use Rattle.flow.specs.declared.flows.Flows.{Flows};
 ghost use Rattle.run_outcome.specs.Moments.{WasRead};
+ghost use Rattle.run_outcome.specs.declared.refusal.Refusal.{Refusal};
+ghost use Rattle.capture_engines.specs.Files.{files_datagrams};
 ghost use Rattle.capture_engines.specs.Receiving.{SavesShown};
-ghost use Rattle.capture_engines.specs.Taking.{Receives};
+ghost use Rattle.capture_engines.specs.Taking.{Receives, ReceivesFiles, said_behind};
 ghost use Rattle.receiver_engines.specs.MergedAll.{MergesAll, behind_each_other};
 ghost use Rattle.receiver_engines.specs.Merging.{MergesFiles};
 ghost use Rattle.run_laws.specs.Merged.{AreFilesOf, AreReceivedFiles, IsMergedFile, Trees};
@@ -32,7 +35,19 @@ pub fn received_file<S: ByteSource>()
         → IsReceivedFile window source text (datagrams_read S.gave captures) (since old new) }
 {}
 
-/// The same words, SDP text and datagrams make one file, octet for octet: whatever captures brought
+/// So it is of files of either kind, captures and recordings of other tools (`receive_files`): the
+/// datagrams are those of all files, each as it is taken.
+pub fn received_files<S: ByteSource>()
+    ensures { (window source text : List ℕ) (sdp : Option (List ℕ))
+        (ways : List (Result Flows Refusal)) (files : List (S × S)) (wanted : Bool)
+        (shown printed old new : List ℕ) → SavesShown wanted shown printed old new
+        → ReceivesFiles window source sdp ways (WasRead S.gave S.ended) files wanted shown printed
+        old new → said_behind sdp (all_read S.gave files) ≡ Some text
+        → IsReceivedFile window source text (files_datagrams ways (all_read S.gave files))
+        (since old new) }
+{}
+
+/// The same words, SDP text and datagrams make one file, octet for octet: whatever files brought
 /// the datagrams, in whatever order, by whatever paths and with whatever repeats (SMPTE ST 2022-7).
 pub fn one_file()
     ensures { (window source text : List ℕ) (xs ys : List (List ℕ)) (file other : List ℕ)

@@ -5,7 +5,7 @@ ghost use Rattle.std.specs.Prelude.{◌≡◌, ℕ, List, Some, slice_get};
 ghost use Rattle.st_format.specs.Member.{IsMember, SameDatagrams};
 ghost use Rattle.st_format.specs.Raster.{Raster};
 ghost use Rattle.frame_assembly.specs.Kinds.{counts_of};
-ghost use Rattle.path_merge.specs.Frames.{Holds, State};
+ghost use Rattle.path_receiver.specs.Frames.{Holds, State};
 ghost use Rattle.path_merge.specs.declared.schedule.played.Handed.{Handed};
 ghost use Rattle.path_merge.specs.declared.schedule.played.Played.{Played};
 ghost use Rattle.script_engines.specs.Rehearsal.{Said};

@@ -8,7 +8,7 @@ use Rattle.std.proofs.lemmas.List.{length-append, take_all, take_more, take-appe
 pub use Rattle.media_file.proofs.Written.{part_first, part_then, took_both}
 use Rattle.frame_assembly.specs.declared.counts.Counts.{Counts}
 use Rattle.frame_assembly.specs.Kinds.{counts_of}
-use Rattle.path_merge.specs.Frames.{State, frame_at}
+use Rattle.path_receiver.specs.Frames.{State, frame_at}
 use Rattle.st_format.specs.Cell.{is_contested, is_missing, is_present}
 use Rattle.st_format.specs.Device.{GrowsPart}
 use Rattle.st_format.specs.Raster.{Raster}

@@ -4,7 +4,7 @@ use Rattle.std.specs.Fmt.{decimal}
 use Rattle.frame_assembly.specs.declared.counts.Counts.{Counts}
 use Rattle.std.specs.List.{flat_map}
 use Rattle.frame_assembly.specs.Kinds.{counts_of}
-use Rattle.path_merge.specs.Frames.{State, frame_at}
+use Rattle.path_receiver.specs.Frames.{State, frame_at}
 use Rattle.st_format.specs.Raster.{Raster}
 
 -- a word, a timestamp and how many samples are of each kind

@@ -1,8 +1,8 @@
 -- Lines of output.
 use Rattle.std.specs.Prelude.{ℕ, List, ◌++◌, codes}
 use Rattle.std.specs.Fmt.{decimal}
-use Rattle.path_merge.specs.Answers.{refusal_name, refusal_number, slide_fault_name}
-use Rattle.path_merge.specs.Answers.{slide_fault_number}
+use Rattle.path_receiver.specs.Answers.{refusal_name, refusal_number, slide_fault_name}
+use Rattle.path_receiver.specs.Answers.{slide_fault_number}
 use Rattle.run_outcome.specs.Frames.{counts_text}
 use Rattle.run_outcome.specs.Telling.{numbered_name}
 use Rattle.run_outcome.specs.declared.line.Line.{Line}

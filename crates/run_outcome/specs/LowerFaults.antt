@@ -8,9 +8,9 @@ use Rattle.key_mix.specs.declared.faults.JobFault.TheVariants as job
 use Rattle.packet_numbers.specs.declared.seq_map.SeqMapFault.TheVariants as numbers
 use Rattle.packet_plan.specs.declared.plan.PlanFault.{PlanFault}
 use Rattle.packet_plan.specs.declared.plan.PlanFault.TheVariants as plan
-use Rattle.path_merge.specs.declared.fault.OpenFault.{OpenFault}
-use Rattle.path_merge.specs.declared.fault.OpenFault.TheVariants as open_fault
-use Rattle.path_merge.specs.declared.schedule.play_fault.PlayFault.TheVariants as play
+use Rattle.path_receiver.specs.declared.fault.OpenFault.{OpenFault}
+use Rattle.path_receiver.specs.declared.fault.OpenFault.TheVariants as open_fault
+use Rattle.path_receiver.specs.declared.play_fault.PlayFault.TheVariants as play
 use Rattle.pcap_file.specs.declared.fault.RecordingFault.{RecordingFault}
 use Rattle.pcap_file.specs.declared.fault.RecordingFault.TheVariants as recording
 use Rattle.sdp_format.specs.declared.fault.SdpFault.{SdpFault}

@@ -5,10 +5,10 @@ use Rattle.media_file.specs.Faults.{file_fault_name, file_fault_number}
 use Rattle.key_mix.specs.Faults.{job_fault_name, job_fault_number}
 use Rattle.packet_numbers.specs.Numbers.{seq_map_fault_name, seq_map_fault_number}
 use Rattle.packet_plan.specs.Faults.{plan_fault_name, plan_fault_number}
-use Rattle.path_merge.specs.Answers.{open_fault_name, open_fault_number}
-use Rattle.path_merge.specs.PlayFault.{play_fault_name, play_fault_number}
-use Rattle.path_merge.specs.declared.schedule.play_fault.PlayFault.{PlayFault}
-use Rattle.path_merge.specs.declared.schedule.play_fault.PlayFault.TheVariants as play
+use Rattle.path_receiver.specs.Answers.{open_fault_name, open_fault_number}
+use Rattle.path_receiver.specs.PlayFault.{play_fault_name, play_fault_number}
+use Rattle.path_receiver.specs.declared.play_fault.PlayFault.{PlayFault}
+use Rattle.path_receiver.specs.declared.play_fault.PlayFault.TheVariants as play
 use Rattle.pcap_file.specs.RecordingFaults.{recording_fault_name, recording_fault_number}
 use Rattle.sdp_format.specs.Faults.{sdp_fault_name, sdp_fault_number}
 use Rattle.sdp_format.specs.FlowsFaults.{flows_fault_name, flows_fault_number}

@@ -7,7 +7,7 @@ use crate::refusal::Refusal;
 use key_mix::JobFault;
 use media_file::FileFault;
 use packet_plan::PlanFault;
-use path_merge::OpenFault;
+use path_receiver::OpenFault;
 use pcap_file::RecordingFault;
 use sdp_format::{FlowsFault, Located, SdpFault};
 use st_format::DeviceFault;

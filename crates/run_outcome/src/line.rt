@@ -1,6 +1,6 @@
 //! Lines of output.
 use frame_assembly::Counts;
-use path_merge::{Refusal, SlideFault};
+use path_receiver::{Refusal, SlideFault};
 use std::fmt;
 
 /// What a run says. A timestamp is in 90 kHz ticks.

@@ -8,7 +8,7 @@ ghost use Rattle.run_outcome.specs.Line.{line_text};
 use crate::fault::Fault;
 use crate::line::Line;
 use crate::text_line::line_of;
-use path_merge::Receiver;
+use path_receiver::Receiver;
 use st_format::{ByteSink, write_whole};
 use std::alloc::Allocator;
 

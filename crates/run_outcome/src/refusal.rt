@@ -6,7 +6,7 @@ use crate::script_line::LineFault;
 use key_mix::JobFault;
 use media_file::FileFault;
 use packet_plan::PlanFault;
-use path_merge::OpenFault;
+use path_receiver::OpenFault;
 use pcap_file::RecordingFault;
 use sdp_format::{FlowsFault, Located};
 use std::fmt;

@@ -6,7 +6,7 @@ use crate::fault::Fault;
 use crate::refusal::Refusal;
 use packet_numbers::SeqMapFault;
 use packet_plan::PlanFault;
-use path_merge::{OpenFault, PlayFault};
+use path_receiver::{OpenFault, PlayFault};
 use st_format::FormatFault;
 use std::fmt;
 

@@ -3,7 +3,7 @@
 use Rattle.std.proofs.Common.{◌≡◌, ◌↔◌, inl, inr, ℕ, List, ◌++◌, codes, length, ◌≤◌, Option}
 use Rattle.std.proofs.Common.{Some, None, IfNone, Result, Ok, Err, OnOk, refl, ap, subst, sym, ◌∙◌}
 use Rattle.std.proofs.Common.{arith, take, length-take-le}
-use Rattle.path_merge.specs.Numbers.{Numbers}
+use Rattle.path_receiver.specs.Numbers.{Numbers}
 use Rattle.st_format.specs.declared.path.Path.TheVariants as path
 use Rattle.run_outcome.specs.declared.fault.Fault.{Fault}
 use Rattle.run_outcome.specs.declared.script_line.Form.{Form}

@@ -4,7 +4,7 @@ use Rattle.std.proofs.Common.{Some}
 use Rattle.std.proofs.lemmas.List.Elements.{All-head, All-tail}
 use Rattle.st_format.specs.declared.format.Format.{Format}
 use Rattle.st_format.specs.Raster.{Raster}
-use Rattle.path_merge.specs.Frames.{State, IsReceiver, frame_at}
+use Rattle.path_receiver.specs.Frames.{State, IsReceiver, frame_at}
 
 abbrev IsOf : Format → Raster → Type 0
 IsOf f r = r.format ≡ f

@@ -17,8 +17,8 @@ use Rattle.st_format.specs.Pgroup.{bits_of}
 use Rattle.st_format.specs.Text.{parted}
 use Rattle.st_format.specs.Words.{sampling_text}
 use Rattle.st_format.proofs.SameFields.{same_format}
-use Rattle.path_merge.specs.Frames.{State}
-use Rattle.path_merge.specs.Numbers.{Numbers}
+use Rattle.path_receiver.specs.Frames.{State}
+use Rattle.path_receiver.specs.Numbers.{Numbers}
 use Rattle.run_outcome.specs.Timestamps.{IsNumberOf}
 use Rattle.run_outcome.specs.declared.line.Line.{Line}
 use Rattle.script_engines.specs.declared.line.FormatLine.{FormatLine}

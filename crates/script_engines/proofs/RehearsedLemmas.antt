@@ -6,11 +6,11 @@ use Rattle.std.specs.List.{enumerate_from}
 use Rattle.std.proofs.lemmas.List.FromFn.{get_or-enumerate_from, length-enumerate_from}
 use Rattle.packet_plan.specs.Plan.{IsFullPlan, RasterPlan}
 use Rattle.path_merge.specs.declared.schedule.event.Event.{Event}
-use Rattle.path_merge.specs.declared.schedule.play_fault.PlayFault.{PlayFault}
-use Rattle.path_merge.specs.declared.schedule.play_fault.PlayFault.TheVariants as play
+use Rattle.path_receiver.specs.declared.play_fault.PlayFault.{PlayFault}
+use Rattle.path_receiver.specs.declared.play_fault.PlayFault.TheVariants as play
 use Rattle.path_merge.specs.declared.schedule.played.Handed.{Handed}
 use Rattle.path_merge.specs.declared.schedule.played.Played.{Played}
-use Rattle.path_merge.specs.Frames.{State}
+use Rattle.path_receiver.specs.Frames.{State}
 use Rattle.st_format.specs.Device.{GrowsPart}
 use Rattle.st_format.specs.Picture.{Values}
 use Rattle.run_outcome.proofs.Printed.{part_then, took_both}

@@ -7,8 +7,8 @@ use Rattle.std.proofs.lemmas.Grind.{flat_map-append}
 use Rattle.std.proofs.lemmas.List.{map-id}
 use Rattle.std.proofs.Math.Seq.{take-append-add}
 use Rattle.st_format.specs.Device.{GrowsPart}
-use Rattle.path_merge.specs.Frames.{State}
-use Rattle.path_merge.specs.Numbers.{Numbers, missing_runs_of}
+use Rattle.path_receiver.specs.Frames.{State}
+use Rattle.path_receiver.specs.Numbers.{Numbers, missing_runs_of}
 use Rattle.run_outcome.specs.Frames.{frame_lines}
 use Rattle.run_outcome.specs.declared.line.Line.{Line}
 use Rattle.run_outcome.proofs.Printed.{part_first, texts_before, texts_cut, took_both}

@@ -2,11 +2,11 @@
 use Rattle.std.proofs.Common.{◌≡◌, inl, inr, Bool, true, ℕ, List, [], ◌∷◌, ◌++◌, length}
 use Rattle.std.proofs.Common.{Option, None, Ok, Result, Err, ap, sym, subst, ◌∙◌}
 use Rattle.std.proofs.Common.{append-nil, ◌↔◌, IsErrOf}
-use Rattle.path_merge.specs.Frames.{State}
-use Rattle.path_merge.specs.Numbers.{Numbers}
-use Rattle.path_merge.specs.Opening.{AreDifferent, IsWindowSize, Opening}
-use Rattle.path_merge.specs.declared.fault.OpenFault.{OpenFault}
-use Rattle.path_merge.specs.declared.fault.OpenFault.TheVariants as open_fault
+use Rattle.path_receiver.specs.Frames.{State}
+use Rattle.path_receiver.specs.Numbers.{Numbers}
+use Rattle.path_receiver.specs.Opening.{AreDifferent, IsWindowSize, Opening}
+use Rattle.path_receiver.specs.declared.fault.OpenFault.{OpenFault}
+use Rattle.path_receiver.specs.declared.fault.OpenFault.TheVariants as open_fault
 use Rattle.st_format.specs.declared.format.Format.{Format}
 use Rattle.st_format.specs.Fields.{fields_of}
 use Rattle.run_outcome.specs.LowerFaults.{of_line, of_script}

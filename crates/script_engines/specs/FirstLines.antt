@@ -1,6 +1,6 @@
 -- What the first lines of a script open.
 use Rattle.std.specs.Prelude.{◌≡◌, ℕ, ◌⊎◌, List, [], ◌∷◌, Result, Err}
-use Rattle.path_merge.specs.Opening.{Opening}
+use Rattle.path_receiver.specs.Opening.{Opening}
 use Rattle.st_format.specs.declared.format.Format.{Format}
 use Rattle.st_format.specs.declared.format.FormatFault.{FormatFault}
 use Rattle.st_format.specs.Fields.{Fields, format_at}

@@ -8,13 +8,13 @@ use Rattle.packet_plan.specs.declared.plan.PlanFault.{PlanFault}
 use Rattle.packet_plan.specs.declared.plan.PlanFault.TheVariants as plan
 use Rattle.packet_plan.specs.Plan.{IsFullPlan, RasterPlan, group_octets}
 use Rattle.packet_plan.specs.Sender.{IsSenderList}
-use Rattle.path_merge.specs.declared.schedule.play_fault.PlayFault.{PlayFault}
-use Rattle.path_merge.specs.declared.schedule.play_fault.PlayFault.TheVariants as play
+use Rattle.path_receiver.specs.declared.play_fault.PlayFault.{PlayFault}
+use Rattle.path_receiver.specs.declared.play_fault.PlayFault.TheVariants as play
 use Rattle.path_merge.specs.declared.schedule.played.Handed.{Handed}
 use Rattle.path_merge.specs.declared.schedule.played.Played.{Played}
 use Rattle.path_merge.specs.Admitted.{IsFirstBad}
-use Rattle.path_merge.specs.Frames.{State}
-use Rattle.path_merge.specs.Opening.{AreDifferent, IsWindow, IsWindowSize}
+use Rattle.path_receiver.specs.Frames.{State}
+use Rattle.path_receiver.specs.Opening.{AreDifferent, IsWindow, IsWindowSize}
 use Rattle.path_merge.specs.Played.{ArePictures, IsPlayed, IsReceiverCount}
 use Rattle.path_merge.specs.Reached.{IsFrameOf, Scene}
 use Rattle.path_merge.specs.Sent.{AreSentBy, IsSendersFrame, scene_of, sender_of}

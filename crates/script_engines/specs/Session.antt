@@ -2,14 +2,14 @@
 use Rattle.std.specs.Prelude.{◌≡◌, ◌≢◌, ◌≤◌, ◌⊎◌, ℕ, false, length, List, [], ◌∷◌, replicate}
 use Rattle.std.specs.Prelude.{Option, Some, None, Result, Ok, Err, slice_get}
 use Rattle.frame_assembly.specs.Kinds.{counts_of}
-use Rattle.path_merge.specs.declared.answer.Refusal.{Refusal}
-use Rattle.path_merge.specs.declared.answer.Taken.{Taken}
-use Rattle.path_merge.specs.declared.answer.Taken.TheVariants as taken
-use Rattle.path_merge.specs.declared.fault.SlideFault.TheVariants.{InWindow}
-use Rattle.path_merge.specs.Answers.{refusals_after, taken_at}
-use Rattle.path_merge.specs.Frames.{State, cell_in, frames_of, joined_frames}
-use Rattle.path_merge.specs.Numbers.{IsCount, Numbers, number_place, with_place}
-use Rattle.path_merge.specs.Sliding.{slid_state}
+use Rattle.path_receiver.specs.declared.answer.Refusal.{Refusal}
+use Rattle.path_receiver.specs.declared.answer.Taken.{Taken}
+use Rattle.path_receiver.specs.declared.answer.Taken.TheVariants as taken
+use Rattle.path_receiver.specs.declared.fault.SlideFault.TheVariants.{InWindow}
+use Rattle.path_receiver.specs.Answers.{refusals_after, taken_at}
+use Rattle.path_receiver.specs.Frames.{State, cell_in, frames_of, joined_frames}
+use Rattle.path_receiver.specs.Numbers.{IsCount, Numbers, number_place, with_place}
+use Rattle.path_receiver.specs.Sliding.{slid_state}
 use Rattle.st_format.specs.declared.cell.Cell.{Cell}
 use Rattle.st_format.specs.declared.cell.Cell.TheVariants as cell
 use Rattle.st_format.specs.declared.path.Path.{Path}

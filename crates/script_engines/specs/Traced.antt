@@ -3,11 +3,11 @@
 use Rattle.std.specs.Prelude.{◌≡◌, ℕ, Bool, true, List, [], ◌∷◌, ◌++◌, length, take, ◌⊎◌}
 use Rattle.std.specs.Prelude.{Option, None, Some, Ok}
 use Rattle.std.specs.List.{flat_map}
-use Rattle.path_merge.specs.Frames.{Holds, State}
-use Rattle.path_merge.specs.Numbers.{IsCount, Numbers, missing_runs_of}
-use Rattle.path_merge.specs.Opening.{AreDifferent, IsWindow, IsWindowSize, Opening}
-use Rattle.path_merge.specs.declared.fault.OpenFault.{OpenFault}
-use Rattle.path_merge.specs.declared.fault.OpenFault.TheVariants as open_fault
+use Rattle.path_receiver.specs.Frames.{Holds, State}
+use Rattle.path_receiver.specs.Numbers.{IsCount, Numbers, missing_runs_of}
+use Rattle.path_receiver.specs.Opening.{AreDifferent, IsWindow, IsWindowSize, Opening}
+use Rattle.path_receiver.specs.declared.fault.OpenFault.{OpenFault}
+use Rattle.path_receiver.specs.declared.fault.OpenFault.TheVariants as open_fault
 use Rattle.packet_numbers.specs.declared.seq_map.SeqMapFault.TheVariants.{BadCount}
 use Rattle.st_format.specs.declared.format.Format.{Format}
 use Rattle.st_format.specs.Fields.{fields_of}

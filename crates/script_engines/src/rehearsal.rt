@@ -22,7 +22,8 @@ use crate::rehearsal_line::{
 use crate::script::{Lines, Script, ScriptLine};
 use crate::wanted_form::body_form;
 use packet_plan::Stamp;
-use path_merge::{Event, PlayFault};
+use path_merge::Event;
+use path_receiver::PlayFault;
 use run_outcome::{Fault, Form, after_word};
 use st_format::{Format, Picture};
 use std::alloc::Allocator;

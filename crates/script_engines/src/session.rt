@@ -2,9 +2,9 @@
 ghost use Rattle.std.specs.Prelude.{◌≡◌, ◌≢◌, ◌↔◌, ◌⊎◌, ◌∷◌, [], ℕ, IfErr, IfOk, IfSome};
 ghost use Rattle.std.specs.Prelude.{IsErr, IsErrOf, None, Ok, OnOk, Some};
 ghost use Rattle.std.proofs.Props.{props};
-ghost use Rattle.path_merge.specs.Answers.{refusals_after, taken_at};
-ghost use Rattle.path_merge.specs.Frames.{cell_in, frames_of, joined_frames};
-ghost use Rattle.path_merge.specs.Numbers.{IsCount};
+ghost use Rattle.path_receiver.specs.Answers.{refusals_after, taken_at};
+ghost use Rattle.path_receiver.specs.Frames.{cell_in, frames_of, joined_frames};
+ghost use Rattle.path_receiver.specs.Numbers.{IsCount};
 ghost use Rattle.st_format.specs.Member.{IsMember};
 ghost use Rattle.st_format.specs.Raster.{Raster};
 ghost use Rattle.run_outcome.specs.Fault.{Accounts};
@@ -18,7 +18,7 @@ ghost use Rattle.script_engines.specs.Session.{no_numbers, numbers_after, positi
 
 use crate::line::SamplePlace;
 use frame_assembly::Frame;
-use path_merge::{Receiver, SeqMap, SeqMapFault, SlideFault, Taken};
+use path_receiver::{Receiver, SeqMap, SeqMapFault, SlideFault, Taken};
 use run_outcome::{Fault, Form, Line, LineFault};
 use st_format::{Cell, Path};
 use std::alloc::{AllocError, Allocator};

@@ -1,8 +1,8 @@
 //! The engine of `trace`.
 ghost use Rattle.std.specs.Prelude.{◌≡◌, ◌≤◌, ◌<◌, ◌+◌, ◌↔◌, ◌⊎◌, ◌∷◌, ◌++◌, [], ℕ, Bool};
 ghost use Rattle.std.specs.Prelude.{None, false, length, Err, IfErr, IfOk, OnErr, OnOk};
-ghost use Rattle.path_merge.specs.Frames.{Holds};
-ghost use Rattle.path_merge.specs.Opening.{IsWindow};
+ghost use Rattle.path_receiver.specs.Frames.{Holds};
+ghost use Rattle.path_receiver.specs.Opening.{IsWindow};
 ghost use Rattle.st_format.specs.History.{GrewFrom};
 ghost use Rattle.script_engines.specs.FirstLines.{ReadsOpening, end_of, lines_left};
 ghost use Rattle.run_outcome.specs.Fault.{Accounts, IfRefused, counts};
@@ -21,7 +21,7 @@ use crate::line::{TraceLine, read_octets, read_open_line, read_trace_line, read_
 use crate::script::{Lines, Script, ScriptLine, read_script};
 use crate::session::Session;
 use crate::wanted_form::traced_form;
-use path_merge::{Receiver, SeqMap};
+use path_receiver::{Receiver, SeqMap};
 use run_outcome::{Fault, Form, Line, LineFault, print, print_frames, room};
 use st_format::{ByteSink, ByteSource, Format};
 use std::alloc::Allocator;

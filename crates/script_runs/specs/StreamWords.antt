@@ -21,9 +21,10 @@ IsFormatOf (Err fault) read = read ≡ Err (Refused fault)
 abbrev pub IsNoFormat : List ℕ → Type 0
 IsNoFormat text = (r : Result Format FormatFault) → IsFormatOf r (read_format text) → ⊥
 
--- a text says an address and a port, and no source
+-- a text says an address and a port, and neither a source nor an interface; a text says none
 abbrev pub SaysLeg : List ℕ → Flow → Type 0
-SaysLeg text f = IsFlowText text f × IsSome f.address × (f.source ≡ None)
+SaysLeg text f =
+    IsFlowText text f × IsSome f.address × (f.source ≡ None) × (f.interface ≡ None)
 
 -- a text says none such
 abbrev pub IsNoLeg : List ℕ → Type 0

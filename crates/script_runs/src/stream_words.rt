@@ -40,13 +40,14 @@ pub fn read_format_word<'w>(
     }
 }
 
-/// Reads where the datagrams of a path go: an address and a port.
+/// Reads where the datagrams of a path go: an address and a port, and neither a source nor an
+/// interface.
 fn read_leg(text: &str) -> Option<Flow>
     ensures { MatchOption result (IsNoLeg text.now) (SaysLeg text.now) }
 {
     let flow = read_flow(text.as_bytes())?;
-    match (flow.source, flow.address) {
-        (None, Some(_)) => Some(flow),
+    match (flow.interface, flow.source, flow.address) {
+        (None, None, Some(_)) => Some(flow),
         _ => None,
     }
 }

@@ -133,7 +133,18 @@ module _ (lines : List (List ℕ)) (s : Section) where
       let source =
       sent_from_once lines s f.address f.source g.source h.2
       (subst (λ (a : Option IpAddr). IsSourceOf lines s a g.source) (sym address) k.2) in
-      λ i. record { source = source i; address = address i; port = port i }
+      let interface : f.interface ≡ g.interface = h.3 ∙ sym k.3 in
+      λ i. record {
+        interface = interface i;
+        source = source i;
+        address = address i;
+        port = port i;
+      }
+
+  -- a flow of a section
+  abbrev sent_so : Option IpAddr → Option IpAddr → ℕ → Flow
+  sent_so source address port =
+      record { interface = None; source = source; address = address; port = port }
 
   not_both : (f : Flow) (e : FlowsFault) → IsFlowOf lines s f → IsFlowFault lines s e → ⊥
   not_both f NoVideo h k = k
@@ -184,20 +195,21 @@ module _ (lines : List (List ℕ)) (s : Section) where
       (λ port type is. not_none (port, type) (sym (says_media s.media port type is) ∙ e))
 
   pub nowhere : (m : ℕ × ℕ) → media_of s.media ≡ Some m → connection_of lines s ≡ None
-      → IsSectionRead lines s (Ok (record { source = None; address = None; port = m.0 }))
+      → IsSectionRead lines s (Ok (sent_so None None m.0))
   nowhere m e none =
-      flow_read (record { source = None; address = None; port = m.0 })
-      ((m.1, media_says s.media m e), subst (λ o. IsAddressOf o None) (sym none) tt, refl)
+      flow_read (sent_so None None m.0)
+      ((m.1, media_says s.media m e), subst (λ o. IsAddressOf o None) (sym none) tt, refl, refl)
 
   pub somewhere : (m : ℕ × ℕ) (line : List ℕ) (a : IpAddr) (source : Option IpAddr)
       → media_of s.media ≡ Some m → connection_of lines s ≡ Some line
       → Finds IsConnection line (Some a) → IsSourceOf lines s (Some a) source
-      → IsSectionRead lines s (Ok (record { source = source; address = Some a; port = m.0 }))
+      → IsSectionRead lines s (Ok (sent_so source (Some a) m.0))
   somewhere m line a source e counts names from =
-      flow_read (record { source = source; address = Some a; port = m.0 }) (
+      flow_read (sent_so source (Some a) m.0) (
         (m.1, media_says s.media m e),
         subst (λ o. IsAddressOf o (Some a)) (sym counts) ((names a).1 refl),
         from,
+        refl,
       )
 
   pub bad_connection : (m : ℕ × ℕ) (line : List ℕ) → media_of s.media ≡ Some m

@@ -104,11 +104,12 @@ IsSourceOf lines s (Some address) source =
     (listed : Option (List ℕ)) × IsFirstFilter (s.lines ++ section_lines lines) address listed
     × IsOneSource address listed source
 
--- where a section is sent to, and where from
+-- where a section is sent to, and where from; no line names an interface
 abbrev pub IsFlowOf : List (List ℕ) → Section → Flow → Type 0
 IsFlowOf lines s f =
     ((payload_type : ℕ) × IsMediaLine s.media f.port payload_type)
     × IsAddressOf (connection_of lines s) f.address × IsSourceOf lines s f.address f.source
+    × (f.interface ≡ None)
 
 -- the fault of a section
 abbrev pub IsFlowFault : List (List ℕ) → Section → FlowsFault → Type 0

@@ -84,6 +84,7 @@ fn flow_of<'a>(text: &'a [u8], section: VideoSection<'a>) -> Result<Flow, FlowsF
     };
     let Some(line) = connection_of(text, section) else {
         return Ok(Flow {
+            interface: None,
             source: None,
             address: None,
             port,
@@ -91,6 +92,7 @@ fn flow_of<'a>(text: &'a [u8], section: VideoSection<'a>) -> Result<Flow, FlowsF
     };
     match read_connection(line) {
         Some(address) => Ok(Flow {
+            interface: None,
             source: source_of(text, section, address),
             address: Some(address),
             port,

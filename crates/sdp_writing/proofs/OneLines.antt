@@ -143,10 +143,10 @@ module _ (payload_type : ℕ) (parameters : List ℕ) (few : payload_type ≤ 12
   pub leg_in_line : (leg : Flow) (name : List ℕ) → IsTold leg → IsOneLine (codes "a=mid:" ++ name)
       → AreOneLine (leg_lines payload_type parameters leg name)
   leg_in_line leg name is named = (
-    media_in_line payload_type leg.port few is.2,
+    media_in_line payload_type leg.port few is.3,
     one_line-append (connection_lines leg.address)
         (map_line payload_type ∷ parameters ∷ (codes "a=mid:" ++ name) ∷ [])
-        (connection_one_line leg.address is.1)
+        (connection_one_line leg.address is.2)
         (map_in_line payload_type few, (whole, (named, tt))),
   )
 

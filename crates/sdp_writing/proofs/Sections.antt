@@ -199,7 +199,8 @@ module _ (payload_type : ℕ) (rest : List ℕ) where
 
   no_source : (ls : List (List ℕ)) (address : Option IpAddr) (port : ℕ) (name : List ℕ)
       (behind : List (List ℕ)) → BeginOther (section_lines ls) → BeginOther behind
-      → IsSourceOf ls (section_of (record { source = None; address = address; port = port }) name
+      → IsSourceOf ls
+      (section_of (record { interface = None; source = None; address = address; port = port }) name
       behind) address None
   no_source ls None port name behind before after = refl
   no_source ls (Some a) port name behind before after =
@@ -216,9 +217,10 @@ module _ (payload_type : ℕ) (rest : List ℕ) where
       → BeginOther (section_lines ls) → BeginOther behind → payload_type ≤ 127 → IsTold leg
       → IsFlowOf ls (section_of leg name behind) (told leg)
   is_flow ls leg name behind session none before after few is = (
-    (payload_type, is_media leg few is.2),
-    is_address ls leg.address name behind session none is.1,
+    (payload_type, is_media leg few is.3),
+    is_address ls leg.address name behind session none is.2,
     no_source ls leg.address leg.port name behind before after,
+    refl,
   )
 
   -- ---- the sections of a text
@@ -244,10 +246,10 @@ module _ (payload_type : ℕ) (rest : List ℕ) where
 
   lines_had : (a : Flow) (b : Option Flow) → payload_type ≤ 127 → IsTold a → IfSome b IsTold
       → AllZip (λ s port. HasLine s parameters payload_type port) (sections_of a b) (ports a b)
-  lines_had a None few is second = (has_line a (codes "A") ([] ∷ []) few is.2, tt)
+  lines_had a None few is second = (has_line a (codes "A") ([] ∷ []) few is.3, tt)
   lines_had a (Some b) few is second = (
-    has_line a (codes "A") [] few is.2,
-    (has_line b (codes "B") ([] ∷ []) few second.2, tt),
+    has_line a (codes "A") [] few is.3,
+    (has_line b (codes "B") ([] ∷ []) few second.3, tt),
   )
 
   session_before : BeginOther session_lines

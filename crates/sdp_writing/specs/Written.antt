@@ -75,9 +75,9 @@ abbrev pub ports : Flow → Option Flow → List ℕ
 ports a None = a.port ∷ []
 ports a (Some b) = a.port ∷ b.port ∷ []
 
--- A leg as its section tells it: no line tells a source.
+-- A leg as its section tells it: no line tells a source or an interface.
 abbrev pub told : Flow → Flow
-told leg = record leg { source = None }
+told leg = record leg { interface = None; source = None }
 
 -- what the type keeps of it
 abbrev pub IsTold : Flow → Type 0

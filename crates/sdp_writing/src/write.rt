@@ -40,8 +40,8 @@ fn written<A: Allocator + Copy>(
 /// Writes the SDP text of a stream that goes to one leg or to two (RFC 8866; RFC 7104, 4): a
 /// section for each, path A's first, with the address and the port of the leg, and the canonical
 /// fmtp line of what is said. What [`sdp_format::read_sdp`] reads of the text is what was said, and
-/// what [`sdp_format::read_flows`] reads of it are the legs without their sources, which no line
-/// tells.
+/// what [`sdp_format::read_flows`] reads of it are the legs without their sources and interfaces,
+/// which no line tells.
 ///
 /// A leg without an address has no line `c=`. A multicast address of IPv4 has a time to live of 64.
 /// Each line ends with CR and LF.

@@ -2,7 +2,8 @@
 use crate::checks::met;
 use crate::rehearsals::STAMP;
 use packet_plan::Plan;
-use path_merge::{PlayFault, play};
+use path_merge::play;
+use path_receiver::PlayFault;
 use st_format::{Depth, Format, Picture, Sampling};
 use std::alloc::Global;
 use std::test::Fail;

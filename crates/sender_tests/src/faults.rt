@@ -3,7 +3,7 @@ use crate::checks::met;
 use bt709_fixed::ColourFault;
 use key_mix::{JobFault, SendJobFault};
 use packet_plan::{PlanFault, SendFault};
-use path_merge::PlayFault;
+use path_receiver::PlayFault;
 use sdp_format::{FlowsFault, Located, Place, SdpFault};
 use test_kit::words::{all_say, says};
 

@@ -98,7 +98,7 @@ const TEXTS: [(&str, &str); 19] = [
 ];
 
 /// Texts of flows, and how each is displayed again, or `-` where it is none.
-const FLOWS: [(&str, &str); 25] = [
+const FLOWS: [(&str, &str); 37] = [
     ("5004", "5004"),
     ("0065535", "65535"),
     ("239.1.1.1:5004", "239.1.1.1:5004"),
@@ -124,6 +124,24 @@ const FLOWS: [(&str, &str); 25] = [
     ("fe80::1>[ff3e::1]:5004", "-"),
     ("192.0.2.1>192.0.2.2>239.1.1.1:5004", "-"),
     ("192.0.2.1 > 239.1.1.1:5004", "-"),
+    ("eth0@5004", "eth0@5004"),
+    ("eth0@239.1.1.1:05004", "eth0@239.1.1.1:5004"),
+    ("enp3s0f0np0@192.0.2.1>5004", "enp3s0f0np0@192.0.2.1>5004"),
+    (
+        "\\Device\\NPF_{5A4FBD66-B55E-4F0E-8A4F-3C8A5E3B5C11}@[FE80:0::1]>[ff3e::1]:5004",
+        "\\Device\\NPF_{5A4FBD66-B55E-4F0E-8A4F-3C8A5E3B5C11}@[fe80::1]>[ff3e::1]:5004",
+    ),
+    ("eth0:1@5004", "eth0:1@5004"),
+    ("@5004", "-"),
+    ("eth0@", "-"),
+    ("eth 0@5004", "-"),
+    ("eth0>1@5004", "-"),
+    ("eth0@eth1@5004", "-"),
+    ("192.0.2.1>eth0@5004", "-"),
+    (
+        "eeeeeeeeeeeeeeeeeeeeeeeeeeeeeeeeeeeeeeeeeeeeeeeeeeeeeeeeeeeeeeeee@5004",
+        "-",
+    ),
 ];
 
 /// The flows of an SDP text, or its fault's name.
@@ -182,7 +200,7 @@ const CAMERA: &[u8] = &[192, 0, 2, 1];
 
 /// Texts of two flows, the address that a datagram came from, the address and the port that it was
 /// sent to, and its path.
-const SENT: [(&str, &str, &[u8], &[u8], u16, Option<Path>); 11] = [
+const SENT: [(&str, &str, &[u8], &[u8], u16, Option<Path>); 12] = [
     (
         "5004",
         "239.1.1.2:5006",
@@ -263,6 +281,15 @@ const SENT: [(&str, &str, &[u8], &[u8], u16, Option<Path>); 11] = [
         5004,
         Some(Path::A),
     ),
+    // It was taken at no interface that is known.
+    (
+        "eth0@239.1.1.1:5004",
+        "239.1.1.1:5004",
+        CAMERA,
+        &[239, 1, 1, 1],
+        5004,
+        Some(Path::B),
+    ),
     // Source and destination the other way about.
     (
         "239.1.1.1>192.0.2.1:5004",
@@ -275,13 +302,16 @@ const SENT: [(&str, &str, &[u8], &[u8], u16, Option<Path>); 11] = [
 ];
 
 /// Texts of two flows, and whether both are one place.
-const PLACES: [(&str, &str, bool); 6] = [
+const PLACES: [(&str, &str, bool); 9] = [
     ("[ff3e::1]:5004", "[FF3E:0::1]:5004", true),
     ("[ff3e::1]:5004", "5004", false),
     ("5004", "239.1.1.2:5006", false),
     ("x", "x", false),
     ("192.0.2.1>5004", "192.0.2.1>5004", true),
     ("192.0.2.1>5004", "192.0.2.2>5004", false),
+    ("eth0@5004", "eth0@5004", true),
+    ("eth0@5004", "eth1@5004", false),
+    ("eth0@5004", "5004", false),
 ];
 
 /// The flows of two texts.
@@ -296,7 +326,7 @@ fn flows_of(a: &str, b: &str) -> Flows {
 fn comes_otherwise() -> Option<u64> {
     let mut place = 0u64;
     for (a, b, source, address, port, path) in &SENT {
-        if flows_of(a, b).path_of(source, address, *port) != *path {
+        if flows_of(a, b).path_of(&None, source, address, *port) != *path {
             return Some(place);
         }
         place = place.wrapping_add(1);

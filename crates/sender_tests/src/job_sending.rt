@@ -4,7 +4,7 @@ use crate::checks::met;
 use crate::sending::{GROUPS, WHOLE, has_taken, p0};
 use frame_assembly::{Base, Frame};
 use key_mix::{Axis, Job, JobFault, JobInput, SendJobFault, WipeShape, send_job};
-use path_merge::Receiver;
+use path_receiver::Receiver;
 use st_format::memory::MemoryDatagrams;
 use st_format::{Path, Picture};
 use std::alloc::{Allocator, Global};

@@ -3,7 +3,7 @@ use crate::checks::met;
 use crate::sending::{runs_through, sent};
 use frame_assembly::{Base, Frame};
 use packet_plan::Plan;
-use path_merge::Receiver;
+use path_receiver::Receiver;
 use st_format::{Cell, Depth, Format, Path, Picture, Sampling};
 use std::alloc::{AllocError, Allocator, Global};
 use std::process::Abort;

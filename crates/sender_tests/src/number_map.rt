@@ -1,6 +1,6 @@
 //! *number-map*, and what else a map of packet numbers answers that no script prints.
 use crate::checks::met;
-use path_merge::{MAX_COUNT, Noted, OpenedUnlike, SeqMap, SeqMapFault};
+use path_receiver::{MAX_COUNT, Noted, OpenedUnlike, SeqMap, SeqMapFault};
 use refusing::Refusing;
 use std::alloc::{Allocator, Global};
 use std::process::Abort;

@@ -3,7 +3,7 @@
 use crate::checks::met;
 use frame_assembly::{Base, Frame};
 use packet_plan::{Plan, PlanFault, SendFault, Stamp, send_frame};
-use path_merge::Receiver;
+use path_receiver::Receiver;
 use st_format::memory::MemoryDatagrams;
 use st_format::{Depth, Format, Path, Picture, PictureFault, Sampling};
 use std::alloc::{Allocator, Global};

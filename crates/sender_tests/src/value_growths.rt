@@ -5,7 +5,7 @@ use crate::number_map::{is_mapped, misses_six};
 use crate::rehearsals::is_played;
 use crate::sdp::is_written;
 use crate::sending::{gives_groups, gives_whole, p0};
-use path_merge::{OpenFault, Receiver, Taken};
+use path_receiver::{OpenFault, Receiver, Taken};
 use refusing::Refusing;
 use st_format::{Path, PictureFault};
 use std::alloc::{Allocator, Global};

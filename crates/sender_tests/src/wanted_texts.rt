@@ -2,7 +2,7 @@
 use crate::checks::met;
 use key_mix::JobFault;
 use packet_plan::PlanFault;
-use path_merge::{OpenFault, PlayFault, SeqMapFault};
+use path_receiver::{OpenFault, PlayFault, SeqMapFault};
 use sdp_format::SdpFault;
 use st_format::FormatFault;
 use std::process::Abort;

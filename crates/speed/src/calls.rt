@@ -4,7 +4,7 @@ use crate::streams::{Stream, send_all};
 use devices::Discard;
 use frame_assembly::{Base, Frame};
 use frame_report::write_report;
-use path_merge::Receiver;
+use path_receiver::Receiver;
 use st_format::{Format, Path, Picture};
 use std::alloc::Global;
 use std::time::Instant;

@@ -11,7 +11,7 @@ use devices::Discard;
 use frame_assembly::Base;
 use key_mix::{Job, JobInput, run_job, send_job};
 use packet_plan::Plan;
-use path_merge::Receiver;
+use path_receiver::Receiver;
 use st_format::{Format, Path};
 use std::alloc::Global;
 use std::time::Instant;

@@ -1,12 +1,11 @@
 //! `receive`, and what it tells where little or nothing was kept.
 use crate::importing::tell_left_out;
 use crate::run_made;
-use capture_engines::{Reception, Tally, refusal_at};
+use capture_engines::{REFUSAL_COUNT, Reception, Seen, Tally, refusal_at};
 use capture_runs::{Files, ReceiveCommand};
 use command_end::run_command;
 use command_line::ReceiveWords;
 use devices::Stream;
-use recorded_capture::Seen;
 use recording_counts::LeftOut;
 use recording_runs::FlowsCommand;
 use std::alloc::AllocError;
@@ -17,9 +16,9 @@ const NAMED: usize = 3;
 
 /// Takes the datagrams of captures and recordings into one receiver, and answers the exit status.
 /// Where none was kept, or more came to nothing than were kept, one line more says so and why; else
-/// packets that were left out are told by the reason where that is asked for. Where a flow was asked
-/// for of which no datagram came, standard error is told the flows that the recordings have. That
-/// this may fail changes nothing.
+/// packets that were left out are told by the reason where that is asked for. Where a flow was
+/// asked for of which no datagram came, standard error is told the flows that the recordings have.
+/// That this may fail changes nothing.
 pub fn receive(rt: &HostRuntime, words: &ReceiveWords<'_>, explains: bool, is_verbose: bool) -> u8 {
     let ended = run_command(rt, explains, ReceiveCommand::new(rt, words));
     let files = &ended.command.files;
@@ -52,8 +51,8 @@ fn recordings<'a>(
     files: &Files<'_>,
 ) -> Result<Vec<&'a str>, AllocError> {
     let mut recordings = Vec::new(rt.alloc());
-    for (name, capture) in names.iter().zip(files.captures.iter()) {
-        if capture.seen().is_recording() {
+    for (name, seen) in names.iter().zip(files.seen.iter()) {
+        if seen.is_recording() {
             recordings.push(*name)?;
         }
     }
@@ -128,11 +127,11 @@ impl fmt::Display for Lost<'_> {
 
 /// Says of the refusals that came most often how often each came. There is one that came.
 fn tell_refused<W: fmt::Write>(tally: &Tally, f: &mut fmt::Formatter<W>) -> fmt::Result {
-    let mut told = [false; 14];
+    let mut told = [false; REFUSAL_COUNT];
     let mut between = " (";
     for _ in 0..NAMED {
         let place = most_frequent(tally, &told);
-        if place >= 14 {
+        if place >= REFUSAL_COUNT {
             break;
         }
         told[place] = true;
@@ -144,11 +143,11 @@ fn tell_refused<W: fmt::Write>(tally: &Tally, f: &mut fmt::Formatter<W>) -> fmt:
 }
 
 /// The place of the refusal that came most often of those that are not told yet, of equally many
-/// the first; 14 where none came.
-fn most_frequent(tally: &Tally, told: &[bool; 14]) -> usize {
-    let mut most = 14;
+/// the first; past all where none came.
+fn most_frequent(tally: &Tally, told: &[bool; REFUSAL_COUNT]) -> usize {
+    let mut most = REFUSAL_COUNT;
     let mut greatest = 0;
-    for place in 0..14 {
+    for place in 0..REFUSAL_COUNT {
         let count = tally.refused[place];
         if !told[place] && count > greatest {
             most = place;

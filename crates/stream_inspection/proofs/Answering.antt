@@ -5,12 +5,12 @@ use Rattle.st_format.specs.Reading.{◌>>=◌}
 use Rattle.rtp_header.specs.Grammar.{Rtp}
 use Rattle.rtp_header.specs.Reading.{rtp_walk}
 use Rattle.rtp_header.specs.declared.header.RtpFault.{RtpFault}
-use Rattle.path_merge.specs.Admission.{by_header, by_payload, datagram_walk, datagram_with}
-use Rattle.path_merge.specs.Admission.{header_for}
-use Rattle.path_merge.specs.declared.answer.Refusal.{Refusal}
-use Rattle.path_merge.specs.declared.answer.Refusal.TheVariants.{Header}
-use Rattle.path_merge.specs.declared.answer.Taken.{Taken}
-use Rattle.path_merge.specs.declared.answer.Taken.TheVariants.{Kept}
+use Rattle.path_receiver.specs.Admission.{by_header, by_payload, datagram_walk, datagram_with}
+use Rattle.path_receiver.specs.Admission.{header_for}
+use Rattle.path_receiver.specs.declared.answer.Refusal.{Refusal}
+use Rattle.path_receiver.specs.declared.answer.Refusal.TheVariants.{Header}
+use Rattle.path_receiver.specs.declared.answer.Taken.{Taken}
+use Rattle.path_receiver.specs.declared.answer.Taken.TheVariants.{Kept}
 use Rattle.payload_header.specs.Reading.{payload_walk}
 use Rattle.stream_inspection.specs.Arrivals.{Looks, answer_at, answer_by, packet_by, packet_of}
 use Rattle.stream_inspection.specs.declared.looking.Look.{Look}

@@ -1,8 +1,8 @@
 mod Answering
 mod NumberLaws
 mod Noting
-mod Reading
-mod Files
+mod Readings
+mod InOrder
 mod Told
 mod Moments
 mod Lasts

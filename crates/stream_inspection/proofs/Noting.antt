@@ -6,19 +6,22 @@ use Rattle.std.proofs.lemmas.Grind.{flat_map-append}
 use Rattle.std.proofs.lemmas.List.{map-append}
 use Rattle.std.proofs.lemmas.List.Sums.{sum_by-append}
 use Rattle.std.specs.List.{count_by, flat_map}
+use Rattle.std.specs.Prelude.{option_to_list}
 use Rattle.media_file.specs.Records.{Entry}
-use Rattle.capture_engines.specs.Tallied.{Tallies, TalliesMore}
-use Rattle.capture_engines.specs.declared.tally.Tally.{Tally}
-use Rattle.path_merge.specs.declared.answer.Refusal.{Refusal}
-use Rattle.path_merge.specs.declared.answer.Taken.{Taken}
+use Rattle.path_receiver.specs.Tallied.{Tallies, TalliesMore}
+use Rattle.path_receiver.specs.declared.tally.Tally.{Tally}
+use Rattle.path_receiver.specs.declared.answer.Refusal.{Refusal}
+use Rattle.path_receiver.specs.declared.answer.Taken.{Taken}
 use Rattle.rtp_header.specs.Reading.{rtp_walk}
 use Rattle.recording_counts.specs.Numbering.{capped}
 use Rattle.recording_counts.specs.Timestamps.{timestamps_of}
 use Rattle.recording_counts.specs.declared.packet.Packet.{Packet}
+use Rattle.recording_reader.specs.FileReader.{FileReader, FindsOne, record_seen}
+use Rattle.recording_reader.specs.declared.room.RecordView.{RecordView}
 use Rattle.stream_inspection.specs.Arrivals.{Arrival, answer_at, answers_in, answers_of, arrival}
 use Rattle.stream_inspection.specs.Arrivals.{arrival_if, arrivals_in, arrivals_of, is_control}
 use Rattle.stream_inspection.specs.Arrivals.{packet_by, packets, video_in, video_of}
-use Rattle.stream_inspection.specs.Inspected.{IsInspected, Notes, NotesPacket, controls_of}
+use Rattle.stream_inspection.specs.Inspected.{IsInspected, Notes, NotesPacket, controls_of, entry}
 use Rattle.stream_inspection.specs.Numbers.{AreStreams}
 use Rattle.stream_inspection.specs.Skews.{AreProbes}
 use Rattle.stream_inspection.specs.declared.inspection.Inspection.{Inspection}
@@ -196,6 +199,41 @@ notes_then t es fs old mid new first second = record {
 }
 
 -- ---- one more packet
+
+-- ---- records that a reader gave
+
+-- none yet
+pub notes_no_records : {A : Type 0} (t : Target) (s : Inspection A) (records : List Entry)
+    → records ≡ [] → Notes t records s s
+notes_no_records t s records none =
+    subst (λ (es : List Entry). Notes t es s s) (sym none) (notes_none t s)
+
+-- none more
+pub notes_same : {A : Type 0} (t : Target) (a b : Inspection A) (records more : List Entry)
+    → more ≡ records → Notes t records a b → Notes t more a b
+notes_same t a b records more same noted =
+    subst (λ (es : List Entry). Notes t es a b) (sym same) noted
+
+-- the one at hand, by its borrowed octets
+pub notes_hand : {A : Type 0} (t : Target) (hand : Option Entry) (r : RecordView)
+    (a b : Inspection A) → record_seen (Some r) ≡ hand
+    → Notes t (entry r.path r.moment r.octets.now ∷ []) a b → Notes t (option_to_list hand) a b
+notes_hand t hand r a b same noted =
+    subst (λ (h : Option Entry). Notes t (option_to_list h) a b) same noted
+
+pub notes_no_hand : {A : Type 0} (t : Target) (hand : Option Entry) (s : Inspection A)
+    → record_seen None ≡ hand → Notes t (option_to_list hand) s s
+notes_no_hand t hand s same =
+    subst (λ (h : Option Entry). Notes t (option_to_list h) s s) same (notes_none t s)
+
+-- one more
+pub notes_found : {S A : Type 0} (t : Target) (old new : FileReader S) (a b c : Inspection A)
+    → FindsOne old new → Notes t old.records a b → Notes t (option_to_list new.at_hand) b c
+    → Notes t new.records a c
+notes_found t old new a b c found first more =
+    subst (λ (es : List Entry). Notes t es a c) (sym found.records)
+    (notes_then t old.records (found.entry ∷ []) a b c first
+    (subst (λ (h : Option Entry). Notes t (option_to_list h) b c) found.at_hand more))
 
 -- one of another payload type
 pub packet_other : {A : Type 0} (t : Target) (a : Arrival) (old new : Inspection A)

@@ -2,11 +2,11 @@
 use Rattle.std.proofs.Common.{◌≡◌, ℕ, ◌+◌, ◌<◌, List, ◌++◌, get_or, slice_index, refl, ap, sym, subst}
 use Rattle.std.proofs.Common.{arith}
 use Rattle.capture_engines.specs.Printed.{refusals}
-use Rattle.capture_engines.specs.Tallied.{place_of}
-use Rattle.path_merge.specs.Answers.{refusal_number}
-use Rattle.path_merge.specs.declared.answer.Refusal.{Refusal}
-use Rattle.path_merge.specs.declared.answer.Refusal.TheVariants.{Header, WrongPayloadType}
-use Rattle.path_merge.specs.declared.answer.Refusal.TheVariants.{WrongSource, Payload}
+use Rattle.path_receiver.specs.Tallied.{place_of}
+use Rattle.path_receiver.specs.Answers.{refusal_number}
+use Rattle.path_receiver.specs.declared.answer.Refusal.{Refusal}
+use Rattle.path_receiver.specs.declared.answer.Refusal.TheVariants.{Header, WrongPayloadType}
+use Rattle.path_receiver.specs.declared.answer.Refusal.TheVariants.{WrongSource, Payload}
 use Rattle.payload_header.specs.declared.payload.PayloadFault.{PayloadFault}
 use Rattle.payload_header.specs.declared.payload.PayloadFault.TheVariants as payload
 use Rattle.rtp_header.specs.declared.header.RtpFault.{RtpFault}

@@ -4,8 +4,8 @@ use Rattle.sdp_format.specs.Bytes.{lines}
 use Rattle.sdp_format.specs.Grammar.{IsDescribed}
 use Rattle.sdp_format.specs.Sections.{Description, video_sections}
 use Rattle.st_format.specs.Fields.{fields_of}
-use Rattle.capture_engines.specs.Received.{IsGivenRefusal}
-use Rattle.capture_engines.specs.Taking.{capture_said}
+use Rattle.capture_engines.specs.Received.{IsOpeningRefusal}
+use Rattle.recording_reader.specs.Files.{text_of_file}
 use Rattle.run_outcome.specs.declared.refusal.Refusal.{Refusal}
 use Rattle.stream_inspection.specs.declared.target.Target.{Target}
 use Rattle.stream_inspection.specs.declared.target.Wanted.{Wanted}
@@ -18,33 +18,25 @@ pub record Announces (text : List ℕ) (t : Target) : Type 0 where
   pub format : fields_of t.format ≡ description.leg.format
   pub payload_type : t.payload_type ≡ description.leg.payload_type
 
--- so does the text that was read
-abbrev pub ReadsTarget : (List ℕ → Type 0) → Target → Type 0
-ReadsTarget told t = (text : List ℕ) → told text → Announces text t
-
--- so does the text of the first of some captures
+-- so does the text of the first of some files
 abbrev pub FirstAnnounces : List (List ℕ) → Target → Type 0
 FirstAnnounces [] t = ⊥
-FirstAnnounces (octets ∷ captures) t = Announces (capture_said octets) t
+FirstAnnounces (octets ∷ files) t = Announces (text_of_file octets) t
 
--- By what a stream is looked for: by what is given; by what the SDP text says that was read; or else
--- by that of the first capture.
-abbrev pub IsTarget : {S : Type 0} → Wanted → (S → List ℕ → Type 0) → Option S → List (List ℕ)
-    → Target → Type 0
-IsTarget (Given u) told sdp captures t = t ≡ u
-IsTarget Said told None captures t = FirstAnnounces captures t
-IsTarget Said told (Some s) captures t = ReadsTarget (told s) t
+-- By what a stream is looked for: by what is given; by what the SDP text says that is given; or
+-- else by what that of the first file says.
+abbrev pub IsTarget : Wanted → Option (List ℕ) → List (List ℕ) → Target → Type 0
+IsTarget (Given u) sdp files t = t ≡ u
+IsTarget Said None files t = FirstAnnounces files t
+IsTarget Said (Some text) files t = Announces text t
 
--- what is known of it before captures are read
-abbrev pub IsBegun : {S : Type 0} → Wanted → (S → List ℕ → Type 0) → Option S → Option Target
-    → Type 0
-IsBegun (Given u) told sdp begun = begun ≡ Some u
-IsBegun Said told None begun = begun ≡ None
-IsBegun Said told (Some s) begun = (t : Target) × (begun ≡ Some t) × ReadsTarget (told s) t
+-- what is known of it before files are read
+abbrev pub IsBegun : Wanted → Option (List ℕ) → Option Target → Type 0
+IsBegun (Given u) sdp begun = begun ≡ Some u
+IsBegun Said None begun = begun ≡ None
+IsBegun Said (Some text) begun = (t : Target) × (begun ≡ Some t) × Announces text t
 
--- the refusals of that: those of the SDP text that is read
-abbrev pub IsBeginRefusal : {S : Type 0} → Wanted → (S → List ℕ → Type 0) → Option S → Refusal
-    → Type 0
-IsBeginRefusal (Given u) told sdp r = ⊥
-IsBeginRefusal Said told sdp r =
-    MatchOption sdp ⊥ (λ s. IsGivenRefusal (0 ∷ []) (told s) r)
+-- the refusals of that: those of the SDP text, where that is to say it
+abbrev pub IsBeginRefusal : Wanted → Option (List ℕ) → Refusal → Type 0
+IsBeginRefusal (Given u) sdp r = ⊥
+IsBeginRefusal Said sdp r = MatchOption sdp ⊥ (λ text. IsOpeningRefusal (0 ∷ []) text r)

@@ -9,11 +9,11 @@ use Rattle.media_file.specs.Records.{Entry}
 use Rattle.rtp_header.specs.Grammar.{Rtp}
 use Rattle.rtp_header.specs.Reading.{rtp_walk}
 use Rattle.rtp_header.specs.declared.header.RtpFault.{RtpFault}
-use Rattle.path_merge.specs.Admission.{by_payload, datagram_walk, datagram_with, header_for}
+use Rattle.path_receiver.specs.Admission.{by_payload, datagram_walk, datagram_with, header_for}
 use Rattle.payload_header.specs.Reading.{payload_walk}
-use Rattle.path_merge.specs.declared.answer.Refusal.{Refusal}
-use Rattle.path_merge.specs.declared.answer.Taken.{Taken}
-use Rattle.path_merge.specs.declared.answer.Taken.TheVariants.{Kept}
+use Rattle.path_receiver.specs.declared.answer.Refusal.{Refusal}
+use Rattle.path_receiver.specs.declared.answer.Taken.{Taken}
+use Rattle.path_receiver.specs.declared.answer.Taken.TheVariants.{Kept}
 use Rattle.recording_counts.specs.declared.packet.Packet.{Packet}
 use Rattle.stream_inspection.specs.declared.looking.Look.{Look}
 use Rattle.stream_inspection.specs.declared.target.Target.{Target}
@@ -60,8 +60,8 @@ abbrev pub packet_by : Target → Path → Result Rtp RtpFault → Option Packet
 packet_by t path (Ok rtp) = Some (packet_of t path rtp)
 packet_by t path (Err fault) = None
 
--- what a receiver of the format and the payload type, whatever the source and the timestamp, answers
--- to a datagram (own)
+-- what a receiver of the format and the payload type, whatever the source and the timestamp,
+-- answers to a datagram (own)
 abbrev pub answer_at : Target → List ℕ → Result Taken Refusal
 answer_at t octets =
     datagram_walk t.format t.payload_type None octets >>= λ d. Ok (Kept d.number)

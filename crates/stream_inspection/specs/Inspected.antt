@@ -1,9 +1,9 @@
--- What is counted of the records of captures.
+-- What is counted of the records of files.
 use Rattle.std.specs.Prelude.{◌≡◌, ℕ, List, ◌∷◌, [], ◌++◌}
 use Rattle.std.specs.List.{count_by}
 use Rattle.st_format.specs.declared.path.Path.{Path}
 use Rattle.media_file.specs.Records.{Entry}
-use Rattle.capture_engines.specs.Tallied.{Tallies}
+use Rattle.path_receiver.specs.Tallied.{Tallies}
 use Rattle.recording_counts.specs.Numbering.{capped}
 use Rattle.recording_counts.specs.Timestamps.{timestamps_of}
 use Rattle.recording_counts.specs.declared.packet.Packet.{Packet}

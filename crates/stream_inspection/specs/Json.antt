@@ -1,8 +1,8 @@
 -- Rows as JSON objects, each with its kind and its numbers by name (own). RFC 8259
 use Rattle.std.specs.Prelude.{ℕ, List, ◌++◌, codes}
 use Rattle.std.specs.Fmt.{decimal}
-use Rattle.path_merge.specs.Answers.{refusal_name, refusal_number}
-use Rattle.path_merge.specs.declared.answer.Refusal.{Refusal}
+use Rattle.path_receiver.specs.Answers.{refusal_name, refusal_number}
+use Rattle.path_receiver.specs.declared.answer.Refusal.{Refusal}
 use Rattle.recording_counts.specs.declared.packet.StreamKey.{StreamKey}
 use Rattle.stream_inspection.specs.Values.{bool_text, commas_text, null_signed, null_text, path_text}
 use Rattle.stream_inspection.specs.declared.rows.PathRow.{PathRow}
@@ -13,8 +13,8 @@ use Rattle.stream_inspection.specs.declared.rows.SkewRow.{SkewRow}
 use Rattle.stream_inspection.specs.declared.rows.TimestampRow.{TimestampRow}
 use Rattle.stream_inspection.specs.declared.rows.TogetherRow.{TogetherRow}
 
--- members: of a stream; of what came by a path, and what is wrong there; of what never came; of what
--- came of a timestamp; of a refusal
+-- members: of a stream; of what came by a path, and what is wrong there; of what never came; of
+-- what came of a timestamp; of a refusal
 abbrev pub key_json : StreamKey → List ℕ
 key_json k =
     codes "\"payload_type\":" ++ (decimal k.payload_type

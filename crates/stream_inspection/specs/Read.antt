@@ -1,113 +1,138 @@
--- What was read of captures. What was read is told by a predicate: it holds of any octets that begin
+-- What was read of files. What was read is told by a predicate: it holds of any octets that begin
 -- with it, and of no others where the source has ended (own).
-use Rattle.std.specs.Prelude.{◌≡◌, ℕ, ◌-◌, ◌^◌, ◌⊎◌, ⊤, List, [], ◌∷◌, ◌++◌, length, take, Option, None, Some}
-use Rattle.std.specs.Prelude.{Result, Ok, Err}
+use Rattle.std.specs.Prelude.{◌≡◌, ℕ, ◌-◌, ◌^◌, ◌⊎◌, ⊤, List, [], ◌∷◌, ◌++◌, length, take}
+use Rattle.std.specs.Prelude.{Option, None, Some, Result, Ok, Err}
 use Rattle.std.specs.List.{AllZip}
-use Rattle.media_file.specs.Faults.{CountsFault, IfContent}
-use Rattle.media_file.specs.Fronts.{front_at}
-use Rattle.media_file.specs.Reading.{fault_at}
-use Rattle.media_file.specs.Records.{AllFit, Entry, records_text}
-use Rattle.media_file.specs.declared.fault.FileFault.{FileFault}
+use Rattle.capture_engines.specs.Files.{HasFileText, fault_by, first_way, flows_in, other_ways}
+use Rattle.capture_engines.specs.declared.way.Way.{Way}
+use Rattle.flow.specs.declared.flows.Flows.{Flows}
+use Rattle.media_file.specs.Records.{Entry}
 use Rattle.media_file.specs.declared.fault.FileFault.TheVariants.{TooManyRecords}
-use Rattle.run_outcome.specs.LowerFaults.{capture_fault}
+use Rattle.recording_reader.specs.Files.{AreFirst, CountsReadingFault, IfFile, IsFileFault}
+use Rattle.recording_reader.specs.Files.{IsWholeFile, records_of_file, text_of_file}
+use Rattle.recording_reader.specs.declared.fault.ReadingFault.{ReadingFault}
+use Rattle.recording_reader.specs.declared.fault.ReadingFault.TheVariants.{Capture}
+use Rattle.recording_reader.specs.declared.way.Standing.{Standing}
+use Rattle.recording_reader.specs.declared.way.Standing.TheVariants.{Ended, Failed, Reads}
 use Rattle.run_outcome.specs.declared.fault.Fault.{Fault}
-use Rattle.capture_engines.specs.Taking.{capture_said}
+use Rattle.run_outcome.specs.declared.refusal.Refusal.{Refusal}
 use Rattle.stream_inspection.specs.Aim.{Announces}
-use Rattle.stream_inspection.specs.Inspected.{IsInspected, Notes}
+use Rattle.stream_inspection.specs.Inspected.{IsInspected}
 use Rattle.stream_inspection.specs.declared.inspection.Inspection.{Inspection}
 use Rattle.stream_inspection.specs.declared.target.Target.{Target}
 
+-- ---- ends
+
 -- this is so, unless a device's fault ended the reading
-abbrev pub IfEnd : Option FileFault → Type 0 → Type 0
+abbrev pub IfEnd : Option ReadingFault → Type 0 → Type 0
 IfEnd None P = P
-IfEnd (Some f) P = IfContent f P
+IfEnd (Some f) P = IfFile f P
 
 -- a device's fault is one failure more, and any other end none
-abbrev pub counts_end : Option FileFault → ℕ → ℕ → Type 0
+abbrev pub counts_end : Option ReadingFault → ℕ → ℕ → Type 0
 counts_end None old new = new ≡ old
-counts_end (Some f) old new = CountsFault f old new
+counts_end (Some f) old new = CountsReadingFault f old new
 
 -- what an end comes to
-abbrev pub ended_by : Result (Option FileFault) Fault → Result (Unit {0}) Fault
+abbrev pub ended_by : Result (Option ReadingFault) Fault → Result (Unit {0}) Fault
 ended_by (Ok None) = Ok tt
-ended_by (Ok (Some f)) = Err (capture_fault f)
+ended_by (Ok (Some f)) = Err (fault_by f)
 ended_by (Err f) = Err f
 
--- ---- records
+-- so many records are counted of a file
+abbrev pub most_counted : ℕ
+most_counted = 2 ^ 64 - 1
 
--- Octets are records, up to their end or up to a fault: what follows is no record by it, or there
--- are as many records as are counted.
-abbrev pub EndsBy : List ℕ → List Entry → Option FileFault → Type 0
-EndsBy octets records None = octets ≡ records_text records
-EndsBy octets records (Some f) = (behind : List ℕ) × (octets ≡ records_text records ++ behind)
-    × ((fault_at behind ≡ Some f) ⊎ ((f ≡ TooManyRecords) × (length records ≡ 2 ^ 64 - 1)))
+-- Where a reader stands that gave so many records: at the file's end; or at its fault, or where as
+-- many records came as are counted.
+abbrev pub IsEnd : Standing → ℕ → Option ReadingFault → Type 0
+IsEnd standing count None = standing ≡ Ended
+IsEnd standing count (Some f) = (standing ≡ Failed f)
+    ⊎ ((standing ≡ Reads) × (f ≡ Capture TooManyRecords) × (count ≡ most_counted))
 
-pub record HasRecords (octets : List ℕ) (records : List Entry) (end : Option FileFault) : Type 0
-  where
-    pub fit : AllFit records
-    pub ends : EndsBy octets records end
+-- ---- a file
 
--- the records of what was read were noted, up to this end
-pub record NotesRecords {A : Type 0} (t : Target) (told : List ℕ → Type 0)
-    (end : Option FileFault) (old new : Inspection A) : Type 0 where
-  pub records : List Entry
-  pub noted : Notes t records old new
-  pub are : (octets : List ℕ) → told octets → HasRecords octets records end
+-- Octets have these records by the flows: all that they have, and the file is whole, or this is its
+-- first fault; or the first of them, as many as are counted.
+abbrev pub EndsBy : Option Flows → List ℕ → List Entry → Option ReadingFault → Type 0
+EndsBy flows octets records None =
+    (records_of_file flows octets ≡ records) × IsWholeFile octets
+EndsBy flows octets records (Some f) =
+    ((records_of_file flows octets ≡ records) × IsFileFault f octets)
+    ⊎ ((f ≡ Capture TooManyRecords) × (length records ≡ most_counted)
+    × AreFirst records (records_of_file flows octets))
 
--- ---- captures
+-- A file that is taken so has these records behind its text, up to this end.
+pub record HasRecords (w : Way) (octets : List ℕ) (records : List Entry)
+    (end : Option ReadingFault) : Type 0 where
+  pub text : List ℕ
+  pub has_text : HasFileText w octets text
+  pub ends : EndsBy (flows_in w) octets records end
 
--- the octets of a capture begin with a front, and have these records behind it
-pub record HasCapture (octets : List ℕ) (records : List Entry) (end : Option FileFault) : Type 0
-  where
-    pub text : List ℕ
-    pub rest : List ℕ
-    pub front : front_at octets ≡ Ok (text, rest)
-    pub behind : HasRecords rest records end
-
--- captures have these records, one capture's behind the other's: each all that it has, and the last
--- as many as it has up to this end
-abbrev pub HaveRecords : List (List ℕ) → List Entry → Option FileFault → Type 0
-HaveRecords [] records end = (records ≡ []) × (end ≡ None)
-HaveRecords (octets ∷ []) records end = HasCapture octets records end
-HaveRecords (octets ∷ (next ∷ captures)) records end =
+-- Files, each taken so, have these records, one file's behind the other's: each all that it has,
+-- and the last as many as it has up to this end.
+abbrev pub HaveRecords : List (Result Flows Refusal) → List (List ℕ) → List Entry
+    → Option ReadingFault → Type 0
+HaveRecords ways [] records end = (records ≡ []) × (end ≡ None)
+HaveRecords ways (octets ∷ []) records end = HasRecords (first_way ways) octets records end
+HaveRecords ways (octets ∷ (next ∷ files)) records end =
     (first : List Entry) × (others : List Entry) × (records ≡ first ++ others)
-    × HasCapture octets first None × HaveRecords (next ∷ captures) others end
+    × HasRecords (first_way ways) octets first None
+    × HaveRecords (other_ways ways) (next ∷ files) others end
 
--- what is looked for after captures, by what was begun with: that, or what the first one's text says
+-- ---- on the way there
+
+-- what is looked for behind files, by what was begun with: that, or what the first one's text says
 abbrev pub Settles : Option Target → List (List ℕ) → Option Target → Type 0
-Settles (Some t) captures after = after ≡ Some t
+Settles (Some t) files after = after ≡ Some t
 Settles None [] after = after ≡ None
-Settles None (octets ∷ captures) after =
-    (t : Target) × (after ≡ Some t) × Announces (capture_said octets) t
+Settles None (octets ∷ files) after =
+    (t : Target) × (after ≡ Some t) × Announces (text_of_file octets) t
+
+-- so behind one with this text
+abbrev pub SettlesBy : Option Target → List ℕ → Option Target → Type 0
+SettlesBy (Some t) text after = after ≡ Some t
+SettlesBy None text after = (t : Target) × (after ≡ Some t) × Announces text t
 
 -- what is looked for may be this
 abbrev pub MayBe : Option Target → Target → Type 0
 MayBe None t = ⊤
 MayBe (Some u) t = t ≡ u
 
--- Captures were noted, up to the end of the last or up to a fault of it.
-pub record NotesFiles {S A : Type 0} (told : S → List ℕ → Type 0) (captures : List S)
-    (end : Option FileFault) (before after : Option Target) (old new : Inspection A) : Type 0 where
-  pub settles : (octets : List (List ℕ)) → AllZip told captures octets
-      → Settles before octets after
-  pub noted : (octets : List (List ℕ)) → AllZip told captures octets → (t : Target)
-      → MayBe after t → (earlier : List Entry) → IsInspected t old earlier
-      → (records : List Entry) × HaveRecords octets records end
-      × IsInspected t new (earlier ++ records)
+-- Records more were noted, by what is looked for then.
+abbrev pub NotesMore : {A : Type 0} → Option Target → List Entry → Inspection A → Inspection A
+    → Type 0
+NotesMore after records old new = (t : Target) → MayBe after t → (earlier : List Entry)
+    → IsInspected t old earlier → IsInspected t new (earlier ++ records)
 
--- one capture was
-pub record NotesFile {A : Type 0} (told : List ℕ → Type 0) (end : Option FileFault)
+-- those of a file with this text were
+pub record NotesRecords {A : Type 0} (text : List ℕ) (records : List Entry)
     (before after : Option Target) (old new : Inspection A) : Type 0 where
-  pub settles : (octets : List ℕ) → told octets → Settles before (octets ∷ []) after
-  pub noted : (octets : List ℕ) → told octets → (t : Target) → MayBe after t
-      → (earlier : List Entry) → IsInspected t old earlier
-      → (records : List Entry) × HasCapture octets records end
-      × IsInspected t new (earlier ++ records)
+  pub settles : SettlesBy before text after
+  pub noted : NotesMore after records old new
 
--- all of them were, or as many as there are up to a fault
-abbrev pub NotesUpTo : {S A : Type 0} → (S → List ℕ → Type 0) → List S → Option FileFault
-    → Option Target → Option Target → Inspection A → Inspection A → Type 0
-NotesUpTo told captures None before after old new =
-    NotesFiles told captures None before after old new
-NotesUpTo told captures (Some f) before after old new =
-    (count : ℕ) × NotesFiles told (take count captures) (Some f) before after old new
+-- those of a file were that is taken so, up to this end
+pub record NotesFile {A : Type 0} (w : Way) (told : List ℕ → Type 0) (end : Option ReadingFault)
+    (before after : Option Target) (old new : Inspection A) : Type 0 where
+  pub records : List Entry
+  pub settles : (octets : List ℕ) → told octets → Settles before (octets ∷ []) after
+  pub noted : (octets : List ℕ) → told octets
+      → HasRecords w octets records end × NotesMore after records old new
+
+-- those of files were, up to the end of the last or up to a fault of it
+pub record NotesFiles {S A : Type 0} (ways : List (Result Flows Refusal))
+    (told : S → List ℕ → Type 0) (files : List S) (end : Option ReadingFault)
+    (before after : Option Target) (old new : Inspection A) : Type 0 where
+  pub records : List Entry
+  pub settles : (octets : List (List ℕ)) → AllZip told files octets → Settles before octets after
+  pub noted : (octets : List (List ℕ)) → AllZip told files octets
+      → HaveRecords ways octets records end × NotesMore after records old new
+
+-- those of all of them were, or of as many as there are up to a fault
+abbrev pub NotesUpTo : {S A : Type 0} → List (Result Flows Refusal) → (S → List ℕ → Type 0)
+    → List S → Option ReadingFault → Option Target → Option Target → Inspection A → Inspection A
+    → Type 0
+NotesUpTo ways told files None before after old new =
+    NotesFiles ways told files None before after old new
+NotesUpTo ways told files (Some f) before after old new =
+    (count : ℕ) × NotesFiles ways told (take count files) (Some f) before after old new

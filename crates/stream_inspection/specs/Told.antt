@@ -1,16 +1,18 @@
--- What is told of captures (own).
-use Rattle.std.specs.Prelude.{◌≡◌, ℕ, ◌⊎◌, ⊤, List, [], ◌∷◌, ◌++◌, slice_index, take, Option, None, Some}
+-- What is told of files (own).
+use Rattle.std.specs.Prelude.{◌≡◌, ℕ, ◌⊎◌, List, [], ◌∷◌, ◌++◌, slice_index, take, Option, None, Some}
+use Rattle.std.specs.Prelude.{Result}
 use Rattle.std.specs.List.{AllZip, flat_map}
+use Rattle.capture_engines.specs.Files.{fault_by}
 use Rattle.capture_engines.specs.Printed.{refusals}
-use Rattle.capture_engines.specs.Received.{IsCapturesRefusal}
-use Rattle.capture_engines.specs.Tallied.{Tallies, place_of}
-use Rattle.capture_engines.specs.declared.tally.Tally.{Tally}
+use Rattle.capture_engines.specs.Received.{IsFilesRefusal}
+use Rattle.path_receiver.specs.Tallied.{Tallies, place_of}
+use Rattle.path_receiver.specs.declared.tally.Tally.{Tally}
+use Rattle.flow.specs.declared.flows.Flows.{Flows}
 use Rattle.media_file.specs.Records.{Entry}
-use Rattle.media_file.specs.declared.fault.FileFault.{FileFault}
-use Rattle.media_file.specs.declared.fault.FileFault.TheVariants as file
-use Rattle.path_merge.specs.declared.answer.Refusal.{Refusal as Reason}
+use Rattle.path_receiver.specs.declared.answer.Refusal.{Refusal as Reason}
+use Rattle.recording_reader.specs.declared.fault.ReadingFault.{ReadingFault}
+use Rattle.run_outcome.specs.declared.fault.Fault.TheVariants as outcome
 use Rattle.run_outcome.specs.declared.refusal.Refusal.{Refusal}
-use Rattle.run_outcome.specs.declared.refusal.Refusal.TheVariants as refusal
 use Rattle.recording_counts.specs.Timestamps.{timestamps_of}
 use Rattle.recording_counts.specs.declared.stream.StreamCount.{StreamCount}
 use Rattle.recording_counts.specs.declared.timestamp.TimestampCount.{TimestampCount}
@@ -73,31 +75,32 @@ pub record IsText (form : Form) (t : Target) (records : List Entry) (text : List
       (told_streams (packets (arrivals_of t records)))
       (timestamps_of (packets (video_of t records))) sorted tally.refused (controls_of records)
 
--- What was printed is the text of the records of what was read of captures, up to this end, for what
--- is looked for.
-pub record Tells {S : Type 0} (w : Wanted) (form : Form) (told : S → List ℕ → Type 0)
-    (sdp : Option S) (captures : List S) (end : Option FileFault) (shown shown' : List ℕ) : Type 0
-  where
-    pub printed : (octets : List (List ℕ)) → AllZip told captures octets
-        → (t : Target) × IsTarget w told sdp octets t
-        × (records : List Entry) × HaveRecords octets records end
-        × (text : List ℕ) × IsText form t records text × (shown' ≡ shown ++ text)
+-- What was printed is the text of the records of what was read of files, each taken so, up to this
+-- end, for what is looked for.
+pub record Tells {S : Type 0} (w : Wanted) (form : Form) (sdp : Option (List ℕ))
+    (ways : List (Result Flows Refusal)) (told : S → List ℕ → Type 0) (files : List S)
+    (end : Option ReadingFault) (shown shown' : List ℕ) : Type 0 where
+  pub printed : (octets : List (List ℕ)) → AllZip told files octets
+      → (t : Target) × IsTarget w sdp octets t
+      × (records : List Entry) × HaveRecords ways octets records end
+      × (text : List ℕ) × IsText form t records text × (shown' ≡ shown ++ text)
 
 -- what is begun with, where something is
-abbrev pub begins : {S : Type 0} → Wanted → Option S → Option (Unit {0})
+abbrev pub begins : Wanted → Option (List ℕ) → Option (Unit {0})
 begins (wanted.Given t) sdp = Some tt
 begins wanted.Said None = None
-begins wanted.Said (Some s) = Some tt
+begins wanted.Said (Some text) = Some tt
 
--- The refusals. Nothing was printed: those of the SDP text that is read, or of the captures, as
--- `receive` refuses them. All was printed that came before: the first fault of a record.
-abbrev pub IsStreamsRefusal : {S : Type 0} → Wanted → Form → (S → List ℕ → Type 0) → Option S
-    → List S → List ℕ → List ℕ → Refusal → Type 0
-IsStreamsRefusal w form told sdp captures shown shown' r =
-    ((shown' ≡ shown) × (IsBeginRefusal w told sdp r
-    ⊎ IsCapturesRefusal (0 ∷ []) (begins w sdp) told captures r))
-    ⊎ ((f : FileFault) × (count : ℕ) × (r ≡ refusal.Capture f)
-    × Tells w form told sdp (take count captures) (Some f) shown shown')
+-- The refusals. Nothing was printed: those of the SDP text, or of the files, as `receive` refuses
+-- them. All was printed that came before: the fault of a file.
+abbrev pub IsStreamsRefusal : {S : Type 0} → Wanted → Form → Option (List ℕ)
+    → List (Result Flows Refusal) → (S → List ℕ → Type 0) → List S → List ℕ → List ℕ → Refusal
+    → Type 0
+IsStreamsRefusal w form sdp ways told files shown shown' r =
+    ((shown' ≡ shown) × (IsBeginRefusal w sdp r
+    ⊎ IsFilesRefusal (0 ∷ []) (begins w sdp) ways told files r))
+    ⊎ ((f : ReadingFault) × (count : ℕ) × (fault_by f ≡ outcome.Refused r)
+    × Tells w form sdp ways told (take count files) (Some f) shown shown')
 
 -- ---- on the way there
 
@@ -108,17 +111,10 @@ pub record Prints {A : Type 0} (form : Form) (t : Target) (i : Inspection A)
   pub is : (entries : List Entry) → IsInspected t i entries → IsText form t entries text
   pub printed : shown' ≡ shown ++ text
 
--- a fault is the content's
-abbrev pub IsContent : FileFault → Type 0
-IsContent file.NoMemory = ⊥
-IsContent file.Device = ⊥
-IsContent _ = ⊤
-
--- the refusal of an end: the fault of a record, and the text was printed
+-- the refusal of an end: the fault of a file, and the text was printed
 pub record IsEndRefusal {A : Type 0} (form : Form) (t : Target) (i : Inspection A)
-    (end : Option FileFault) (shown shown' : List ℕ) (r : Refusal) : Type 0 where
-  pub fault : FileFault
+    (end : Option ReadingFault) (shown shown' : List ℕ) (r : Refusal) : Type 0 where
+  pub fault : ReadingFault
   pub ended : end ≡ Some fault
-  pub content : IsContent fault
-  pub is : r ≡ refusal.Capture fault
+  pub is : fault_by fault ≡ outcome.Refused r
   pub printed : Prints form t i shown shown'

@@ -1,5 +1,5 @@
-//! What is counted of captures.
-ghost use Rattle.std.specs.Prelude.{◌≡◌, ◌∷◌, [], OnOk};
+//! What is counted of files.
+ghost use Rattle.std.specs.Prelude.{◌≡◌, ◌∷◌, [], OnOk, option_to_list};
 ghost use Rattle.stream_inspection.specs.Inspected.{IsInspected, Notes, NotesPacket, entry};
 ghost use Rattle.stream_inspection.specs.Arrivals.{arrival};
 ghost use Rattle.stream_inspection.specs.declared.target.Target.{Target as TargetValue};
@@ -8,13 +8,13 @@ use crate::looking::{Look, is_control, look_at};
 use crate::probes::ProbeTable;
 use crate::stream_tables::StreamTables;
 use crate::target::Target;
-use capture_engines::Tally;
-use path_merge::Observer;
+use path_receiver::{Observer, Tally};
 use recording_counts::{Packet, TimestampTable};
-use st_format::Path;
+use recording_reader::DatagramReader;
+use st_format::{ByteSource, Path};
 use std::alloc::{AllocError, Allocator};
 
-/// What is counted of the datagrams of captures.
+/// What is counted of the datagrams of files.
 #[derive(Drop)]
 pub struct Inspection<A: Allocator> {
     /// The streams of RTP.
@@ -43,8 +43,27 @@ impl<A: Allocator + Copy> Inspection<A> {
         }
     }
 
-    /// Notes one more datagram, by the path by which it came and the moment, in nanoseconds, 0 where
-    /// none is known.
+    /// Notes the datagram that a reader has at hand, where it has one.
+    ///
+    /// # Errors
+    ///
+    /// That memory was wanted.
+    pub(crate) fn note_at_hand<B: Allocator, S: ByteSource>(
+        &mut self,
+        target: &Target,
+        reader: &DatagramReader<B, S>,
+    ) -> Result<(), AllocError>
+        ensures { OnOk result (Notes target.now (option_to_list reader.now.at_hand) self.old
+            self.new) }
+    {
+        match reader.record() {
+            Some(record) => self.note(target, record.path, record.moment, record.octets),
+            None => Ok(()),
+        }
+    }
+
+    /// Notes one more datagram, by the path by which it came and the moment, in nanoseconds, 0
+    /// where none is known.
     ///
     /// # Errors
     ///

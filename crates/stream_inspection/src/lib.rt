@@ -3,7 +3,7 @@
 //! text.
 #![tactic(auto)]
 
-mod captures;
+mod files;
 mod inspecting;
 mod inspection;
 mod looking;

@@ -5,7 +5,7 @@ ghost use Rattle.stream_inspection.specs.Arrivals.{packet_of};
 ghost use Rattle.rtp_header.specs.Views.{seen_rtp};
 
 use crate::target::Target;
-use path_merge::{Refusal, Taken};
+use path_receiver::{Refusal, Taken};
 use payload_header::read_payload;
 use recording_counts::Packet;
 use rtp_header::{RtpView, read_rtp};
@@ -19,8 +19,8 @@ pub(crate) struct Look {
     pub(crate) packet: Option<Packet>,
 }
 
-/// Whether a datagram is one of RTCP: of version 2, and with a packet type from 200 to 204 where RTP
-/// has the marker and the payload type (RFC 5761, 4).
+/// Whether a datagram is one of RTCP: of version 2, and with a packet type from 200 to 204 where
+/// RTP has the marker and the payload type (RFC 5761, 4).
 pub(crate) fn is_control(octets: &[u8]) -> bool
     ensures { result ≡ is_control octets.now }
 {

@@ -4,7 +4,7 @@ ghost use Rattle.stream_inspection.specs.Columns.{column_text};
 ghost use Rattle.stream_inspection.specs.Json.{json_text};
 
 use crate::values::{Commas, Letter, Null, NullSkew, Skew, Truth, Wide, Yes};
-use path_merge::Refusal;
+use path_receiver::Refusal;
 use recording_counts::{StreamKey, TimestampKey};
 use st_format::Path;
 use std::fmt;

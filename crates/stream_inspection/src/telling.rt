@@ -12,7 +12,7 @@ use crate::streams::put_streams;
 use crate::target::Target;
 use crate::text::{Form, put, put_row};
 use crate::timestamps::{put_timestamps, window_of};
-use capture_engines::refusal_at;
+use path_receiver::{REFUSAL_COUNT, refusal_at};
 use std::alloc::{AllocError, Allocator};
 
 /// What was counted, as text.
@@ -55,12 +55,12 @@ pub(crate) fn text_of<A: Allocator + Copy>(
 fn put_refusals<A: Allocator>(
     text: &mut Vec<u8, A>,
     form: Form,
-    refused: &[u64; 14],
+    refused: &[u64; REFUSAL_COUNT],
 ) -> Result<(), AllocError>
     ensures { OnOk result (text.new.items ≡ text.old.items
         ++ refusals_text form refused.now) }
 {
-    for place in 0..14 {
+    for place in 0..REFUSAL_COUNT {
         let count = refused[place];
         put_counted(text, form, Row::Refused(refusal_at(place), count), count)?;
     }

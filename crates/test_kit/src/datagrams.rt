@@ -1,5 +1,5 @@
 //! Datagrams of one to three segments (RFC 4175, 4.1), and a receiver that takes some.
-use path_merge::{OpenFault, Receiver};
+use path_receiver::{OpenFault, Receiver};
 use st_format::{Format, Path};
 use std::alloc::{AllocError, Global};
 

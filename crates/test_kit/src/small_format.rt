@@ -1,6 +1,6 @@
 //! F1, its datagrams, and what is counted of its frames.
 use frame_assembly::Counts;
-use path_merge::Receiver;
+use path_receiver::Receiver;
 use st_format::{Depth, Format, FormatFault, Sampling};
 use std::alloc::Allocator;
 

@@ -1,6 +1,6 @@
 //! A frame as a list of cells, one for each sample in the order in which they are sent: no packed
 //! rows and no mark words.
-use path_merge::Receiver;
+use path_receiver::Receiver;
 use st_format::{Cell, Format, Sampling};
 use std::alloc::Global;
 use test_programs::Fault;

@@ -5,7 +5,7 @@ use crate::hostile_lines::any_format;
 use crate::plain::Plain;
 use crate::reading::{Opening, Wanted};
 use crate::text::Text;
-use path_merge::{Receiver, Refusal, Taken};
+use path_receiver::{Receiver, Refusal, Taken};
 use st_format::Path;
 use std::alloc::Global;
 use test_programs::{Fault, Generator};

@@ -18,21 +18,22 @@ const SECTION: u64 = 0x0a0d_0d0a;
 /// The octets that a block has at most (own).
 const MOST: u64 = 0x0100_0000;
 
-/// An interface: its link layer, how much of a packet is kept, units of time in a second, and the
-/// seconds that belong to its times.
+/// An interface: its link layer, how much of a packet is kept, units of time in a second, the
+/// seconds that belong to its times, and the text that is said to be its name.
 #[derive(Clone, Copy)]
-struct Interface {
+struct Interface<'a> {
     link: u64,
     snap: u64,
     per_second: u64,
     offset: i64,
+    name: Option<&'a [u8]>,
 }
 
 /// The order of a section's numbers, and its first interfaces.
 #[derive(Drop)]
-struct Section {
+struct Section<'a> {
     order: Order,
-    interfaces: Vec<Interface>,
+    interfaces: Vec<Interface<'a>>,
 }
 
 /// A block: its type, its body, and where the next one begins.
@@ -137,7 +138,7 @@ fn other_block(octets: &[u8], at: usize, room: u64, order: Order) -> Result<Bloc
 /// Notes the interface of a block, or puts its packet behind.
 fn enter<'a>(
     block: &Block<'a>,
-    section: &mut Section,
+    section: &mut Section<'a>,
     reading: &mut Reading<'a>,
 ) -> Result<(), u8> {
     let order = section.order;
@@ -208,21 +209,36 @@ fn offset(value: Option<&[u8]>, order: Order) -> Option<i64> {
     }
 }
 
+/// The text that an option says: up to the first zero.
+fn text(value: Option<&[u8]>) -> Option<&[u8]> {
+    let value = value?;
+    let mut end = 0usize;
+    for octet in value {
+        if *octet == 0 {
+            break;
+        }
+        end = end.wrapping_add(1);
+    }
+    value.get(..end)
+}
+
 /// The interface that a description block's body tells, or the number of its fault.
-fn described(body: &[u8], order: Order) -> Result<Interface, u8> {
+fn described(body: &[u8], order: Order) -> Result<Interface<'_>, u8> {
     let options = body.get(8..).ok_or(BAD_BLOCK)?;
     let per_second = units(option(options, 9, order)?).ok_or(BAD_INTERFACE)?;
     let offset = offset(option(options, 14, order)?, order).ok_or(BAD_INTERFACE)?;
+    let name = option(options, 2, order)?;
     Ok(Interface {
         link: word(body, 0, order),
         snap: long(body, 4, order),
         per_second,
         offset,
+        name: text(name),
     })
 }
 
 /// Nanoseconds since 1970; `None` where they are below 0 or don't fit 64 bits.
-fn time(units: u64, interface: &Interface) -> Option<u64> {
+fn time(units: u64, interface: &Interface<'_>) -> Option<u64> {
     let since = i128::from(units).wrapping_mul(1_000_000_000);
     let since = since.checked_div(i128::from(interface.per_second))?;
     let offset = i128::from(interface.offset).wrapping_mul(1_000_000_000);
@@ -230,13 +246,13 @@ fn time(units: u64, interface: &Interface) -> Option<u64> {
 }
 
 /// The interface of this number in a section, or the fault of there being none.
-fn interface_of(section: &Section, number: u64) -> Result<Interface, u8> {
+fn interface_of<'a>(section: &Section<'a>, number: u64) -> Result<Interface<'a>, u8> {
     let place = usize::try_from(number).unwrap_or(usize::MAX);
     section.interfaces.get(place).copied().ok_or(BAD_INTERFACE)
 }
 
 /// The packet of a body, with its time, of the interface of a number.
-fn stamped<'a>(body: &'a [u8], number: u64, section: &Section) -> Result<Recorded<'a>, u8> {
+fn stamped<'a>(body: &'a [u8], number: u64, section: &Section<'a>) -> Result<Recorded<'a>, u8> {
     let order = section.order;
     part(body, 0, 20, BAD_BLOCK)?;
     let octets = part(body, 20, long(body, 12, order), BAD_BLOCK)?;
@@ -247,11 +263,12 @@ fn stamped<'a>(body: &'a [u8], number: u64, section: &Section) -> Result<Recorde
         link: interface.link,
         octets,
         original: long(body, 16, order),
+        name: interface.name,
     })
 }
 
 /// The packet of a body, without its time, of the first interface.
-fn simple<'a>(body: &'a [u8], section: &Section) -> Result<Recorded<'a>, u8> {
+fn simple<'a>(body: &'a [u8], section: &Section<'a>) -> Result<Recorded<'a>, u8> {
     part(body, 0, 4, BAD_BLOCK)?;
     let original = long(body, 0, section.order);
     let interface = interface_of(section, 0)?;
@@ -265,5 +282,6 @@ fn simple<'a>(body: &'a [u8], section: &Section) -> Result<Recorded<'a>, u8> {
         link: interface.link,
         octets: part(body, 4, kept, BAD_BLOCK)?,
         original,
+        name: interface.name,
     })
 }

@@ -6,6 +6,7 @@ use crate::datagram_reading::{self, Said};
 use crate::hostile::write;
 use crate::reading::{self, Reading, Recorded};
 use crate::text::Text;
+use interface_name::InterfaceName;
 use pcap_file::{DatagramView, NoDatagram, Packet, next_packet, open_recording, packet_datagram};
 use st_format::memory::MemorySource;
 use std::alloc::Global;
@@ -55,6 +56,11 @@ fn is_said(found: &Result<DatagramView<'_>, NoDatagram>, wanted: &Result<Said<'_
     }
 }
 
+/// The name that a text is, where there is a text.
+fn name_of(text: Option<&[u8]>) -> Option<InterfaceName> {
+    InterfaceName::read(text?)
+}
+
 /// Whether a packet, its octets in a buffer, is the one that is wanted, and its datagram too.
 fn is_recorded(packet: &Packet, buf: &[u8], wanted: &Recorded<'_>, totals: &mut Totals) -> bool {
     let head = &packet.head;
@@ -73,6 +79,7 @@ fn is_recorded(packet: &Packet, buf: &[u8], wanted: &Recorded<'_>, totals: &mut 
         && head.time == wanted.time
         && u64::from(head.link) == wanted.link
         && u64::from(head.original) == wanted.original
+        && head.interface == name_of(wanted.name)
         && is_said(&found, &said)
 }
 

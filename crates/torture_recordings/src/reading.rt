@@ -18,13 +18,14 @@ pub const TOO_LONG: u8 = 9;
 const PACKED: u8 = 10;
 
 /// A packet: nanoseconds since 1970, where they are said, its link layer, the octets that were
-/// kept, and how many there were.
+/// kept, how many there were, and the text that is said to be the name of its interface.
 #[derive(Clone, Copy)]
 pub struct Recorded<'a> {
     pub time: Option<u64>,
     pub link: u64,
     pub octets: &'a [u8],
     pub original: u64,
+    pub name: Option<&'a [u8]>,
 }
 
 /// The packets of a recording, some missing where memory was refused, and the fault behind them; 0
@@ -111,6 +112,7 @@ fn read_pcap<'a>(
             link,
             octets: packet,
             original: long(head, 12, order),
+            name: None,
         });
     }
     Ok(())

@@ -1,90 +1,33 @@
--- What was found of one capture.
-use Rattle.std.proofs.Common.{◌≡◌, ℕ, ◌≤◌, List, [], ◌∷◌, ◌++◌, length, Option, None, Some}
+-- What was found of one file.
+use Rattle.std.proofs.Common.{◌≡◌, ℕ, ◌≤◌, ◌⊎◌, List, [], ◌∷◌, ◌++◌, length, Option, None, Some}
 use Rattle.std.proofs.Common.{Result, Ok, Err, inl, inr, refl, sym, ap, subst, ◌∙◌, append_assoc}
-use Rattle.std.proofs.Common.{take, zero, suc}
-use Rattle.std.specs.Prelude.{IfOk, MatchOption, OnOk}
-use Rattle.capture_engines.specs.Received.{HasBehind}
-use Rattle.capture_engines.specs.Taking.{capture_datagrams, capture_said, datagrams_behind}
-use Rattle.capture_engines.specs.Taking.{said_before, said_behind}
-use Rattle.capture_engines.proofs.CaptureRuns.{read_all}
-use Rattle.capture_engines.proofs.Taken.{HasText}
-use Rattle.capture_engines.proofs.ReceivedRefusals.{text_read}
-use Rattle.st_format.specs.Given.{GaveValue}
-use Rattle.media_file.specs.Fronts.{front_at}
-use Rattle.media_file.specs.Given.{HasGiven}
-use Rattle.media_file.specs.Reader.{dues_in}
-use Rattle.media_file.specs.declared.reader.Standing.{Standing}
-use Rattle.st_format.specs.Device.{Told}
-use Rattle.st_format.specs.History.{GrewFrom, IsRead}
-use Rattle.st_format.specs.Turns.{datagrams_of}
+use Rattle.std.proofs.Common.{append-nil, take, zero, suc}
+use Rattle.std.proofs.lemmas.List.{map-append}
+use Rattle.std.specs.Prelude.{IfOk, MatchOption, OnOk, ⊤}
+use Rattle.flow.specs.declared.flows.Flows.{Flows}
+use Rattle.media_file.specs.Records.{Entry}
+use Rattle.recording_reader.specs.FileReader.{FileReader, FindsOne, HasGivenFile, IsKnownBy}
+use Rattle.recording_reader.specs.FileReader.{octets_at_hand}
+use Rattle.recording_reader.specs.Files.{AreFirst, records_of_file}
+use Rattle.recording_reader.specs.declared.way.Standing.{Standing}
+use Rattle.recording_reader.specs.declared.way.Standing.TheVariants.{Reads}
+use Rattle.run_outcome.specs.Refusing.{OfRefusal}
+use Rattle.run_outcome.specs.declared.fault.Fault.{Fault}
+use Rattle.run_outcome.specs.declared.refusal.Refusal.{Refusal}
+use Rattle.st_format.specs.History.{IsRead}
+use Rattle.capture_engines.specs.Files.{file_datagrams, flows_in, octets_of}
+use Rattle.capture_engines.specs.Stopping.{IsReadingStop}
+use Rattle.capture_engines.specs.Taking.{said_behind, said_by}
+use Rattle.capture_engines.specs.declared.way.Way.{Way}
+use Rattle.capture_engines.proofs.Readings.{ended_has, file_goes, said_same}
 use Rattle.window_finding.specs.Finding.{AnnouncesType, FindsBy, FindsFile, FindsRecords, Stands}
 use Rattle.window_finding.specs.First.{first_timestamps}
-use Rattle.window_finding.specs.Turns.{IsDone, datagrams_in}
+use Rattle.window_finding.specs.Turns.{IsDone, IsStop}
 use Rattle.window_finding.specs.declared.finder.Finder.{Finder}
 use Rattle.window_finding.specs.declared.finder.Sought.{Sought}
 use Rattle.window_finding.proofs.Noted.{first_full}
-use Rattle.window_finding.proofs.Reading.{datagrams_front}
 
--- ---- records
-
--- by what a finder sought, a list of timestamps is the first of these datagrams
-abbrev IsFirst : {A : Type 0} → Finder A → List ℕ → List (List ℕ) → Type 0
-IsFirst b w ds = w ≡ first_timestamps b.sought.count b.payload_type b.sought.ssrc ds
-
-done_finds : {A : Type 0} (b a : Finder A) (s : Standing) (told : Told) (left : Option (List ℕ))
-    (gave : List ℕ) (ended : Type 0) → IsDone s (b.sought.count ≤ length a.window.items)
-    → HasGiven s told left gave ended
-    → ((ds : List (List ℕ)) → IsFirst b b.window.items ds
-    → IsFirst b a.window.items (ds ++ datagrams_in told.gave gave))
-    → (octets : List ℕ) (ds : List (List ℕ)) → IsRead told.gave gave ended octets
-    → IsFirst b b.window.items ds
-    → IsFirst b a.window.items (ds ++ datagrams_of (dues_in octets))
-done_finds b a s told left gave ended (inl is) given finds octets ds q first =
-    let over : ended = (subst (λ (x : Standing). HasGiven x told left gave ended) is given).1 in
-    subst (λ (l : List ℕ). IsFirst b a.window.items (ds ++ datagrams_of (dues_in l)))
-    (sym (read_all told.gave gave octets ended q over)) (finds ds first)
-done_finds b a s told left gave ended (inr is) given finds octets ds q first =
-    let front : (rest : List (List ℕ))
-    × (datagrams_of (dues_in octets) ≡ datagrams_in told.gave gave ++ rest) =
-    datagrams_front told left gave ended
-    (subst (λ (x : Standing). HasGiven x told left gave ended) is.0 given) octets q in
-    subst (λ (l : List (List ℕ)). IsFirst b a.window.items l)
-    (append_assoc ds (datagrams_in told.gave gave) front.0
-    ∙ ap (λ (l : List (List ℕ)). ds ++ l) (sym front.1))
-    (first_full b.sought.count b.payload_type b.sought.ssrc
-    (ds ++ datagrams_in told.gave gave) front.0 a.window.items (finds ds first) is.1)
-
-records_found : {A : Type 0} (b a : Finder A) (s : Standing) (told : Told)
-    (left : Option (List ℕ)) (gave : List ℕ) (ended : Type 0) → a.sought ≡ b.sought
-    → a.payload_type ≡ b.payload_type
-    → IsDone s (b.sought.count ≤ length a.window.items)
-    → HasGiven s told left gave ended
-    → ((ds : List (List ℕ)) → IsFirst b b.window.items ds
-    → IsFirst b a.window.items (ds ++ datagrams_in told.gave gave))
-    → FindsRecords (IsRead told.gave gave ended) b a
-records_found b a s told left gave ended sought payload_type done given finds = record {
-  sought = sought;
-  payload_type = payload_type;
-  finds = λ octets ds q first.
-      done_finds b a s told left gave ended done given finds octets ds q first;
-}
-
--- of a reader that was new when its source told this
-pub records_found_if : {A V E : Type 0} (b a : Finder A) (s : Standing) (kept told : Told)
-    (left : Option (List ℕ)) (gave : List ℕ) (ended : Type 0) (r : Result V E) → kept ≡ told
-    → a.sought ≡ b.sought → a.payload_type ≡ b.payload_type
-    → HasGiven s kept left gave ended
-    → OnOk r (IsDone s (b.sought.count ≤ length a.window.items))
-    → OnOk r ((ds : List (List ℕ)) → IsFirst b b.window.items ds
-    → IsFirst b a.window.items (ds ++ datagrams_in kept.gave gave))
-    → OnOk r (FindsRecords (IsRead told.gave gave ended) b a)
-records_found_if b a s kept told left gave ended (Ok v) same sought payload_type given done finds =
-    subst (λ (t : Told). FindsRecords (IsRead t.gave gave ended) b a) same
-    (records_found b a s kept left gave ended sought payload_type done given finds)
-records_found_if b a s kept told left gave ended (Err e) same sought payload_type given done finds =
-    tt
-
--- ---- turns
+-- ---- datagrams
 
 -- the first timestamps, by what is sought
 abbrev first_by : Sought → ℕ → List (List ℕ) → List ℕ
@@ -105,131 +48,181 @@ turn_found p q s t w w' ds came came' d sought type more noted is =
     ∙ ap (λ (l : List (List ℕ)). first_by p s l)
     (append_assoc ds came (d ∷ []) ∙ ap (λ (l : List (List ℕ)). ds ++ l) (sym more))
 
--- ---- a capture
+-- where no record was read
+pub none_came : {A : Type 0} (b : Finder A) (ds : List (List ℕ)) (records : List Entry)
+    → records ≡ [] → b.window.items ≡ first_by b.sought b.payload_type ds
+    → b.window.items ≡ first_by b.sought b.payload_type (ds ++ octets_of records)
+none_came b ds records none is =
+    is
+    ∙ ap (first_by b.sought b.payload_type)
+    (sym (ap (λ (es : List Entry). ds ++ octets_of es) none ∙ append-nil ds))
 
-found_by : {A : Type 0} (o : Sought) (b a : Finder A) (told left : List ℕ → Type 0)
-    (text octets said : List ℕ) (ds : List (List ℕ)) → HasText told left text
-    → FindsRecords left b a → told octets
-    → FindsBy o said b ds → FindsBy o said a (ds ++ capture_datagrams octets)
-found_by {A} o b a told left text octets said ds gives found is before =
-    let f : (rest : List ℕ) × left rest × (front_at octets ≡ Ok (text, rest)) = gives octets is in
-    let more : List (List ℕ) = datagrams_of (dues_in f.0) in
-    let same : capture_datagrams octets ≡ more = ap datagrams_behind f.2 in
-    let first : List (List ℕ) → Sought → ℕ → List ℕ =
-    λ (l : List (List ℕ)) (p : Sought) (type : ℕ). first_timestamps p.count type p.ssrc l in
-    subst (λ (xs : List (List ℕ)). FindsBy o said a (ds ++ xs)) (sym same) (record {
-      sought = found.sought ∙ before.sought;
-      announced =
-          subst (λ (n : ℕ). AnnouncesType said n) (sym found.payload_type) before.announced;
-      first =
-          found.finds f.0 ds f.1
-          (before.first
-          ∙ ap (λ (p : Sought). first ds p b.payload_type) (sym before.sought))
-          ∙ ap (λ (p : Sought). first (ds ++ more) p b.payload_type) before.sought
-          ∙ ap (λ (n : ℕ). first (ds ++ more) o n) (sym found.payload_type);
-    })
+-- the datagrams of one record more
+pub record_came : {S : Type 0} (old new : FileReader S) (octets : List ℕ) → FindsOne old new
+    → octets ≡ octets_at_hand new.at_hand
+    → octets_of new.records ≡ octets_of old.records ++ octets ∷ []
+record_came old new octets found is =
+    let one : octets ≡ found.entry.octets = is ∙ ap octets_at_hand found.at_hand in
+    ap octets_of found.records
+    ∙ map-append (λ (e : Entry). e.octets) old.records (found.entry ∷ [])
+    ∙ ap (λ (l : List ℕ). octets_of old.records ++ l ∷ []) (sym one)
+
+-- by what a finder sought, a list of timestamps is the first of these datagrams
+abbrev pub IsFirst : {A : Type 0} → Finder A → List ℕ → List (List ℕ) → Type 0
+IsFirst b w ds = w ≡ first_by b.sought b.payload_type ds
+
+-- those of more datagrams were found
+pub record FindsMore {A : Type 0} (xs : List (List ℕ)) (b a : Finder A) : Type 0 where
+  pub sought : a.sought ≡ b.sought
+  pub payload_type : a.payload_type ≡ b.payload_type
+  pub finds : (ds : List (List ℕ)) → IsFirst b b.window.items ds
+      → IsFirst b a.window.items (ds ++ xs)
+
+-- ---- a file
+
+found_by : {A : Type 0} (o : Sought) (said : List ℕ) (b a : Finder A)
+    (xs ds : List (List ℕ)) → FindsMore xs b a → FindsBy o said b ds
+    → FindsBy o said a (ds ++ xs)
+found_by o said b a xs ds found before = record {
+  sought = found.sought ∙ before.sought;
+  announced = subst (λ (n : ℕ). AnnouncesType said n) (sym found.payload_type) before.announced;
+  first =
+      found.finds ds
+      (before.first ∙ ap (λ (p : Sought). first_by p b.payload_type ds) (sym before.sought))
+      ∙ ap (λ (p : Sought). first_by p b.payload_type (ds ++ xs)) before.sought
+      ∙ ap (λ (n : ℕ). first_by o n (ds ++ xs)) (sym found.payload_type);
+}
 
 -- so one that had begun by a text stands by it
-stands_by : {A : Type 0} (o : Sought) (b a : Finder A) (told left : List ℕ → Type 0)
-    (text octets : List ℕ) (said : Option (List ℕ)) (ds : List (List ℕ))
-    → HasText told left text → FindsRecords left b a → told octets
-    → Stands o (Some b) said ds
-    → Stands o (Some a) (said_behind said (octets ∷ [])) (ds ++ capture_datagrams octets)
-stands_by o b a told left text octets None ds gives found is stands = absurd stands
-stands_by o b a told left text octets (Some said) ds gives found is stands =
-    found_by o b a told left text octets said ds gives found is stands
+stands_by : {A : Type 0} (o : Sought) (text : List ℕ) (b a : Finder A) (xs : List (List ℕ))
+    → FindsMore xs b a → (said : Option (List ℕ)) (ds : List (List ℕ))
+    → Stands o (Some b) said ds → Stands o (Some a) (said_by said text) (ds ++ xs)
+stands_by o text b a xs found None ds stands = absurd stands
+stands_by o text b a xs found (Some said) ds stands = found_by o said b a xs ds found stands
 
--- one that began with the capture stands by the capture's text
-begun_by : {A : Type 0} (o : Sought) (b a : Finder A) (told left : List ℕ → Type 0)
-    (text octets : List ℕ) (said : Option (List ℕ)) (ds : List (List ℕ))
-    → HasText told left text → FindsRecords left b a → told octets
-    → FindsBy o text b [] → Stands {A = A} o None said ds
-    → Stands o (Some a) (said_behind said (octets ∷ [])) (ds ++ capture_datagrams octets)
-begun_by o b a told left text octets (Some said) ds gives found is begun stands = absurd stands
-begun_by o b a told left text octets None ds gives found is begun stands =
-    let f : (rest : List ℕ) × left rest × (front_at octets ≡ Ok (text, rest)) = gives octets is in
-    let same : capture_said octets ≡ text = ap said_before f.2 in
-    subst (λ (t : List ℕ). FindsBy o t a (ds ++ capture_datagrams octets)) (sym same)
-    (found_by o b a told left text octets text ds gives found is
-    (subst (λ (xs : List (List ℕ)). FindsBy o text b xs) (sym stands) begun))
+-- one that began with the file stands by its text
+begun_by : {A : Type 0} (o : Sought) (text : List ℕ) (b a : Finder A) (xs : List (List ℕ))
+    → FindsMore xs b a → FindsBy o text b [] → (said : Option (List ℕ)) (ds : List (List ℕ))
+    → Stands {A = A} o None said ds → Stands o (Some a) (said_by said text) (ds ++ xs)
+begun_by o text b a xs found begun (Some said) ds stands = absurd stands
+begun_by o text b a xs found begun None ds stands =
+    found_by o text b a xs ds found
+    (subst (λ (l : List (List ℕ)). FindsBy o text b l) (sym stands) begun)
 
-file_found : {A : Type 0} (o : Sought) (b a : Finder A) (told left : List ℕ → Type 0)
-    (text : List ℕ) → HasText told left text → FindsRecords left b a
-    → FindsFile o told (Some b) (Some a)
-file_found o b a told left text gives found = record {
-  stands = λ octets said ds is stands.
-      stands_by o b a told left text octets said ds gives found is stands;
-}
+pub records_found : {A : Type 0} (o : Sought) (text : List ℕ) (begun : Option (Finder A))
+    (b a : Finder A) (xs : List (List ℕ)) → begun ≡ Some b → FindsMore xs b a
+    → FindsRecords o text xs begun (Some a)
+records_found {A} o text begun b a xs is found =
+    subst (λ (s : Option (Finder A)). FindsRecords o text xs s (Some a)) (sym is) (record {
+      stands = λ said ds stands. stands_by o text b a xs found said ds stands;
+    })
 
-first_found : {A : Type 0} (o : Sought) (b a : Finder A) (told left : List ℕ → Type 0)
-    (text : List ℕ) → HasText told left text → FindsRecords left b a → FindsBy o text b []
-    → FindsFile o told None (Some a)
-first_found o b a told left text gives found begun = record {
-  stands = λ octets said ds is stands.
-      begun_by o b a told left text octets said ds gives found is begun stands;
-}
+pub first_found : {A : Type 0} (o : Sought) (text : List ℕ) (begun : Option (Finder A))
+    (b a : Finder A) (xs : List (List ℕ)) → begun ≡ None → FindsBy o text b []
+    → FindsMore xs b a → FindsRecords o text xs begun (Some a)
+first_found {A} o text begun b a xs is opened found =
+    subst (λ (s : Option (Finder A)). FindsRecords o text xs s (Some a)) (sym is) (record {
+      stands = λ said ds stands. begun_by o text b a xs found opened said ds stands;
+    })
 
--- the same where all of it went well
-pub file_found_if : {A V E : Type 0} (o : Sought) (begun : Option (Finder A)) (b a : Finder A)
-    (left : List ℕ → Type 0) (text : List ℕ) (r : Result V E) → begun ≡ Some b
-    → OnOk r (FindsRecords left b a) → OnOk r (FindsFile o (HasBehind left text) begun (Some a))
-file_found_if {A = A} o begun b a left text (Ok v) is found =
-    subst (λ (s : Option (Finder A)). FindsFile o (HasBehind left text) s (Some a)) (sym is)
-    (file_found o b a (HasBehind left text) left text (λ octets is. is) found)
-file_found_if o begun b a left text (Err e) is found = tt
+-- ---- where all are found
 
-pub first_found_if : {A V E : Type 0} (o : Sought) (begun : Option (Finder A)) (b a : Finder A)
-    (left : List ℕ → Type 0) (text : List ℕ) (r : Result V E) → begun ≡ None
-    → FindsBy o text b [] → OnOk r (FindsRecords left b a)
-    → OnOk r (FindsFile o (HasBehind left text) begun (Some a))
-first_found_if {A = A} o begun b a left text (Ok v) is opened found =
-    subst (λ (s : Option (Finder A)). FindsFile o (HasBehind left text) s (Some a)) (sym is)
-    (first_found o b a (HasBehind left text) left text (λ octets is. is) found opened)
-first_found_if o begun b a left text (Err e) is opened found = tt
+-- as many were found as are sought
+abbrev pub IsFull : {A : Type 0} → Option (Finder A) → Type 0
+IsFull begun = MatchOption begun ⊥ (λ s. s.sought.count ≤ length s.window.items)
 
--- what is said of all such captures is said of one that was read
-file_read_if : {A V E : Type 0} (o : Sought) (told left : List ℕ → Type 0) (text : List ℕ)
-    (b a : Option (Finder A)) (r : Result V E) → HasText told left text
-    → OnOk r (FindsFile o (HasBehind left text) b a) → OnOk r (FindsFile o told b a)
-file_read_if o told left text b a (Ok v) gives found = record {
-  stands = λ octets said ds is stands. found.stands octets said ds (gives octets is) stands;
-}
-file_read_if o told left text b a (Err e) gives found = tt
-
-pub found_read : {S A V E : Type 0} (o : Sought) (gave : S → List ℕ) (ended : S → Type 0)
-    (old new now : S) (mid text : List ℕ) (b a : Option (Finder A)) (r : Result V E) → new ≡ now
-    → GaveValue front_at (gave old) mid text → GrewFrom mid (gave now)
-    → OnOk r (FindsFile o (HasBehind (IsRead mid (gave now) (ended now)) text) b a)
-    → OnOk r (FindsFile o (IsRead (gave old) (gave new) (ended new)) b a)
-found_read {S} o gave ended old new now mid text b a r same g grew found =
-    subst (λ (s : S). OnOk r (FindsFile o (IsRead (gave old) (gave s) (ended s)) b a)) (sym same)
-    (file_read_if o (IsRead (gave old) (gave now) (ended now))
-    (IsRead mid (gave now) (ended now)) text b a r
-    (text_read (gave old) mid (gave now) text (ended now) g grew) found)
-
--- ---- a capture that is not looked at
-
-full_stands : {A : Type 0} (o : Sought) (s : Finder A) (octets : List ℕ)
-    (said : Option (List ℕ)) (ds : List (List ℕ)) → s.sought.count ≤ length s.window.items
-    → Stands o (Some s) said ds
-    → Stands o (Some s) (said_behind said (octets ∷ [])) (ds ++ capture_datagrams octets)
-full_stands o s octets None ds full stands = absurd stands
-full_stands o s octets (Some said) ds full stands = record {
+full_on : {A : Type 0} (o : Sought) (a : Option (Finder A)) (said : Option (List ℕ))
+    (ds more : List (List ℕ)) → IsFull a → Stands o a said ds → Stands o a said (ds ++ more)
+full_on o None said ds more full stands = absurd full
+full_on o (Some s) None ds more full stands = absurd stands
+full_on o (Some s) (Some said) ds more full stands = record {
   sought = stands.sought;
   announced = stands.announced;
   first =
-      first_full o.count s.payload_type o.ssrc ds (capture_datagrams octets) s.window.items
-      stands.first
+      first_full o.count s.payload_type o.ssrc ds more s.window.items stands.first
       (subst (λ (p : Sought). p.count ≤ length s.window.items) stands.sought full);
 }
 
-pub full_found : {A : Type 0} (o : Sought) (told : List ℕ → Type 0) (begun : Option (Finder A))
-    → MatchOption begun ⊥ (λ s. s.sought.count ≤ length s.window.items)
-    → FindsFile o told begun begun
-full_found o told None full = absurd full
-full_found o told (Some s) full = record {
-  stands = λ octets said ds known stands. full_stands o s octets said ds full stands;
+-- a file that is not looked at
+full_stays : {A : Type 0} (o : Sought) (s : Finder A) (octets : List ℕ)
+    (said : Option (List ℕ)) (ds more : List (List ℕ)) → IsFull (Some s)
+    → Stands o (Some s) said ds → Stands o (Some s) (said_behind said (octets ∷ [])) (ds ++ more)
+full_stays o s octets None ds more full stands = absurd stands
+full_stays o s octets (Some said) ds more full stands =
+    full_on o (Some s) (Some said) ds more full stands
+
+pub full_found : {A : Type 0} (o : Sought) (w : Way) (told : List ℕ → Type 0)
+    (begun : Option (Finder A)) → IsFull begun → FindsFile o w told begun begun
+full_found o w told None full = absurd full
+full_found o w told (Some s) full = record {
+  stands = λ octets said ds known stands.
+      full_stays o s octets said ds (file_datagrams w octets) full stands;
 }
+
+-- one that was looked at up to there
+full_goes : {S A : Type 0} (o : Sought) (gave : S → List ℕ) (ended : S → Type 0)
+    (r : FileReader S) (w : Way) (text : List ℕ) (b a : Option (Finder A))
+    → r.flows ≡ flows_in w → text ≡ r.text → r.standing ≡ Reads → IsFull a
+    → HasGivenFile gave ended r → FindsRecords o text (octets_of r.records) b a
+    → FindsFile o w (IsRead r.before.gave (gave r.source) (ended r.source)) b a
+full_goes o gave ended r w text b a by same reads full given found = record {
+  stands = λ octets said ds read stands.
+      let known = given octets read in
+      let first : AreFirst r.records (records_of_file r.flows octets) =
+      subst (λ (s : Standing). IsKnownBy r.flows s octets r.records r.left_out) reads known.known
+      in
+      let all : octets_of r.records ++ octets_of first.0 ≡ file_datagrams w octets =
+      sym (map-append (λ (e : Entry). e.octets) r.records first.0)
+      ∙ ap octets_of (sym first.1
+      ∙ ap (λ (f : Option Flows). records_of_file f octets) by) in
+      subst (λ (t : Option (List ℕ)). Stands o a t (ds ++ file_datagrams w octets))
+      (said_same said text octets (known.text ∙ sym same))
+      (subst (λ (l : List (List ℕ)). Stands o a (said_by said text) l)
+      (append_assoc ds (octets_of r.records) (octets_of first.0)
+      ∙ ap (λ (l : List (List ℕ)). ds ++ l) all)
+      (full_on o a (said_by said text) (ds ++ octets_of r.records) (octets_of first.0) full
+      (found.stands said ds stands)));
+}
+
+-- a file was looked at, to its end or up to where all were found
+file_found : {S A : Type 0} (o : Sought) (gave : S → List ℕ) (ended : S → Type 0)
+    (r : FileReader S) (w : Way) (text : List ℕ) (b a : Option (Finder A))
+    → r.flows ≡ flows_in w → text ≡ r.text → IsDone r.standing (IsFull a)
+    → HasGivenFile gave ended r → FindsRecords o text (octets_of r.records) b a
+    → FindsFile o w (IsRead r.before.gave (gave r.source) (ended r.source)) b a
+file_found o gave ended r w text b a by same (inl over) given found =
+    file_goes w (IsRead r.before.gave (gave r.source) (ended r.source)) text r.records
+    (Stands o b) (Stands o a) (ended_has gave ended r w text by same over given) found
+file_found o gave ended r w text b a by same (inr full) given found =
+    full_goes o gave ended r w text b a by same full.0 full.1 given found
+
+-- of a source that is lent to the reader, and is as it was left
+pub file_found_if : {S T A V E : Type 0} (o : Sought) (r : FileReader S) (at : S → T)
+    (gave : T → List ℕ) (ended : T → Type 0) (old new : T) (w : Way) (text : List ℕ)
+    (b a : Option (Finder A)) (result : Result V E) → r.before.gave ≡ gave old
+    → new ≡ at r.source → r.flows ≡ flows_in w → text ≡ r.text
+    → OnOk result (IsDone r.standing (IsFull a))
+    → HasGivenFile (λ (s : S). gave (at s)) (λ (s : S). ended (at s)) r
+    → OnOk result (FindsRecords o text (octets_of r.records) b a)
+    → OnOk result (FindsFile o w (IsRead (gave old) (gave new) (ended new)) b a)
+file_found_if {S} {T} o r at gave ended old new w text b a (Ok v) before now by same done given
+    found =
+    subst (λ (t : T). FindsFile o w (IsRead (gave old) (gave t) (ended t)) b a) (sym now)
+    (subst (λ (l : List ℕ). FindsFile o w (IsRead l (gave (at r.source)) (ended (at r.source))) b
+    a) before
+    (file_found o (λ (s : S). gave (at s)) (λ (s : S). ended (at s)) r w text b a by same done
+    given found))
+file_found_if o r at gave ended old new w text b a (Err e) before now by same done given found =
+    tt
+
+-- what ended it, as `receive` tells that; where memory was wanted it is no refusal
+pub stop_told : (standing : Standing) (count : ℕ) (P : Refusal → Type 0) (f : Fault)
+    → IsStop standing count f ⊎ OfRefusal f P
+    → (⊤ × IsReadingStop standing count f) ⊎ (⊤ × OfRefusal f P)
+stop_told standing count P f (inl (inl stop)) = inl (tt, stop)
+stop_told standing count P f (inl (inr wanted)) =
+    inr (tt, subst (λ (x : Fault). OfRefusal x P) (sym wanted.1) tt)
+stop_told standing count P f (inr refused) = inr (tt, refused)
 
 -- ---- the beginning
 

@@ -1,6 +1,5 @@
 pub mod Spelling
 pub mod Distinct
 pub mod Noted
-pub mod Reading
 pub mod Found
 pub mod InOrder

@@ -1,15 +1,15 @@
 -- What the timestamps are found in, and by what (own). What was read is told by a predicate: it
 -- holds of any octets that begin with it, and of no others where the source has ended.
-use Rattle.std.specs.Prelude.{◌≡◌, ℕ, ◌⊎◌, List, [], ◌∷◌, ◌++◌, MatchOption, Option, None, Some}
-use Rattle.std.specs.List.{flat_map}
+use Rattle.std.specs.Prelude.{◌≡◌, ℕ, ◌⊎◌, List, [], ◌∷◌, MatchOption, Option, None, Some, Result}
 use Rattle.sdp_format.specs.Bytes.{lines}
 use Rattle.sdp_format.specs.Grammar.{IsDescribed}
 use Rattle.sdp_format.specs.Sections.{Description, video_sections}
-use Rattle.st_format.specs.Turns.{datagrams_of}
-use Rattle.media_file.specs.Reader.{dues_in}
-use Rattle.capture_engines.specs.Received.{IsCapturesRefusal, IsOpeningRefusal}
-use Rattle.capture_engines.specs.Taking.{AreRead, capture_datagrams, said_behind}
-use Rattle.path_merge.specs.declared.fault.OpenFault.TheVariants as open_fault
+use Rattle.flow.specs.declared.flows.Flows.{Flows}
+use Rattle.capture_engines.specs.Files.{files_datagrams}
+use Rattle.capture_engines.specs.Received.{IsFilesRefusal, IsOpeningRefusal}
+use Rattle.capture_engines.specs.Taking.{AreRead, FileGoes, FilesGo, RecordsGo, said_behind}
+use Rattle.capture_engines.specs.declared.way.Way.{Way}
+use Rattle.path_receiver.specs.declared.fault.OpenFault.TheVariants as open_fault
 use Rattle.run_outcome.specs.declared.refusal.Refusal.{Refusal}
 use Rattle.run_outcome.specs.declared.refusal.Refusal.TheVariants as refusal
 use Rattle.window_finding.specs.First.{first_timestamps}
@@ -30,13 +30,13 @@ pub record IsFirstWindow (count : ℕ) (ssrc : Option ℕ) (said : Option (List 
   pub announced : (text : List ℕ) → said ≡ Some text → AnnouncesType text payload_type
   pub first : window ≡ first_timestamps count payload_type ssrc datagrams
 
--- So it is of what was read of captures, whatever is behind that: by the SDP text that is given, or,
--- where none is, by that of the first capture.
+-- So it is of what was read of files, each taken so, whatever is behind that: by the SDP text that
+-- is given, or, where none is, by that of the first file.
 pub record FindsFirst {S : Type 0} (count : ℕ) (ssrc : Option ℕ) (sdp : Option (List ℕ))
-    (told : S → List ℕ → Type 0) (captures : List S) (window : List ℕ) : Type 0 where
-  pub found : (octets : List (List ℕ)) → AreRead told captures octets
-      → IsFirstWindow count ssrc (said_behind sdp octets) (flat_map capture_datagrams octets)
-      window
+    (ways : List (Result Flows Refusal)) (told : S → List ℕ → Type 0) (files : List S)
+    (window : List ℕ) : Type 0 where
+  pub found : (octets : List (List ℕ)) → AreRead told files octets
+      → IsFirstWindow count ssrc (said_behind sdp octets) (files_datagrams ways octets) window
 
 -- ---- on the way there
 
@@ -55,44 +55,33 @@ Stands o None (Some text) datagrams = ⊥
 Stands o (Some s) None datagrams = ⊥
 Stands o (Some s) (Some text) datagrams = FindsBy o text s datagrams
 
--- the timestamps of the records that were read were found
-pub record FindsRecords {A : Type 0} (told : List ℕ → Type 0) (before after : Finder A) : Type 0
-  where
-    pub sought : after.sought ≡ before.sought
-    pub payload_type : after.payload_type ≡ before.payload_type
-    pub finds : (octets : List ℕ) (datagrams : List (List ℕ)) → told octets
-        → before.window.items
-        ≡ first_timestamps before.sought.count before.payload_type before.sought.ssrc datagrams
-        → after.window.items
-        ≡ first_timestamps before.sought.count before.payload_type before.sought.ssrc
-        (datagrams ++ datagrams_of (dues_in octets))
+-- those of datagrams, of a file, and of all files were
+abbrev pub FindsRecords : {A : Type 0} → Sought → List ℕ → List (List ℕ) → Option (Finder A)
+    → Option (Finder A) → Type 0
+FindsRecords o text datagrams before after =
+    RecordsGo text datagrams (Stands o before) (Stands o after)
 
--- those of a capture were
-pub record FindsFile {A : Type 0} (o : Sought) (told : List ℕ → Type 0)
-    (before after : Option (Finder A)) : Type 0 where
-  pub stands : (octets : List ℕ) (said : Option (List ℕ)) (datagrams : List (List ℕ))
-      → told octets → Stands o before said datagrams
-      → Stands o after (said_behind said (octets ∷ [])) (datagrams ++ capture_datagrams octets)
+abbrev pub FindsFile : {A : Type 0} → Sought → Way → (List ℕ → Type 0) → Option (Finder A)
+    → Option (Finder A) → Type 0
+FindsFile o w told before after = FileGoes w told (Stands o before) (Stands o after)
 
--- those of all captures were, in their order
-pub record FindsFiles {S A : Type 0} (o : Sought) (told : S → List ℕ → Type 0)
-    (captures : List S) (before after : Option (Finder A)) : Type 0 where
-  pub stands : (octets : List (List ℕ)) (said : Option (List ℕ)) (datagrams : List (List ℕ))
-      → AreRead told captures octets → Stands o before said datagrams
-      → Stands o after (said_behind said octets) (datagrams ++ flat_map capture_datagrams octets)
+abbrev pub FindsFiles : {S A : Type 0} → Sought → List (Result Flows Refusal)
+    → (S → List ℕ → Type 0) → List S → Option (Finder A) → Option (Finder A) → Type 0
+FindsFiles o ways told files before after =
+    FilesGo ways told files (Stands o before) (Stands o after)
 
 -- ---- refusals
 
--- The refusals of what was read: of the SDP text that is given; of the captures, as `receive`
--- refuses them, but none of a window, as of one of one timestamp, with which nothing is wrong.
-abbrev pub IsReadRefusal : {S : Type 0} → Option (List ℕ) → (S → List ℕ → Type 0) → List S
-    → Refusal → Type 0
-IsReadRefusal sdp told captures r =
+-- The refusals of what was read: of the SDP text that is given; of the files, as `receive` refuses
+-- them, but none of a window, as of one of one timestamp, with which nothing is wrong.
+abbrev pub IsReadRefusal : {S : Type 0} → Option (List ℕ) → List (Result Flows Refusal)
+    → (S → List ℕ → Type 0) → List S → Refusal → Type 0
+IsReadRefusal sdp ways told files r =
     MatchOption sdp ⊥ (λ text. IsOpeningRefusal (0 ∷ []) text r)
-    ⊎ IsCapturesRefusal (0 ∷ []) sdp told captures r
+    ⊎ IsFilesRefusal (0 ∷ []) sdp ways told files r
 
 -- the refusals: of what was read; that no timestamp came
 abbrev pub IsFindRefusal : {S : Type 0} → ℕ → Option ℕ → Option (List ℕ)
-    → (S → List ℕ → Type 0) → List S → Refusal → Type 0
-IsFindRefusal count ssrc sdp told captures r = IsReadRefusal sdp told captures r
-    ⊎ ((r ≡ refusal.Open open_fault.BadWindow) × FindsFirst count ssrc sdp told captures [])
+    → List (Result Flows Refusal) → (S → List ℕ → Type 0) → List S → Refusal → Type 0
+IsFindRefusal count ssrc sdp ways told files r = IsReadRefusal sdp ways told files r
+    ⊎ ((r ≡ refusal.Open open_fault.BadWindow) × FindsFirst count ssrc sdp ways told files [])

@@ -1,8 +1,8 @@
 -- Which timestamps come, and the first of them (own).
 use Rattle.std.specs.Prelude.{ℕ, ◌==◌, not, List, [], ◌∷◌, take, Option, Result, Ok, Err}
 use Rattle.std.specs.List.{filter, flat_map}
-use Rattle.path_merge.specs.Admission.{by_header, header_for}
-use Rattle.path_merge.specs.declared.answer.Refusal.{Refusal}
+use Rattle.path_receiver.specs.Admission.{by_header, header_for}
+use Rattle.path_receiver.specs.declared.answer.Refusal.{Refusal}
 use Rattle.rtp_header.specs.Grammar.{Rtp}
 use Rattle.rtp_header.specs.Reading.{rtp_walk}
 use Rattle.st_format.specs.Reading.{◌>>=◌}

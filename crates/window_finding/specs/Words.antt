@@ -1,6 +1,6 @@
 -- The words for the first timestamps that come (own).
 use Rattle.std.specs.Prelude.{◌≡◌, ℕ, ◌⊎◌, List, codes, Some}
-use Rattle.path_merge.specs.Opening.{IsWindowSize}
+use Rattle.path_receiver.specs.Opening.{IsWindowSize}
 use Rattle.run_outcome.specs.Timestamps.{IsNumberOf}
 use Rattle.st_format.specs.Text.{parted}
 

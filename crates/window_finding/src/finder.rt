@@ -1,27 +1,27 @@
-//! Timestamps that come, and of which capture's datagrams.
-ghost use Rattle.std.specs.Prelude.{◌≡◌, ◌≤◌, ◌<◌, ◌++◌, ◌∷◌, ◌↔◌, [], ℕ, List, IfErr, IfOk, IsTrue};
+//! Timestamps that come, and of which file's datagrams.
+ghost use Rattle.std.specs.Prelude.{◌≡◌, ◌≤◌, ◌++◌, ◌∷◌, ◌↔◌, [], ℕ, List, IfErr, IfOk, IsTrue};
 ghost use Rattle.std.specs.Prelude.{OnOk, length, take};
 ghost use Rattle.std.specs.List.{cons_option};
-ghost use Rattle.capture_engines.specs.Received.{HasRecordFault, IsFileRefusal, IsOpeningRefusal};
-ghost use Rattle.media_file.specs.Reader.{IsNewReader, source_fault};
-ghost use Rattle.media_file.specs.declared.fault.FileFault.{FileFault};
+ghost use Rattle.capture_engines.specs.Files.{octets_of};
+ghost use Rattle.capture_engines.specs.Received.{IsOpeningRefusal};
+ghost use Rattle.recording_reader.specs.FileReader.{IsSameFile};
+ghost use Rattle.recording_reader.specs.declared.way.Standing.TheVariants.{Reads};
 ghost use Rattle.run_outcome.specs.Fault.{Accounts, counts};
-ghost use Rattle.run_outcome.specs.LowerFaults.{capture_fault};
 ghost use Rattle.run_outcome.specs.Refusing.{OfRefusal};
-ghost use Rattle.st_format.specs.History.{GrewFrom, IsRead};
-ghost use Rattle.window_finding.specs.Finding.{AnnouncesType, FindsRecords};
-ghost use Rattle.media_file.specs.declared.reader.Standing.TheVariants.{Reads};
+ghost use Rattle.window_finding.specs.Finding.{AnnouncesType};
 ghost use Rattle.window_finding.specs.First.{distinct, first_timestamps, timestamp_in};
-ghost use Rattle.window_finding.specs.Turns.{IsDone, IsStop, datagrams_in};
+ghost use Rattle.window_finding.specs.Turns.{IsDone, IsStop};
 
-use media_file::{CaptureReader, FileFault};
+use capture_engines::of_reading;
+use media_file::FileFault;
+use recording_reader::DatagramReader;
 use rtp_header::read_rtp;
 use run_outcome::{Fault, of_capture};
 use sdp_format::read_located;
-use st_format::{ByteSource, DatagramSource, SourceFault, Turn};
+use st_format::ByteSource;
 use std::alloc::{AllocError, Allocator};
 
-/// The greatest number of turns of one capture (own).
+/// The greatest number of datagrams of one file (own).
 const TURNS: u64 = 16_777_216;
 
 /// What is sought.
@@ -118,16 +118,17 @@ impl<A: Allocator> Finder<A> {
         }
     }
 
-    /// Takes the turns of a reader until as many timestamps are found as are sought, or to its end.
-    fn take_turns<S: ByteSource>(
+    /// Takes the timestamps of a file whose reader has just been opened, until as many are found as
+    /// are sought, or to its end.
+    ///
+    /// A file that has not ended after 16,777,216 datagrams, with fewer, is refused, and so is one
+    /// that is at fault.
+    pub fn find_in<B: Allocator, S: ByteSource>(
         &mut self,
-        reader: &mut CaptureReader<S>,
-        buf: &mut [u8],
+        reader: &mut DatagramReader<B, S>,
     ) -> Result<(), Fault>
-        requires room { 65535 ≤ length buf.old }
         requires reads { reader.old.standing ≡ Reads }
-        requires none { datagrams_in reader.old.before.gave (S.gave reader.old.source) ≡ [] }
-        ensures room { length buf.new ≡ length buf.old }
+        requires none { reader.old.records ≡ [] }
         ensures sought { self.new.sought ≡ self.old.sought }
         ensures payload_type { self.new.payload_type ≡ self.old.payload_type }
         ensures done { OnOk result (IsDone reader.new.standing
@@ -136,75 +137,24 @@ impl<A: Allocator> Finder<A> {
             ≡ first_timestamps self.old.sought.count self.old.payload_type self.old.sought.ssrc
             datagrams → self.new.window.items
             ≡ first_timestamps self.old.sought.count self.old.payload_type self.old.sought.ssrc
-            (datagrams ++ datagrams_in reader.new.before.gave (S.gave reader.new.source))) }
-        ensures stop { IfErr result (IsStop reader.new.standing
-            (length (datagrams_in reader.new.before.gave (S.gave reader.new.source)))) }
-        ensures before { reader.new.before ≡ reader.old.before }
+            (datagrams ++ octets_of reader.new.records)) }
+        ensures stop { IfErr result
+            (IsStop reader.new.standing (length reader.new.records)) }
+        ensures same { IsSameFile reader.old reader.new }
+        ensures failures { Accounts result (counts (S.failures reader.old.source)
+            (S.failures reader.new.source) ∷ []) }
         ensures names { S.names reader.new.source ≡ S.names reader.old.source }
     {
         for _ in 0..TURNS {
             if self.is_full() {
                 return Ok(());
             }
-            match reader.next(buf) {
-                Ok(Turn::Datagram(_, count)) => {
-                    self.note(&buf[..count])?;
-                    continue;
-                }
-                Ok(Turn::Quiet) => continue,
-                Ok(Turn::End) => return Ok(()),
-                Err(fault) => return Err(reader_fault(fault)),
+            match reader.advance() {
+                Ok(true) => self.note(reader.octets())?,
+                Ok(false) => return Ok(()),
+                Err(fault) => return Err(of_reading(fault)),
             }
         }
         Err(of_capture(FileFault::TooManyRecords))
-    }
-
-    /// Takes the timestamps of a capture whose reader has just been opened, until as many are found
-    /// as are sought.
-    ///
-    /// A capture that has not ended after 16,777,216 turns, with fewer, is refused, and so is one
-    /// that is at fault.
-    pub fn find_in<S: ByteSource>(
-        &mut self,
-        reader: &mut CaptureReader<S>,
-        buf: &mut [u8],
-    ) -> Result<(), Fault>
-        requires room { 65535 ≤ length buf.old }
-        requires new { IsNewReader reader.old }
-        requires before { reader.old.before ≡ record {
-          gave = S.gave reader.old.source;
-          to_give = S.to_give reader.old.source;
-          failures = S.failures reader.old.source;
-        } }
-        ensures room { length buf.new ≡ length buf.old }
-        ensures found { OnOk result (FindsRecords (IsRead (S.gave reader.old.source)
-            (S.gave reader.new.source) (S.ended reader.new.source)) self.old self.new) }
-        ensures refusal { IfErr result (λ f. OfRefusal f (IsFileRefusal HasRecordFault (IsRead
-            (S.gave reader.old.source) (S.gave reader.new.source)
-            (S.ended reader.new.source)))) }
-        ensures grown { GrewFrom (S.gave reader.old.source) (S.gave reader.new.source) }
-        ensures failures { Accounts result (counts (S.failures reader.old.source)
-            (S.failures reader.new.source) ∷ []) }
-        ensures names { S.names reader.new.source ≡ S.names reader.old.source }
-    {
-        let found = self.take_turns(reader, buf);
-        reader.facts();
-        reader.history();
-        found
-    }
-}
-
-/// A fault that a reader of a capture told.
-fn reader_fault(fault: SourceFault) -> Fault
-    ensures { (f : FileFault) → fault ≡ source_fault f → result ≡ capture_fault f }
-{
-    let number = match fault {
-        SourceFault::Device => return Fault::Device,
-        SourceFault::Content(number) => number,
-    };
-    match FileFault::of_number(number) {
-        Some(fault) => of_capture(fault),
-        // No reader tells such a number.
-        None => Fault::Device,
     }
 }

@@ -1,82 +1,90 @@
-//! Finding the first timestamps that come of captures.
-ghost use Rattle.std.specs.Prelude.{◌≡◌, ◌≢◌, ◌≤◌, ◌<◌, ◌+◌, ◌∷◌, [], IfErr, IfOk, IsTrue, MatchOption};
-ghost use Rattle.std.specs.Prelude.{None, OnOk, Some, drop, length, sum_by, take};
+//! Finding the first timestamps that come of files.
+ghost use Rattle.std.specs.Prelude.{◌≡◌, ◌≢◌, ◌≤◌, ◌<◌, ◌+◌, ◌⊎◌, ◌∷◌, [], IfErr, IfOk, IsTrue};
+ghost use Rattle.std.specs.Prelude.{MatchOption, None, OnOk, Some, drop, length, sum_by, take};
 ghost use Rattle.std.specs.List.{zip};
 ghost use Rattle.std.specs.Option.{option_copied};
-ghost use Rattle.capture_engines.specs.Received.{HasBehind, IsCapturesRefusal, IsFrontRefusal};
+ghost use Rattle.capture_engines.specs.Files.{octets_of, way_at};
+ghost use Rattle.capture_engines.specs.Received.{IsFilesRefusal, IsFrontRefusal};
 ghost use Rattle.capture_engines.specs.Received.{IsOpeningRefusal, IsTakeRefusal};
 ghost use Rattle.capture_engines.specs.Sent.{FirstIs};
-ghost use Rattle.media_file.specs.Reader.{IsNewReader};
+ghost use Rattle.recording_reader.specs.FileReader.{IsSameFile};
+ghost use Rattle.recording_reader.specs.declared.way.Standing.TheVariants.{Reads};
 ghost use Rattle.run_outcome.specs.Fault.{Accounts, counts};
 ghost use Rattle.run_outcome.specs.Moments.{WasRead};
 ghost use Rattle.run_outcome.specs.Refusing.{OfRefusal};
-ghost use Rattle.st_format.specs.History.{GrewFrom, IsRead};
+ghost use Rattle.st_format.specs.History.{IsRead};
 ghost use Rattle.window_finding.specs.Finding.{FindsBy, FindsFile, FindsFiles, FindsFirst};
+ghost use Rattle.window_finding.specs.Finding.{FindsRecords};
+ghost use Rattle.window_finding.specs.Turns.{IsDone, IsStop};
 ghost use Rattle.window_finding.specs.Finding.{IsFindRefusal, IsReadRefusal, Stands};
 
 use crate::finder::{Finder, Sought};
-use media_file::CaptureReader;
-use path_merge::OpenFault;
-use run_outcome::{Fault, Refusal, of_capture, room};
+use capture_engines::{Way, unopened};
+use flow::Flows;
+use path_receiver::OpenFault;
+use recording_reader::DatagramReader;
+use run_outcome::{Fault, Refusal, room};
 use st_format::ByteSource;
 use std::alloc::Allocator;
 
-/// The first different timestamps that come of captures, as many as are sought, or all where fewer
+/// The first different timestamps that come of files, as many as are sought, or all where fewer
 /// come.
 ///
 /// Those of the datagrams come that have a header (RFC 3550, 5.1), the payload type that an SDP
 /// text says, and the source that is asked for, where one is. The SDP text is `sdp`, or, where none
-/// is given, that of the first capture. The captures are read one after the other, and no further
-/// than where all are found.
+/// is given, that of the first file. A file that begins as a recording of another tool is taken by
+/// the flows of its place in `ways`, or refused so; a file of which they say nothing is a capture.
+/// The files are read one after the other, and no further than where all are found.
 ///
 /// # Errors
 ///
-/// A refusal where the SDP text or what was read of a capture is refused, and `Open(BadWindow)`
+/// A refusal where the SDP text or what was read of a file is refused, and `Open(BadWindow)`
 /// where no timestamp comes; and else that a source failed or memory was wanted.
 pub fn find_window<A: Allocator + Copy, S: ByteSource>(
     alloc: A,
     sought: Sought,
     sdp: Option<&[u8]>,
-    captures: &mut [S],
+    files: &mut [S],
+    ways: &[Result<Flows, Refusal>],
 ) -> Result<Vec<u32, A>, Fault>
-    ensures len { length captures.new ≡ length captures.old }
-    // Whatever is behind what was read of the captures, these are the first of them.
+    ensures len { length files.new ≡ length files.old }
+    // Whatever is behind what was read of the files, these are the first of them.
     ensures found { IfOk result (λ window. FindsFirst sought.count sought.ssrc
-        (option_copied sdp.entry) (WasRead S.gave S.ended) (zip captures.old captures.new)
+        (option_copied sdp.entry) ways.now (WasRead S.gave S.ended) (zip files.old files.new)
         window.items) }
     ensures some { IfOk result (λ window. 0 < length window.items) }
     ensures refusal { IfErr result (λ f. OfRefusal f (IsFindRefusal sought.count sought.ssrc
-        (option_copied sdp.entry) (WasRead S.gave S.ended) (zip captures.old captures.new))) }
-    ensures failures { Accounts result (counts (sum_by S.failures captures.old)
-        (sum_by S.failures captures.new) ∷ []) }
+        (option_copied sdp.entry) ways.now (WasRead S.gave S.ended) (zip files.old files.new))) }
+    ensures failures { Accounts result (counts (sum_by S.failures files.old)
+        (sum_by S.failures files.new) ∷ []) }
 {
-    let window = find_timestamps(alloc, sought, sdp, captures)?;
+    let window = find_timestamps(alloc, sought, sdp, files, ways)?;
     if window.is_empty() {
         return Err(Fault::Refused(Refusal::Open(OpenFault::BadWindow)));
     }
     Ok(window)
 }
 
-/// The first timestamps of captures, of which there may be none.
+/// The first timestamps of files, of which there may be none.
 fn find_timestamps<A: Allocator + Copy, S: ByteSource>(
     alloc: A,
     sought: Sought,
     sdp: Option<&[u8]>,
-    captures: &mut [S],
+    files: &mut [S],
+    ways: &[Result<Flows, Refusal>],
 ) -> Result<Vec<u32, A>, Fault>
-    ensures len { length captures.new ≡ length captures.old }
+    ensures len { length files.new ≡ length files.old }
     ensures found { IfOk result (λ window. FindsFirst sought.count sought.ssrc
-        (option_copied sdp.entry) (WasRead S.gave S.ended) (zip captures.old captures.new)
+        (option_copied sdp.entry) ways.now (WasRead S.gave S.ended) (zip files.old files.new)
         window.items) }
     ensures refusal { IfErr result (λ f. OfRefusal f (IsReadRefusal (option_copied sdp.entry)
-        (WasRead S.gave S.ended) (zip captures.old captures.new))) }
-    ensures failures { Accounts result (counts (sum_by S.failures captures.old)
-        (sum_by S.failures captures.new) ∷ []) }
+        ways.now (WasRead S.gave S.ended) (zip files.old files.new))) }
+    ensures failures { Accounts result (counts (sum_by S.failures files.old)
+        (sum_by S.failures files.new) ∷ []) }
 {
     let mut begun = begin(alloc, sought, sdp)?;
-    let mut buf = room(alloc)?;
     let mut said = room(alloc)?;
-    find_all(alloc, sought, &mut begun, captures, &mut said, &mut buf)?;
+    find_all(alloc, sought, &mut begun, files, ways, &mut said)?;
     match begun {
         Some(finder) => Ok(finder.window),
         None => Err(Fault::Refused(Refusal::ReceiveNoSdp)),
@@ -112,96 +120,98 @@ fn open_by<A: Allocator + Copy>(alloc: A, sought: Sought, sdp: &[u8]) -> Result<
     Finder::open(alloc, sought, sdp)
 }
 
-/// Takes the timestamps of all captures, each by way of the two rooms: one for its text, and one
-/// for its datagrams.
+/// Takes the timestamps of all files, each as `ways` say. `said` is room for a text.
 fn find_all<A: Allocator + Copy, S: ByteSource>(
     alloc: A,
     sought: Sought,
     begun: &mut Option<Finder<A>>,
-    captures: &mut [S],
+    files: &mut [S],
+    ways: &[Result<Flows, Refusal>],
     said: &mut [u8],
-    buf: &mut [u8],
 ) -> Result<(), Fault>
     requires text { 65535 ≤ length said.old }
-    requires room { 65535 ≤ length buf.old }
-    ensures len { length captures.new ≡ length captures.old }
-    ensures found { OnOk result (FindsFiles sought (WasRead S.gave S.ended)
-        (zip captures.old captures.new) begun.old begun.new) }
+    ensures len { length files.new ≡ length files.old }
+    ensures found { OnOk result (FindsFiles sought ways.now (WasRead S.gave S.ended)
+        (zip files.old files.new) begun.old begun.new) }
     ensures none { OnOk result (begun.new ≡ None
-        → (begun.old ≡ None) × (captures.old ≡ [])) }
-    ensures refusal { IfErr result (λ f. OfRefusal f (IsCapturesRefusal (0 ∷ [])
-        begun.old (WasRead S.gave S.ended) (zip captures.old captures.new))) }
-    ensures failures { Accounts result (counts (sum_by S.failures captures.old)
-        (sum_by S.failures captures.new) ∷ []) }
+        → (begun.old ≡ None) × (files.old ≡ [])) }
+    ensures refusal { IfErr result (λ f. OfRefusal f (IsFilesRefusal (0 ∷ [])
+        begun.old ways.now (WasRead S.gave S.ended) (zip files.old files.new))) }
+    ensures failures { Accounts result (counts (sum_by S.failures files.old)
+        (sum_by S.failures files.new) ∷ []) }
 {
-    for place in 0..captures.len() {
-        find_at(alloc, sought, begun, captures, place, said, buf)?;
+    for place in 0..files.len() {
+        find_at(alloc, sought, begun, files, ways, place, said)?;
     }
     Ok(())
 }
 
-/// Takes the timestamps of the capture of a place.
+/// Takes the timestamps of the file of a place.
 fn find_at<A: Allocator + Copy, S: ByteSource>(
     alloc: A,
     sought: Sought,
     begun: &mut Option<Finder<A>>,
-    captures: &mut [S],
+    files: &mut [S],
+    ways: &[Result<Flows, Refusal>],
     place: usize,
     said: &mut [u8],
-    buf: &mut [u8],
 ) -> Result<(), Fault>
-    requires place { place < length captures.old }
+    requires place { place < length files.old }
     requires text { 65535 ≤ length said.old }
-    requires room { 65535 ≤ length buf.old }
     ensures text { length said.new ≡ length said.old }
-    ensures room { length buf.new ≡ length buf.old }
-    ensures len { length captures.new ≡ length captures.old }
-    ensures front { take place captures.new ≡ take place captures.old }
-    ensures behind { drop (place + 1) captures.new ≡ drop (place + 1) captures.old }
+    ensures len { length files.new ≡ length files.old }
+    ensures front { take place files.new ≡ take place files.old }
+    ensures behind { drop (place + 1) files.new ≡ drop (place + 1) files.old }
     ensures found { OnOk result (FirstIs
-        (λ s. FindsFile sought (WasRead S.gave S.ended s) begun.old begun.new)
-        (zip (drop place captures.old) (drop place captures.new))) }
+        (λ s. FindsFile sought (way_at ways.now place) (WasRead S.gave S.ended s) begun.old begun.new)
+        (zip (drop place files.old) (drop place files.new))) }
     ensures begun { OnOk result (begun.new ≢ None) }
     ensures refusal { IfErr result (λ f. OfRefusal f (λ r. FirstIs
-        (λ s. IsTakeRefusal (0 ∷ []) begun.old (WasRead S.gave S.ended s) r)
-        (zip (drop place captures.old) (drop place captures.new)))) }
-    ensures failures { Accounts result (counts (sum_by S.failures captures.old)
-        (sum_by S.failures captures.new) ∷ []) }
+        (λ s. IsTakeRefusal (0 ∷ []) (way_at ways.now place) begun.old (WasRead S.gave S.ended s) r)
+        (zip (drop place files.old) (drop place files.new)))) }
+    ensures failures { Accounts result (counts (sum_by S.failures files.old)
+        (sum_by S.failures files.new) ∷ []) }
 {
-    find_one(alloc, sought, begun, &mut captures[place], said, buf)
+    find_one(
+        alloc,
+        sought,
+        begun,
+        &mut files[place],
+        Way::at(ways, place),
+        said,
+    )
 }
 
-/// Takes the timestamps of a capture, which is not looked at where all are found. Where none was
+/// Takes the timestamps of a file, which is not looked at where all are found. Where none was
 /// begun with yet, its text says what comes.
 fn find_one<A: Allocator + Copy, S: ByteSource>(
     alloc: A,
     sought: Sought,
     begun: &mut Option<Finder<A>>,
-    capture: &mut S,
+    file: &mut S,
+    way: Way,
     said: &mut [u8],
-    buf: &mut [u8],
 ) -> Result<(), Fault>
     requires text { 65535 ≤ length said.old }
-    requires room { 65535 ≤ length buf.old }
     ensures text { length said.new ≡ length said.old }
-    ensures room { length buf.new ≡ length buf.old }
-    ensures found { OnOk result (FindsFile sought (IsRead (S.gave capture.old)
-        (S.gave capture.new) (S.ended capture.new)) begun.old begun.new) }
+    ensures found { OnOk result (FindsFile sought way (IsRead (S.gave file.old)
+        (S.gave file.new) (S.ended file.new)) begun.old begun.new) }
     ensures begun { OnOk result (begun.new ≢ None) }
-    ensures refusal { IfErr result (λ f. OfRefusal f (IsTakeRefusal (0 ∷ [])
-        begun.old (IsRead (S.gave capture.old) (S.gave capture.new) (S.ended capture.new)))) }
-    ensures failures { Accounts result (counts (S.failures capture.old) (S.failures capture.new)
+    ensures refusal { IfErr result (λ f. OfRefusal f (IsTakeRefusal (0 ∷ []) way
+        begun.old (IsRead (S.gave file.old) (S.gave file.new) (S.ended file.new)))) }
+    ensures failures { Accounts result (counts (S.failures file.old) (S.failures file.new)
         ∷ []) }
 {
     if has_all(begun) {
         return Ok(());
     }
-    let mut reader = match CaptureReader::open(&mut *capture, said) {
+    let mut reader = match DatagramReader::open(alloc, way.flows(), &mut *file, said) {
         Ok(reader) => reader,
-        Err(failed) => return Err(of_capture(failed.0)),
+        Err(failed) => return Err(unopened(way, failed.0, failed.1)),
     };
     let text = &said[..reader.text_len()];
-    let found = find_opened(alloc, sought, begun, &mut reader, text, buf);
+    let found = find_opened(alloc, sought, begun, &mut reader, text);
+    reader.history();
     let _ = reader.into_inner();
     found
 }
@@ -217,46 +227,39 @@ fn has_all<A: Allocator>(begun: &Option<Finder<A>>) -> bool
     }
 }
 
-/// Takes the timestamps of a capture whose reader has just been opened. Where none was begun with
-/// yet, the capture's text says what comes.
+/// Takes the timestamps of a file whose reader has just been opened. Where none was begun with
+/// yet, the file's text says what comes.
 fn find_opened<A: Allocator + Copy, S: ByteSource>(
     alloc: A,
     sought: Sought,
     begun: &mut Option<Finder<A>>,
-    reader: &mut CaptureReader<S>,
+    reader: &mut DatagramReader<A, S>,
     text: &[u8],
-    buf: &mut [u8],
 ) -> Result<(), Fault>
-    requires room { 65535 ≤ length buf.old }
-    requires new { IsNewReader reader.old }
-    requires before { reader.old.before ≡ record {
-      gave = S.gave reader.old.source;
-      to_give = S.to_give reader.old.source;
-      failures = S.failures reader.old.source;
-    } }
-    ensures room { length buf.new ≡ length buf.old }
-    ensures found { OnOk result (FindsFile sought (HasBehind
-        (IsRead (S.gave reader.old.source) (S.gave reader.new.source)
-        (S.ended reader.new.source)) text.now) begun.old begun.new) }
+    requires reads { reader.old.standing ≡ Reads }
+    requires none { reader.old.records ≡ [] }
+    ensures found { OnOk result (FindsRecords sought text.now (octets_of reader.new.records)
+        begun.old begun.new) }
     ensures begun { OnOk result (begun.new ≢ None) }
-    ensures refusal { IfErr result (λ f. OfRefusal f (IsTakeRefusal (0 ∷ [])
-        begun.old (HasBehind (IsRead (S.gave reader.old.source) (S.gave reader.new.source)
-        (S.ended reader.new.source)) text.now))) }
-    ensures grown { GrewFrom (S.gave reader.old.source) (S.gave reader.new.source) }
+    ensures done { OnOk result (IsDone reader.new.standing
+        (MatchOption begun.new ⊥ (λ s. s.sought.count ≤ length s.window.items))) }
+    ensures stop { IfErr result (λ f. IsStop reader.new.standing (length reader.new.records) f
+        ⊎ OfRefusal f (λ r. (begun.old ≡ None) × IsFrontRefusal (0 ∷ []) text.now r)) }
+    ensures same { IsSameFile reader.old reader.new }
     ensures failures { Accounts result (counts (S.failures reader.old.source)
         (S.failures reader.new.source) ∷ []) }
     ensures names { S.names reader.new.source ≡ S.names reader.old.source }
 {
     if let Some(finder) = begun {
-        return finder.find_in(reader, buf);
+        return finder.find_in(reader);
     }
     let mut finder = open_by_text(alloc, sought, text)?;
-    let found = finder.find_in(reader, buf);
+    let found = finder.find_in(reader);
     *begun = Some(finder);
     found
 }
 
-/// Begins by a capture's text.
+/// Begins by a file's text.
 fn open_by_text<A: Allocator + Copy>(
     alloc: A,
     sought: Sought,

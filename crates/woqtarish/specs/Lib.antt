@@ -30,6 +30,7 @@ pub use Rattle.payload_header.specs.Payload
 pub use Rattle.payload_header.specs.Reading as PayloadReading
 pub use Rattle.payload_header.specs.View
 pub use Rattle.payload_header.specs.Writing
+pub use Rattle.interface_name.specs.Name as InterfaceNames
 pub use Rattle.flow.specs.Flow
 pub use Rattle.flow.specs.FlowText
 pub use Rattle.sdp_format.specs.Back
@@ -60,22 +61,22 @@ pub use Rattle.packet_plan.specs.Sent as PlanSent
 pub use Rattle.packet_numbers.specs.BitList
 pub use Rattle.packet_numbers.specs.Numbers
 pub use Rattle.path_merge.specs.Admitted
-pub use Rattle.path_merge.specs.Answers
-pub use Rattle.path_merge.specs.Frames
-pub use Rattle.path_merge.specs.Grammar as ReceiverGrammar
-pub use Rattle.path_merge.specs.Offers
-pub use Rattle.path_merge.specs.Opening
-pub use Rattle.path_merge.specs.PlayFault
+pub use Rattle.path_receiver.specs.Answers
+pub use Rattle.path_receiver.specs.Frames
+pub use Rattle.path_receiver.specs.Grammar as ReceiverGrammar
+pub use Rattle.path_receiver.specs.Offers
+pub use Rattle.path_receiver.specs.Opening
+pub use Rattle.path_receiver.specs.PlayFault
 pub use Rattle.path_merge.specs.Played
 pub use Rattle.path_merge.specs.Reached
-pub use Rattle.path_merge.specs.Refused
+pub use Rattle.path_receiver.specs.Refused
 pub use Rattle.path_merge.specs.Sent as ReceiverSent
-pub use Rattle.path_merge.specs.Sliding
+pub use Rattle.path_receiver.specs.Sliding
 pub use Rattle.path_merge.specs.Stays
-pub use Rattle.path_merge.specs.Took
+pub use Rattle.path_receiver.specs.Took
 pub use Rattle.path_merge.specs.Unfit
 pub use Rattle.following.specs.Acts
-pub use Rattle.following.specs.Admission
+pub use Rattle.path_receiver.specs.Admission
 pub use Rattle.following.specs.Follower
 pub use Rattle.following.specs.Following
 pub use Rattle.following.specs.Memory as FollowingMemory
@@ -127,6 +128,17 @@ pub use Rattle.pcap_file.specs.RecordingFaults
 pub use Rattle.pcap_file.specs.Udp as RecordingUdp
 pub use Rattle.pcap_file.specs.Views as RecordingViews
 pub use Rattle.pcap_file.specs.Writing as RecordingWriting
+pub use Rattle.picture_forms.specs.Faults as PictureFormFaults
+pub use Rattle.picture_forms.specs.Frames as FormFrames
+pub use Rattle.picture_forms.specs.Heads as FormHeads
+pub use Rattle.picture_forms.specs.Layouts as FormLayouts
+pub use Rattle.picture_forms.specs.Numbers as FormNumbers
+pub use Rattle.picture_forms.specs.Pixmaps as FormPixmaps
+pub use Rattle.picture_forms.specs.Planes as FormPlanes
+pub use Rattle.picture_forms.specs.Streams as FormStreams
+pub use Rattle.picture_forms.specs.Walks as FormReading
+pub use Rattle.marked_view.specs.Marked as MarkedView
+pub use Rattle.settled_forms.specs.Settled as SettledForms
 pub use Rattle.recording_counts.specs.LeftOut
 pub use Rattle.recording_reader.specs.FileReader
 pub use Rattle.recording_reader.specs.Files as DatagramFiles

@@ -114,11 +114,24 @@ pub mod files {
     };
 }
 
+/// Pictures in forms that other tools read and write: YUV4MPEG2 streams of YCbCr, portable pixmaps
+/// of RGB; frames in these, settled, or as a picture that marks what is missing and contested.
+pub mod forms {
+    pub use marked_view::marked_picture;
+    pub use picture_forms::{
+        FormFault, Standing, StreamReader, format_of_head, read_pixmap_head, read_pixmap_raster,
+        read_y4m_frame, read_y4m_head, write_pixmap, write_pixmap_samples, write_y4m_frame,
+        write_y4m_head, write_y4m_samples,
+    };
+    pub use settled_forms::write_settled;
+}
+
 /// Recordings of other tools, as pcap and pcapng: their packets, as datagrams of UDP, and the flows
 /// of the two paths; and a reader that gives the datagrams of these, or of a capture, to a
 /// receiver.
 pub mod recordings {
     pub use flow::{Flow, Flows, read_flow};
+    pub use interface_name::InterfaceName;
     pub use pcap_file::{
         ByteOrder, DatagramView, Envelope, Envelope6, HEADS, HEADS6, INTERFACES, Interface,
         IpVersion, Layout, Link, LinkView, NoDatagram, PCAP_HEAD, Packet, PacketHead, PacketView,
@@ -165,6 +178,7 @@ pub mod laws {
     pub use packet_plan::laws as send;
     pub use path_merge::{laws as receive, number_laws as numbers};
     pub use pcap_file::laws as recordings;
+    pub use picture_forms::laws as forms;
     pub use sdp_format::laws as describe;
     pub use st_format::laws as formats;
 }

@@ -1,13 +1,11 @@
 //! What a schedule needs before its first event.
 ghost use Rattle.std.specs.Prelude.{◌≡◌, All, IfErr, IsFalse, IsTrue, OnOk};
 ghost use Rattle.st_format.specs.Picture.{IsPicture};
-ghost use Rattle.path_merge.specs.Opening.{IsWindow};
+ghost use Rattle.path_receiver.specs.Opening.{IsWindow};
 ghost use Rattle.path_merge.specs.Played.{ArePictures, IsReceiverCount};
 ghost use Rattle.path_merge.specs.Unfit.{IsUnfitPlay, SpeaksAgainst};
 
-use crate::fault::OpenFault;
-use crate::schedule::play_fault::PlayFault;
-use crate::window::check_window;
+use path_receiver::{OpenFault, PlayFault, check_window};
 use st_format::{Format, Picture};
 use std::alloc::Allocator;
 

@@ -2,15 +2,14 @@
 ghost use Rattle.std.specs.Prelude.{◌≡◌, ◌≤◌, ◌<◌, [], All, Err, IfOk, List, OnErr, Some, length};
 ghost use Rattle.st_format.specs.Picture.{Values};
 ghost use Rattle.packet_plan.specs.Sending.{EachHasRoom};
-ghost use Rattle.path_merge.specs.Opening.{IsWindow};
+ghost use Rattle.path_receiver.specs.Opening.{IsWindow};
 ghost use Rattle.path_merge.specs.Sent.{scene_of};
 ghost use Rattle.path_merge.specs.Stage.{IsOpened, IsReady, IsStage};
 
-use crate::receiver::Receiver;
-use crate::schedule::play_fault::PlayFault;
 use crate::schedule::sending::Next;
 use crate::schedule::stage::Stage;
 use packet_plan::{Plan, Stamp};
+use path_receiver::{PlayFault, Receiver};
 use st_format::Format;
 use std::alloc::Allocator;
 

@@ -1,7 +1,7 @@
 //! What came of a schedule.
 
-use crate::receiver::Receiver;
 use frame_assembly::Frame;
+use path_receiver::Receiver;
 use std::alloc::{Allocator, Global};
 
 /// A frame that a receiver handed out.

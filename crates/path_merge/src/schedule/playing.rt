@@ -3,7 +3,7 @@ ghost use Rattle.std.specs.Prelude.{◌≡◌, ◌↔◌, ◌≤◌, ◌⊎◌, 
 ghost use Rattle.std.specs.Prelude.{length};
 ghost use Rattle.st_format.specs.Raster.{Raster};
 ghost use Rattle.packet_plan.specs.Sender.{IsSenderList};
-ghost use Rattle.path_merge.specs.Opening.{AreDifferent, IsWindow, IsWindowSize};
+ghost use Rattle.path_receiver.specs.Opening.{AreDifferent, IsWindow, IsWindowSize};
 ghost use Rattle.path_merge.specs.Admitted.{IsFirstBad};
 ghost use Rattle.path_merge.specs.Played.{ArePictures, IsPlayed, IsReceiverCount};
 ghost use Rattle.path_merge.specs.Reached.{IsFrameOf};
@@ -14,10 +14,11 @@ ghost use Rattle.path_merge.specs.Stays.{Stay};
 use crate::schedule::check::check;
 use crate::schedule::event::Event;
 use crate::schedule::opening::open;
-use crate::schedule::play_fault::{PlayFault, Stop};
 use crate::schedule::played::Played;
 use crate::schedule::stage::{Stage, follow};
+use crate::schedule::stop::Stop;
 use packet_plan::{Plan, Stamp};
+use path_receiver::PlayFault;
 use st_format::Picture;
 use std::alloc::Allocator;
 

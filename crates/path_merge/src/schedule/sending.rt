@@ -4,7 +4,7 @@ ghost use Rattle.std.specs.Prelude.{Err, length};
 ghost use Rattle.packet_plan.specs.Sending.{EachHasRoom};
 ghost use Rattle.path_merge.specs.Steps.{after_packet, text_at, to_come};
 
-use crate::schedule::play_fault::Stop;
+use crate::schedule::stop::Stop;
 use packet_plan::{Plan, Stamp};
 use st_format::Picture;
 use std::alloc::Allocator;

@@ -3,16 +3,16 @@ ghost use Rattle.std.specs.Prelude.{◌≡◌, ◌<◌, ◌≤◌, [], All, Err,
 ghost use Rattle.std.specs.Prelude.{length, slice_get};
 ghost use Rattle.path_merge.specs.Stage.{IsFollowedBy, HandsOut, IsReady, NeverFits, SendsOne};
 ghost use Rattle.path_merge.specs.Steps.{to_come};
-ghost use Rattle.path_merge.specs.Frames.{State};
+ghost use Rattle.path_receiver.specs.Frames.{State};
 ghost use Rattle.st_format.specs.Member.{IsMember};
 
-use crate::receiver::Receiver;
 use crate::schedule::event::Event;
-use crate::schedule::play_fault::Stop;
 use crate::schedule::played::Handed;
 use crate::schedule::sending::{Next, next_datagram};
 use crate::schedule::steps::{arrive, merge, slide};
+use crate::schedule::stop::Stop;
 use packet_plan::{Plan, Stamp};
+use path_receiver::Receiver;
 use st_format::Picture;
 use std::alloc::Allocator;
 

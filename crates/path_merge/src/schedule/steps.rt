@@ -3,13 +3,13 @@ ghost use Rattle.std.specs.Prelude.{◌≡◌, ◌≢◌, ◌<◌, ◌∷◌, []
 ghost use Rattle.std.specs.Prelude.{length, slice_get};
 ghost use Rattle.st_format.specs.Device.{AreOctets};
 ghost use Rattle.st_format.specs.Member.{IsMember};
-ghost use Rattle.path_merge.specs.Frames.{IsReceiver, State, frames_of, joined_frames};
+ghost use Rattle.path_receiver.specs.Frames.{IsReceiver, State, frames_of, joined_frames};
 ghost use Rattle.path_merge.specs.Steps.{Arrives, MergesInto, SlidesOut, SlidesOne};
 
-use crate::receiver::Receiver;
-use crate::schedule::play_fault::Stop;
 use crate::schedule::played::Handed;
+use crate::schedule::stop::Stop;
 use frame_assembly::Frame;
+use path_receiver::Receiver;
 use st_format::Path;
 use std::alloc::Allocator;
 

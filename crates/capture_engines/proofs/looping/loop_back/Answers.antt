@@ -4,7 +4,7 @@ use Rattle.run_outcome.proofs.Printed.{on_ok}
 use Rattle.run_outcome.proofs.Refusals.{if_none_refused, none_refused}
 use Rattle.run_outcome.specs.Fault.{counts}
 use Rattle.packet_plan.specs.Plan.{IsFullPlan}
-use Rattle.path_merge.specs.Frames.{State}
+use Rattle.path_receiver.specs.Frames.{State}
 use Rattle.st_format.specs.declared.format.Format.{Format}
 use Rattle.capture_engines.specs.Looped.{IsLoopRefusal}
 use Rattle.packet_plan.specs.Text.{datagram_texts}

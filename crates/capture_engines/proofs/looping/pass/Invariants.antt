@@ -1,6 +1,6 @@
 use Rattle.std.proofs.Common.{◌≡◌, ◌≤◌, ◌+◌, ◌++◌, length, take}
 use Rattle.packet_plan.specs.Text.{datagram_texts}
-use Rattle.path_merge.specs.Took.{CountsAll}
+use Rattle.path_receiver.specs.Took.{CountsAll}
 use Rattle.capture_engines.specs.declared.looping.TheConstants.{STAMP}
 use Rattle.capture_engines.specs.Looping.{Came}
 use Rattle.capture_engines.proofs.looping.pass.Given as goal

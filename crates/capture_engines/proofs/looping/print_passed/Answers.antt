@@ -2,7 +2,7 @@ use Rattle.std.proofs.Common.{◌≡◌, ℕ, ◌++◌, Option, subst, sym}
 use Rattle.run_outcome.proofs.Printed.{on_ok}
 use Rattle.run_outcome.specs.Line.{line_text}
 use Rattle.run_outcome.specs.declared.line.Line.TheVariants.{Sent, Delivered, Frame}
-use Rattle.path_merge.specs.Frames.{frame_at}
+use Rattle.path_receiver.specs.Frames.{frame_at}
 use Rattle.st_format.specs.Raster.{Raster}
 use Rattle.capture_engines.specs.Looping.{Prints, ended_line, loop_text}
 use Rattle.capture_engines.proofs.looping.print_passed.Goals as goal

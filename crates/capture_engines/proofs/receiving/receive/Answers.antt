@@ -25,7 +25,7 @@ returns-clause-taken g c =
     on_ok c.receive_files.result _ _
     (said_receives c.args.wanted.window.now c.args.wanted.ssrc.now
     (pair c.args.sdp.now c.read_said.new.sdp) _ (WasRead told.gave told.ended)
-    (zip c.args.captures.now c.receive_files.new.captures) c.args.wanted.tells_refusals _ _ _ _
+    (zip c.args.captures.now c.receive_files.new.files) c.args.wanted.tells_refusals _ _ _ _
     c.in_ok-said.ensures.said)
     (rw c.octets_of.ensures at c.receive_files.ensures.taken)
 
@@ -36,7 +36,7 @@ returns-clause-refusal g c =
     (λ f. of_refusal_map f
     (said_refused c.args.wanted.window.now c.args.wanted.ssrc.now
     (pair c.args.sdp.now c.read_said.new.sdp) _ (WasRead told.gave told.ended)
-    (zip c.args.captures.now c.receive_files.new.captures) c.in_ok-said.ensures.said))
+    (zip c.args.captures.now c.receive_files.new.files) c.in_ok-said.ensures.said))
     (rw c.octets_of.ensures at c.receive_files.ensures.refusal)
 
 pub returns-clause-failures : goal.returns-clause-failures

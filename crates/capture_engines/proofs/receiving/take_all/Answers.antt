@@ -2,6 +2,7 @@ use Rattle.std.proofs.Common.{ap, arith, drop, drop-drop, inl, inr, refl, sym, �
 use Rattle.std.proofs.lemmas.Result.{err_from_is_err_and}
 use Rattle.std.specs.List.{zip}
 use Rattle.run_outcome.specs.Moments.{WasRead}
+use Rattle.capture_engines.specs.Taking.{Stands}
 use Rattle.capture_engines.proofs.InOrder.{all_taken, more_taken, none_taken, pairs_left}
 use Rattle.capture_engines.proofs.ReceivedRefusals.{next_refuses, none_started}
 use Rattle.capture_engines.proofs.Rescues.{taken_up_to}
@@ -14,8 +15,8 @@ loop-place-init g c = record {
   behind = refl;
   failures = refl;
   begun = inl (refl, refl);
-  taken = none_taken c.args.opening.now (WasRead g.S.ByteSource.gave g.S.ByteSource.ended)
-      c.args.begun.now;
+  taken = none_taken c.args.ways.now (WasRead g.S.ByteSource.gave g.S.ByteSource.ended)
+      (Stands c.args.opening.now c.args.begun.now);
 }
 
 pub loop-place-preserved : goal.loop-place-preserved
@@ -24,39 +25,41 @@ loop-place-preserved g c =
     let at = c.in_ok-take_at.ensures in
     record {
       len = at.len ∙ l.invariant.len;
-      behind = at.behind ∙ sym (drop-drop 1 l.place l.captures)
-          ∙ ap (drop 1) l.invariant.behind ∙ drop-drop 1 l.place c.args.captures.now;
+      behind = at.behind ∙ sym (drop-drop 1 l.place l.files)
+          ∙ ap (drop 1) l.invariant.behind ∙ drop-drop 1 l.place c.args.files.now;
       failures = at.failures ∙ l.invariant.failures;
       begun = inr at.begun;
-      taken = more_taken c.args.opening.now (WasRead g.S.ByteSource.gave g.S.ByteSource.ended)
-          c.args.captures.now l.captures c.take_at.new.captures l.place c.args.begun.now l.begun
-          c.take_at.new.begun l.invariant.taken at.front l.invariant.behind at.taken;
+      taken = more_taken c.args.ways.now (WasRead g.S.ByteSource.gave g.S.ByteSource.ended)
+          c.args.files.now l.files c.take_at.new.files l.place
+          (Stands c.args.opening.now c.args.begun.now) (Stands c.args.opening.now l.begun)
+          (Stands c.args.opening.now c.take_at.new.begun) l.invariant.taken at.front l.invariant.behind at.taken;
     }
 
 pub returns-in_err-take_at-clause-refusal : goal.returns-in_err-take_at-clause-refusal
 returns-in_err-take_at-clause-refusal g c =
     let l = c.loop-place in
-    let now = c.take_at.new.captures in
+    let now = c.take_at.new.files in
     let p = err_from_is_err_and c.from_residual.result c.from_residual.ensures.1 in
     rw (p.1, p.2) (of_refusal_map c.in_err-take_at.field-0.0
-    (next_refuses c.args.opening.now.window.items
+    (next_refuses c.args.opening.now.window.items c.args.ways.now
     (WasRead g.S.ByteSource.gave g.S.ByteSource.ended) l.place
-    (zip c.args.captures.now now) (zip (drop l.place l.captures) (drop l.place now))
-    c.args.begun.now l.begun (pairs_left l.place c.args.captures.now l.captures now
+    (zip c.args.files.now now) (zip (drop l.place l.files) (drop l.place now))
+    c.args.begun.now l.begun (pairs_left l.place c.args.files.now l.files now
     l.invariant.behind)
     l.invariant.begun)
     c.in_err-take_at.ensures.refusal)
 
 pub returns-clause-none : goal.returns-clause-none
 returns-clause-none g c = λ none.
-    none_started c.loop-place.place c.args.captures.now c.args.begun.now c.loop-place.begun
+    none_started c.loop-place.place c.args.files.now c.args.begun.now c.loop-place.begun
     c.loop-place.invariant.begun (omega (arith, c.loop-place.invariant.len)) none
 
 pub returns-clause-taken : goal.returns-clause-taken
 returns-clause-taken g c =
     let l = c.loop-place in
-    all_taken c.args.opening.now (WasRead g.S.ByteSource.gave g.S.ByteSource.ended)
-    c.args.captures.now l.captures l.place c.args.begun.now l.begun l.invariant.taken
+    all_taken c.args.ways.now (WasRead g.S.ByteSource.gave g.S.ByteSource.ended)
+    c.args.files.now l.files l.place (Stands c.args.opening.now c.args.begun.now)
+    (Stands c.args.opening.now l.begun) l.invariant.taken
     (omega (arith, l.invariant.len)) l.invariant.len
 
 pub returns-in_err-take_at-clause-sound : goal.returns-in_err-take_at-clause-sound
@@ -64,6 +67,7 @@ returns-in_err-take_at-clause-sound g c =
     let l = c.loop-place in
     let at = c.take_at.ensures in
     let p = err_from_is_err_and c.from_residual.result c.from_residual.ensures.1 in
-    rw (p.1) (taken_up_to c.args.opening.now g.S.ByteSource.gave g.S.ByteSource.ended
-    c.args.captures.now l.captures c.take_at.new.captures l.place c.args.begun.now l.begun
-    c.take_at.new.begun l.invariant.taken at.front l.invariant.behind at.sound)
+    rw (p.1, p.2) (taken_up_to c.args.opening.now c.args.ways.now g.S.ByteSource.gave
+    g.S.ByteSource.ended c.in_err-take_at.field-0.0
+    c.args.files.now l.files c.take_at.new.files l.place c.args.begun.now l.begun
+    c.take_at.new.begun l.invariant.taken at.front l.invariant.behind c.in_err-take_at.ensures.sound)

@@ -2,6 +2,7 @@ use Rattle.run_outcome.specs.Moments.{WasRead}
 use Rattle.run_outcome.proofs.Printed.{on_ok}
 use Rattle.run_outcome.proofs.Refusals.{if_err_map, of_refusal_map}
 use Rattle.run_outcome.proofs.SetSums.{set_counted}
+use Rattle.capture_engines.specs.Files.{way_at}
 use Rattle.capture_engines.specs.Received.{IsTakeRefusal}
 use Rattle.capture_engines.specs.Rescued.{TakesPart}
 use Rattle.capture_engines.specs.Taking.{TakesFile}
@@ -13,10 +14,10 @@ returns-clause-taken g c =
     let told = WasRead g.S.ByteSource.gave g.S.ByteSource.ended in
     on_ok c.take_one.result _ _
     (λ taken. first_at
-    (λ s. TakesFile c.args.opening.now (told s) c.args.begun.now c.take_one.new.begun)
-    c.args.captures.now c.args.place c.index-captures-place.result c.take_one.new.capture
+    (λ s. TakesFile c.args.opening.now (way_at c.args.ways.now c.args.place) (told s) c.args.begun.now c.take_one.new.begun)
+    c.args.files.now c.args.place c.index-files-place.result c.take_one.new.file
     c.requires.place taken)
-    c.take_one.ensures.taken
+    (rw c.at-way.ensures at c.take_one.ensures.taken)
 
 pub returns-clause-refusal : goal.returns-clause-refusal
 returns-clause-refusal g c =
@@ -24,19 +25,24 @@ returns-clause-refusal g c =
     if_err_map c.take_one.result
     (λ f. of_refusal_map f
     (λ r is. first_at
-    (λ s. IsTakeRefusal c.args.opening.now.window.items c.args.begun.now (told s) r)
-    c.args.captures.now c.args.place c.index-captures-place.result c.take_one.new.capture
+    (λ s. IsTakeRefusal c.args.opening.now.window.items (way_at c.args.ways.now c.args.place)
+    c.args.begun.now (told s) r)
+    c.args.files.now c.args.place c.index-files-place.result c.take_one.new.file
     c.requires.place is))
-    c.take_one.ensures.refusal
+    (rw c.at-way.ensures at c.take_one.ensures.refusal)
 
 pub returns-clause-failures : goal.returns-clause-failures
 returns-clause-failures g c =
-    set_counted g.S.ByteSource.failures c.args.captures.now c.args.place
-    c.index-captures-place.result c.take_one.new.capture c.take_one.result c.requires.place
+    set_counted g.S.ByteSource.failures c.args.files.now c.args.place
+    c.index-files-place.result c.take_one.new.file c.take_one.result c.requires.place
     c.take_one.ensures.failures
 
 pub returns-clause-sound : goal.returns-clause-sound
 returns-clause-sound g c =
-    first_at (TakesPart c.args.opening.now g.S.ByteSource.gave c.args.begun.now c.take_one.new.begun)
-    c.args.captures.now c.args.place c.index-captures-place.result c.take_one.new.capture
-    c.requires.place c.take_one.ensures.sound
+    let told = g.S.ByteSource in
+    if_err_map c.take_one.result
+    (λ f is. first_at
+    (TakesPart c.args.opening.now (way_at c.args.ways.now c.args.place) told.gave told.ended f
+    c.args.begun.now c.take_one.new.begun) c.args.files.now c.args.place
+    c.index-files-place.result c.take_one.new.file c.requires.place is)
+    (rw c.at-way.ensures at c.take_one.ensures.sound)

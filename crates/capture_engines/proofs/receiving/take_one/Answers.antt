@@ -1,7 +1,9 @@
 use Rattle.std.proofs.Common.{rules}
 use Rattle.run_outcome.proofs.SetSums.{counted_by}
-use Rattle.capture_engines.proofs.Rescues.{part_read}
-use Rattle.capture_engines.proofs.ReceivedRefusals.{front_refused, refused_read, taken_read}
+use Rattle.recording_reader.proofs.Standings.{exact_between}
+use Rattle.capture_engines.specs.Taking.{Stands}
+use Rattle.capture_engines.proofs.Readings.{ended_goes, part_taken}
+use Rattle.capture_engines.proofs.ReceivedRefusals.{file_refused, unopened_refused}
 use Rattle.capture_engines.proofs.receiving.take_one.Goals as goal
 
 pub returns-clause-failures : goal.returns-clause-failures
@@ -12,18 +14,35 @@ returns-clause-failures g c =
 pub returns-clause-taken : goal.returns-clause-taken
 returns-clause-taken g c =
     let told = g.S.ByteSource in
-    taken_read c.args.opening.now told.gave told.ended c.args.capture.now _ _ _ _ _ _
-    c.take_opened-taken.result (search rules) (search rules) c.take_opened-taken.ensures.grown
-    c.take_opened-taken.ensures.taken
+    ended_goes c.take_opened-taken.new.reader (λ s. s.now) told.gave told.ended c.args.file.now _
+    c.args.way _ (Stands c.args.opening.now c.args.begun.now)
+    (Stands c.args.opening.now c.take_opened-taken.new.begun) c.take_opened-taken.result
+    (search rules) (search rules) (search rules) (search rules) c.take_opened-taken.ensures.ended
+    c.history.ensures.known c.take_opened-taken.ensures.taken
+
+pub returns-clause-sound : goal.returns-clause-sound
+returns-clause-sound g c =
+    let told = g.S.ByteSource in
+    part_taken c.args.opening.now c.take_opened-taken.new.reader (λ s. s.now) told.gave told.ended
+    c.args.file.now _ c.args.way _ c.args.begun.now c.take_opened-taken.new.begun _
+    c.take_opened-taken.result (search rules) (search rules) (search rules) (search rules)
+    c.history.ensures.known
+    (λ reads. c.history.ensures.given
+    (exact_between c.take_opened-taken.new.reader.standing reads)) c.history.ensures.of_capture
+    c.take_opened-taken.ensures.stop
 
 pub returns-clause-refusal : goal.returns-clause-refusal
 returns-clause-refusal g c =
     let told = g.S.ByteSource in
-    refused_read c.args.opening.now.window.items c.args.begun.now told.gave told.ended
-    c.args.capture.now _ _ _ _ c.take_opened-taken.result (search rules) (search rules)
-    c.take_opened-taken.ensures.grown c.take_opened-taken.ensures.refusal
+    file_refused c.args.opening.now.window.items _ c.args.way c.args.begun.now
+    c.take_opened-taken.new.reader (λ s. s.now) told.gave told.ended c.args.file.now _ _ _
+    c.take_opened-taken.result (search rules) (search rules) (search rules)
+    c.history.ensures.by_flows (search rules) c.history.ensures.known c.history.ensures.parts
+    c.take_opened-taken.ensures.stop
 
-pub returns-clause-sound : goal.returns-clause-sound
-returns-clause-sound g c =
-    part_read c.args.opening.now g.S.ByteSource.gave c.args.capture.now _ _ _ _ _ _ (search rules)
-    (search rules) c.take_opened-taken.ensures.grown c.take_opened-taken.ensures.sound
+pub returns-in-Err-clause-refusal : goal.returns-in-Err-clause-refusal
+returns-in-Err-clause-refusal g c =
+    let told = g.S.ByteSource in
+    unopened_refused c.args.opening.now.window.items c.args.way c.args.begun.now told.gave
+    told.ended c.args.file.now _ c.unopened.new.source c.unopened.result (search rules)
+    (c.unopened.ensures.refusal (told.gave c.args.file.now) (search rules) (search rules))

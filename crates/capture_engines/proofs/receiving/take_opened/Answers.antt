@@ -1,60 +1,52 @@
+use Rattle.std.proofs.Common.{inl, inr, refl}
 use Rattle.std.proofs.lemmas.Result.{err_from_is_err_and}
-use Rattle.capture_engines.proofs.ReceivedRefusals.{records_refused, text_refused}
+use Rattle.run_outcome.proofs.Printed.{on_ok}
 use Rattle.run_outcome.proofs.Refusals.{if_err_map, of_refusal_map}
-use Rattle.std.proofs.Common.{inl}
-use Rattle.capture_engines.proofs.Rescues.{file_part, first_part}
-use Rattle.capture_engines.proofs.Taken.{file_taken_if, first_taken_if, none_begun}
-use Rattle.st_format.proofs.Histories.{grew_none}
+use Rattle.capture_engines.proofs.Taken.{first_taken, none_begun, records_taken}
 use Rattle.capture_engines.proofs.receiving.take_opened.Goals as goal
 
 pub returns-in-Some-clause-taken : goal.returns-in-Some-clause-taken
 returns-in-Some-clause-taken g c =
-    file_taken_if c.args.opening.now c.args.begun.now _ _
-    _ c.args.text.now c.take_capture.result
-    c.in-Some.is c.take_capture.ensures.taken
+    on_ok c.take_records.result _ _
+    (λ over. records_taken c.args.opening.now c.args.text.now c.args.begun.now _ _ _ c.in-Some.is
+    c.take_records.ensures.taken)
+    c.take_records.ensures.ended
 
-pub returns-in-Some-clause-refusal : goal.returns-in-Some-clause-refusal
-returns-in-Some-clause-refusal g c =
-    if_err_map c.take_capture.result
-    (λ e. of_refusal_map e
-    (records_refused c.args.opening.now.window.items c.args.begun.now
-    _ c.args.text.now))
-    c.take_capture.ensures.refusal
+pub returns-in-Some-clause-stop : goal.returns-in-Some-clause-stop
+returns-in-Some-clause-stop g c =
+    if_err_map c.take_records.result
+    (λ f is. inl (
+      records_taken c.args.opening.now c.args.text.now c.args.begun.now _ _ _
+          c.in-Some.is c.take_records.ensures.taken,
+      is,
+    ))
+    c.take_records.ensures.stop
 
-pub returns-in_err-intake-clause-refusal : goal.returns-in_err-intake-clause-refusal
-returns-in_err-intake-clause-refusal g c =
+pub returns-in_err-intake-clause-stop : goal.returns-in_err-intake-clause-stop
+returns-in_err-intake-clause-stop g c =
     let p = err_from_is_err_and c.from_residual.result c.from_residual.ensures.1 in
-    rw (p.1, p.2) (of_refusal_map c.in_err-intake.field-0.0
-    (text_refused c.args.opening.now.window.items c.args.begun.now
-    _ c.args.text.now
-    (none_begun c.args.begun.now c.in_default.not-Some))
-    c.in_err-intake.ensures.refusal)
+    rw (p.1, p.2) (inr (
+      refl,
+      of_refusal_map c.in_err-intake.field-0.0
+          (λ r is. (none_begun c.args.begun.now c.in_default.not-Some, is))
+          c.in_err-intake.ensures.refusal,
+    ))
 
 pub returns-clause-taken : goal.returns-clause-taken
 returns-clause-taken g c =
-    first_taken_if c.args.opening.now c.args.begun.now _ _
-    _ c.args.text.now
-    c.take_capture-taken.result (none_begun c.args.begun.now c.in_default.not-Some)
-    c.in_ok-intake.ensures.opened c.take_capture-taken.ensures.taken
-
-pub returns-clause-refusal : goal.returns-clause-refusal
-returns-clause-refusal g c =
-    if_err_map c.take_capture-taken.result
-    (λ e. of_refusal_map e
-    (records_refused c.args.opening.now.window.items c.args.begun.now
-    _ c.args.text.now))
-    c.take_capture-taken.ensures.refusal
-
-pub returns-in_err-intake-clause-grown : goal.returns-in_err-intake-clause-grown
-returns-in_err-intake-clause-grown g c = grew_none (g.S.ByteSource.gave c.args.reader.now.source)
-
-pub returns-in-Some-clause-sound : goal.returns-in-Some-clause-sound
-returns-in-Some-clause-sound g c =
-    inl (file_part c.args.opening.now c.args.begun.now _ _ _ c.args.text.now c.in-Some.is
-    c.take_capture.ensures.sound)
-
-pub returns-clause-sound : goal.returns-clause-sound
-returns-clause-sound g c =
-    inl (first_part c.args.opening.now c.args.begun.now _ _ _ c.args.text.now
+    on_ok c.take_records-taken.result _ _
+    (λ over. first_taken c.args.opening.now c.args.text.now c.args.begun.now _ _ _
     (none_begun c.args.begun.now c.in_default.not-Some) c.in_ok-intake.ensures.opened
-    c.take_capture-taken.ensures.sound)
+    c.take_records-taken.ensures.taken)
+    c.take_records-taken.ensures.ended
+
+pub returns-clause-stop : goal.returns-clause-stop
+returns-clause-stop g c =
+    if_err_map c.take_records-taken.result
+    (λ f is. inl (
+      first_taken c.args.opening.now c.args.text.now c.args.begun.now _ _ _
+          (none_begun c.args.begun.now c.in_default.not-Some) c.in_ok-intake.ensures.opened
+          c.take_records-taken.ensures.taken,
+      is,
+    ))
+    c.take_records-taken.ensures.stop

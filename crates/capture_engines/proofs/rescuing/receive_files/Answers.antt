@@ -6,7 +6,7 @@ use Rattle.run_outcome.specs.Moments.{WasRead}
 use Rattle.run_outcome.proofs.Refusals.{of_refusal_map}
 use Rattle.capture_engines.specs.Counted.{CountsReceived}
 use Rattle.capture_engines.proofs.InOrder.{receives}
-use Rattle.capture_engines.proofs.ReceivedRefusals.{captures_refused}
+use Rattle.capture_engines.proofs.ReceivedRefusals.{files_refused}
 use Rattle.capture_engines.proofs.Rescues.{counted_if, counts, on_ok_both, on_ok_each}
 use Rattle.capture_engines.proofs.Rescues.{part_refused, rescued_if, rescues}
 use Rattle.capture_engines.proofs.rescuing.receive_files.Goals as goal
@@ -30,8 +30,8 @@ returns-in-Whole-clause-taken g c =
     let told = g.S.ByteSource in
     on_ok_both c.put_out.result _ _ _
     (receives c.in_ok-opening.opening c.args.wanted.window.now c.args.wanted.ssrc.now
-    (option_copied c.args.sdp) (WasRead told.gave told.ended)
-    (zip c.args.captures.now c.rescue_captures.new.captures) c.in_ok-begun.begun
+    (option_copied c.args.sdp) c.args.ways.now (WasRead told.gave told.ended)
+    (zip c.args.files.now c.rescue_files.new.files) c.in_ok-begun.begun
     c.in-Whole.intake c.args.wanted.tells_refusals _ _ _ _ c.in_ok-opening.ensures.window
     c.in_ok-opening.ensures.source c.in_ok-begun.ensures.begun
     (rw c.in-Whole.is at c.in_ok-intake.ensures.taken))
@@ -44,10 +44,10 @@ returns-in-Whole-clause-counted g c =
     let source = c.args.wanted.ssrc.now in
     let sdp = option_copied c.args.sdp in
     let read = WasRead told.gave told.ended in
-    let captures = zip c.args.captures.now c.rescue_captures.new.captures in
+    let captures = zip c.args.files.now c.rescue_files.new.files in
     counted_if c.put_out.result c.put_out.new.reception _
-    (CountsReceived window source sdp read captures)
-    (counts c.in_ok-opening.opening window source sdp read captures c.in_ok-begun.begun
+    (CountsReceived window source sdp c.args.ways.now read captures)
+    (counts c.in_ok-opening.opening window source sdp c.args.ways.now read captures c.in_ok-begun.begun
     c.in-Whole.intake _ c.in_ok-opening.ensures.window c.in_ok-opening.ensures.source
     c.in_ok-begun.ensures.begun (rw c.in-Whole.is at c.in_ok-intake.ensures.taken) refl)
     c.put_out.ensures.counted
@@ -56,16 +56,17 @@ pub returns-in-Part-clause-rescued : goal.returns-in-Part-clause-rescued
 returns-in-Part-clause-rescued g c =
     let told = g.S.ByteSource in
     let taken = rw c.in-Part.is at c.in_ok-intake.ensures.taken in
-    rescued_if c.put_part.result c.put_part.new.reception _ _ _ _
+    rescued_if c.put_part.result c.put_part.new.reception c.in-Part.fault _ _ _ _
     (λ printed whole r is. (
       c.if-is_sound.true,
       rescues c.in_ok-opening.opening c.args.wanted.window.now c.args.wanted.ssrc.now
-          (option_copied c.args.sdp) told.gave told.ended
-          (zip c.args.captures.now c.rescue_captures.new.captures) c.in_ok-begun.begun
+          (option_copied c.args.sdp) c.args.ways.now told.gave told.ended c.in-Part.fault
+          (zip c.args.files.now c.rescue_files.new.files) c.in_ok-begun.begun
           c.in-Part.intake c.args.wanted.tells_refusals _ _ _ _ r c.in_ok-opening.ensures.window
           c.in_ok-opening.ensures.source c.in_ok-begun.ensures.begun taken.0 printed whole is,
     ))
     c.put_part.ensures.printed c.put_part.ensures.whole c.put_part.ensures.counted
+    c.put_part.ensures.same
 
 pub returns-in-Part-clause-refusal : goal.returns-in-Part-clause-refusal
 returns-in-Part-clause-refusal g c =
@@ -77,9 +78,9 @@ returns-in-Part-clause-refusal g c =
     (λ r is. inr (
       window,
       c.in_ok-opening.ensures.window,
-      inr (captures_refused window
-          c.in_ok-begun.begun (option_copied c.args.sdp) (WasRead told.gave told.ended)
-          (zip c.args.captures.now c.rescue_captures.new.captures)
+      inr (files_refused window
+          c.in_ok-begun.begun (option_copied c.args.sdp) c.args.ways.now (WasRead told.gave told.ended)
+          (zip c.args.files.now c.rescue_files.new.files)
           c.in_ok-begun.ensures.none r is),
     ))
     taken.1)
@@ -98,9 +99,9 @@ returns-clause-refusal g c =
     (λ r is. inr (
       window,
       c.in_ok-opening.ensures.window,
-      inr (captures_refused window
-          c.in_ok-begun.begun (option_copied c.args.sdp) (WasRead told.gave told.ended)
-          (zip c.args.captures.now c.rescue_captures.new.captures)
+      inr (files_refused window
+          c.in_ok-begun.begun (option_copied c.args.sdp) c.args.ways.now (WasRead told.gave told.ended)
+          (zip c.args.files.now c.rescue_files.new.files)
           c.in_ok-begun.ensures.none r is),
     ))
     taken.1
@@ -115,9 +116,9 @@ returns-in_err-intake-clause-refusal g c =
     (λ r is. inr (
       window,
       c.in_ok-opening.ensures.window,
-      inr (captures_refused window
-          c.in_ok-begun.begun (option_copied c.args.sdp) (WasRead told.gave told.ended)
-          (zip c.args.captures.now c.rescue_captures.new.captures)
+      inr (files_refused window
+          c.in_ok-begun.begun (option_copied c.args.sdp) c.args.ways.now (WasRead told.gave told.ended)
+          (zip c.args.files.now c.rescue_files.new.files)
           c.in_ok-begun.ensures.none r is),
     ))
     c.in_err-intake.ensures.refusal)

@@ -1,6 +1,10 @@
-use Rattle.std.proofs.Common.{◌≡◌}
+use Rattle.std.proofs.Common.{◌≡◌, All}
 use Rattle.std.specs.Prelude.{vec_len}
+use Rattle.capture_runs.specs.Looked.{IsFresh}
 use Rattle.capture_runs.proofs.looking.files_of.Given as goal
 
 abbrev pub invariant-loop-name : goal.invariant-loop-name
-invariant-loop-name l = vec_len l.files ≡ l.name-index
+invariant-loop-name l = record {
+  fresh : All IsFresh l.files.items;
+  each : vec_len l.files ≡ l.name-index;
+}

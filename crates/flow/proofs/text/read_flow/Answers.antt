@@ -1,46 +1,47 @@
 use Rattle.std.proofs.Common.{subst, sym}
-use Rattle.flow.specs.FlowText.{Finds, IsFlowText, IsHost, IsPlaceOf}
-use Rattle.flow.proofs.FlowTexts.{no_place_alone, no_place_found, no_source_found, place_alone}
-use Rattle.flow.proofs.FlowTexts.{source_found}
+use Rattle.interface_name.specs.Name.{IsName}
+use Rattle.flow.specs.FlowText.{Finds, IsFlowText, IsSourceOf}
+use Rattle.flow.proofs.FlowTexts.{ends_alone, interface_found, no_ends_alone, no_ends_found}
+use Rattle.flow.proofs.FlowTexts.{no_interface_found}
 use Rattle.flow.proofs.text.read_flow.Goals as goal
 
-pub returns-in_err-source-in-Some : goal.returns-in_err-source-in-Some
-returns-in_err-source-in-Some c =
+pub returns-in_err-interface-in-Some : goal.returns-in_err-interface-in-Some
+returns-in_err-interface-in-Some c =
     let text = c.args.text.now in
-    let host = c.in-Some.host.now in
+    let name = c.in-Some.name.now in
     let split = c.in-Some.ensures in
     subst (Finds IsFlowText text) (sym c.from_residual.ensures)
-    (no_source_found text host c.in-Some.rest.now split.0 split.1
-    (subst (Finds IsHost host) c.in_err-source-in-Some.was c.read_host.ensures))
+    (no_interface_found text name c.in-Some.rest.now split.0 split.1
+    (subst (Finds IsName name) c.in_err-interface-in-Some.was c.read.ensures.words))
 
-pub returns-in_err-place-in-Some : goal.returns-in_err-place-in-Some
-returns-in_err-place-in-Some c =
+pub returns-in_err-ends-in-Some : goal.returns-in_err-ends-in-Some
+returns-in_err-ends-in-Some c =
     let text = c.args.text.now in
     let rest = c.in-Some.rest.now in
     let split = c.in-Some.ensures in
-    subst (Finds IsFlowText text) (sym c.from_residual-in_err-place-in-Some.ensures)
-    (no_place_found text c.in-Some.host.now rest split.0 split.1
-    (subst (Finds IsPlaceOf rest) c.in_err-place-in-Some.was c.read_place.ensures))
+    subst (Finds IsFlowText text) (sym c.from_residual-in_err-ends-in-Some.ensures)
+    (no_ends_found text c.in-Some.name.now rest split.0 split.1
+    (subst (Finds IsSourceOf rest) c.in_err-ends-in-Some.was c.read_ends.ensures))
 
-pub returns-in_err-place-in-None : goal.returns-in_err-place-in-None
-returns-in_err-place-in-None c =
+pub returns-in_err-ends-in-None : goal.returns-in_err-ends-in-None
+returns-in_err-ends-in-None c =
     let text = c.args.text.now in
-    subst (Finds IsFlowText text) (sym c.from_residual-in_err-place-in-None.ensures)
-    (no_place_alone text c.in-None.ensures
-    (subst (Finds IsPlaceOf text) c.in_err-place-in-None.was c.read_place-in-None.ensures))
+    subst (Finds IsFlowText text) (sym c.from_residual-in_err-ends-in-None.ensures)
+    (no_ends_alone text c.in-None.ensures
+    (subst (Finds IsSourceOf text) c.in_err-ends-in-None.was c.read_ends-in-None.ensures))
 
-pub returns-in_ok-place-in-Some : goal.returns-in_ok-place-in-Some
-returns-in_ok-place-in-Some c =
-    let host = c.in-Some.host.now in
+pub returns-in_ok-ends-in-Some : goal.returns-in_ok-ends-in-Some
+returns-in_ok-ends-in-Some c =
+    let name = c.in-Some.name.now in
     let rest = c.in-Some.rest.now in
     let split = c.in-Some.ensures in
-    source_found c.args.text.now host rest split.0 split.1 c.in_ok-source-in-Some.source
-    c.in_ok-place-in-Some.place
-    (subst (Finds IsHost host) c.in_ok-source-in-Some.was c.read_host.ensures)
-    (subst (Finds IsPlaceOf rest) c.in_ok-place-in-Some.was c.read_place.ensures)
+    interface_found c.args.text.now name rest split.0 split.1 c.in_ok-interface-in-Some.interface
+    c.in_ok-ends-in-Some.ends
+    (subst (Finds IsName name) c.in_ok-interface-in-Some.was c.read.ensures.words)
+    (subst (Finds IsSourceOf rest) c.in_ok-ends-in-Some.was c.read_ends.ensures)
 
-pub returns-in_ok-place-in-None : goal.returns-in_ok-place-in-None
-returns-in_ok-place-in-None c =
+pub returns-in_ok-ends-in-None : goal.returns-in_ok-ends-in-None
+returns-in_ok-ends-in-None c =
     let text = c.args.text.now in
-    place_alone text c.in_ok-place-in-None.place
-    (subst (Finds IsPlaceOf text) c.in_ok-place-in-None.was c.read_place-in-None.ensures)
+    ends_alone text c.in_ok-ends-in-None.ends
+    (subst (Finds IsSourceOf text) c.in_ok-ends-in-None.was c.read_ends-in-None.ensures)

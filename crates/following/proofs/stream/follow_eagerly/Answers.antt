@@ -1,4 +1,4 @@
-use Rattle.path_merge.specs.Took.{datagrams_since}
+use Rattle.path_receiver.specs.Took.{datagrams_since}
 use Rattle.following.specs.Stream.{not_shown}
 use Rattle.following.proofs.Driving.{turns_told}
 use Rattle.following.proofs.Turning.{early_turned}

@@ -1,6 +1,6 @@
 use Rattle.std.proofs.Common.{Some, map, option_copied, arith, refl, subst, sym, ap, ◌∙◌}
 use Rattle.std.proofs.lemmas.List.{take_all}
-use Rattle.path_merge.specs.Frames.{frame_at}
+use Rattle.path_receiver.specs.Frames.{frame_at}
 use Rattle.st_format.specs.Member.{IsMember}
 use Rattle.receiver_engines.proofs.Lists.{map_next}
 use Rattle.receiver_engines.proofs.Refusals.{member_at, window_lacks}

@@ -1,5 +1,5 @@
 use Rattle.std.proofs.Common.{◌≡◌, map, take, Some}
-use Rattle.path_merge.specs.Frames.{frame_at}
+use Rattle.path_receiver.specs.Frames.{frame_at}
 use Rattle.receiver_engines.proofs.inputs.frames_at.Given as goal
 
 abbrev pub invariant-loop-receiver : goal.invariant-loop-receiver

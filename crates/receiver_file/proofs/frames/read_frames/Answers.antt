@@ -8,7 +8,7 @@ use Rattle.std.proofs.Common.{refl, sym, subst}
 use Rattle.std.proofs.lemmas.Result.{err_from_is_err_and}
 use Rattle.st_format.specs.Fields.{fields_of}
 use Rattle.st_format.specs.Raster.{Raster}
-use Rattle.path_merge.specs.Opening.{AreDifferent}
+use Rattle.path_receiver.specs.Opening.{AreDifferent}
 use Rattle.receiver_file.proofs.FrameReads.{frames_push, frames_start, groups_stop, stamp_stop}
 use Rattle.receiver_file.proofs.Stamped.{all_next, all_none, different_next}
 use Rattle.media_file.proofs.Gave.{fault_memory}

@@ -1,7 +1,7 @@
 use Rattle.std.proofs.Common.{◌≡◌, [], All, length}
 use Rattle.st_format.specs.Fields.{fields_of}
 use Rattle.st_format.specs.Raster.{Raster}
-use Rattle.path_merge.specs.Opening.{AreDifferent}
+use Rattle.path_receiver.specs.Opening.{AreDifferent}
 use Rattle.st_format.specs.Given.{Takes}
 use Rattle.receiver_file.specs.Giving.{GaveOf}
 use Rattle.receiver_file.specs.Saved.{kept_frames}

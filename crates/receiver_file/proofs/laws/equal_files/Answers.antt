@@ -1,7 +1,7 @@
 use Rattle.std.proofs.Common.{◌∙◌, ap, sym}
-use Rattle.path_merge.specs.Frames.{frames_of}
-use Rattle.path_merge.specs.Opening.{Opening}
-use Rattle.path_merge.proofs.Frames.{frames_of-same}
+use Rattle.path_receiver.specs.Frames.{frames_of}
+use Rattle.path_receiver.specs.Opening.{Opening}
+use Rattle.path_receiver.proofs.Frames.{frames_of-same}
 use Rattle.receiver_file.proofs.SameKept.{equal_kept}
 use Rattle.receiver_file.proofs.laws.equal_files.Goals as goal
 

@@ -1,7 +1,7 @@
 use Rattle.std.proofs.Common.{◌≡◌, ◌∙◌, ℕ, All, List, length, ap, subst, sym}
 use Rattle.st_format.specs.declared.format.Format.{Format}
 use Rattle.st_format.specs.Raster.{Raster}
-use Rattle.path_merge.specs.Opening.{Opening}
+use Rattle.path_receiver.specs.Opening.{Opening}
 use Rattle.receiver_file.proofs.loading.open_again.Goals as goal
 
 pub open-opened-requires : goal.open-opened-requires

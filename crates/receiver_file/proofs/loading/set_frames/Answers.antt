@@ -2,8 +2,8 @@ use Rattle.std.proofs.Common.{◌++◌, drop, append-nil, refl}
 use Rattle.std.proofs.lemmas.List.{drop_all, take_all}
 use Rattle.std.proofs.Common.{ℕ, ◌<◌, ◌∙◌, List, length, get_or, set, ap, sym, arith}
 use Rattle.st_format.specs.Raster.{Raster}
-use Rattle.path_merge.specs.Frames.{State}
-use Rattle.path_merge.specs.Opening.{Opening}
+use Rattle.path_receiver.specs.Frames.{State}
+use Rattle.path_receiver.specs.Opening.{Opening}
 use Rattle.receiver_file.proofs.Exchanged.{given_one, next_rest, next_set}
 use Rattle.receiver_file.proofs.loading.set_frames.Goals as goal
 

@@ -1,5 +1,5 @@
 use Rattle.std.proofs.Common.{◌≡◌, ◌++◌, take, drop}
-use Rattle.path_merge.specs.Frames.{IsReceiver}
+use Rattle.path_receiver.specs.Frames.{IsReceiver}
 use Rattle.receiver_file.proofs.loading.set_frames.Given as goal
 
 pub record Giving (sound opened refused given rest : Type 0) : Type 0 where

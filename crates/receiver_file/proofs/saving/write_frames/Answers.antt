@@ -1,7 +1,7 @@
 use Rattle.std.proofs.Common.{◌<◌, ◌≤◌, ◌∙◌, Some, refl, sym, subst, ap, get_or, ℕ, List, length}
 use Rattle.std.specs.Option.{option_copied}
 use Rattle.std.proofs.lemmas.Result.{err_from_is_err_and}
-use Rattle.path_merge.specs.Frames.{State}
+use Rattle.path_receiver.specs.Frames.{State}
 use Rattle.st_format.specs.Member.{IsMember}
 use Rattle.receiver_file.proofs.KeptRuns.{frames_all, frames_more, frames_none, frames_stop}
 use Rattle.receiver_file.proofs.KeptRuns.{member_of}

@@ -1,6 +1,6 @@
 use Rattle.std.proofs.Common.{◌≡◌, ◌<◌, ◌∙◌, sym, subst, ap, get_or, ℕ, List, length}
 use Rattle.std.specs.Option.{option_copied}
-use Rattle.path_merge.specs.Frames.{State}
+use Rattle.path_receiver.specs.Frames.{State}
 use Rattle.st_format.specs.Member.{IsMember}
 use Rattle.receiver_file.proofs.Filled.{filled_next}
 use Rattle.receiver_file.proofs.KeptRuns.{member_of}

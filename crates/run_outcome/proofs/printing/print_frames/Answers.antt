@@ -1,7 +1,7 @@
 use Rattle.std.proofs.Common.{◌<◌, ◌≤◌, ◌∙◌, ℕ, List, ap, append-nil, get_or, length, refl}
 use Rattle.std.proofs.Common.{subst, sym}
 use Rattle.std.proofs.lemmas.Result.{err_from_is_err_and}
-use Rattle.path_merge.specs.Frames.{State}
+use Rattle.path_receiver.specs.Frames.{State}
 use Rattle.run_outcome.specs.Frames.{frame_line_at}
 use Rattle.run_outcome.proofs.Printed.{texts_all, texts_cut, texts_more}
 use Rattle.run_outcome.proofs.printing.print_frames.Goals as goal

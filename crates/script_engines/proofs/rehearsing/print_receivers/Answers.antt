@@ -2,7 +2,7 @@ use Rattle.std.proofs.Common.{◌∙◌, ◌<◌, ℕ, List, append-nil, length,
 use Rattle.std.specs.List.{enumerate_from}
 use Rattle.std.proofs.lemmas.Result.{err_from_is_err_and}
 use Rattle.run_outcome.proofs.Printed.{texts_all, texts_cut, texts_more}
-use Rattle.path_merge.specs.Frames.{State}
+use Rattle.path_receiver.specs.Frames.{State}
 use Rattle.script_engines.specs.Rehearsed.{receiver_lines}
 use Rattle.script_engines.proofs.RehearsedLemmas.{numbered_before, numbered_end, numbered_item}
 use Rattle.script_engines.proofs.rehearsing.print_receivers.Goals as goal

@@ -1,5 +1,5 @@
 use Rattle.std.proofs.Common.{List, ℕ, inl, refl, subst, sym}
-use Rattle.path_merge.specs.Opening.{Opening}
+use Rattle.path_receiver.specs.Opening.{Opening}
 use Rattle.run_outcome.specs.declared.fault.Fault.{Fault}
 use Rattle.run_outcome.specs.declared.script_line.Form.TheVariants.{Open}
 use Rattle.script_engines.specs.FirstLines.{ReadsOpening, end_of, lines_left}

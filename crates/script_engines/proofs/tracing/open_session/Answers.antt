@@ -1,6 +1,6 @@
 use Rattle.std.proofs.Common.{inl, subst, sym}
 use Rattle.std.proofs.lemmas.Result.{err_from_is_err_and}
-use Rattle.path_merge.specs.Frames.{State}
+use Rattle.path_receiver.specs.Frames.{State}
 use Rattle.run_outcome.specs.declared.fault.Fault.{Fault}
 use Rattle.run_outcome.specs.declared.fault.Fault.TheVariants.{Refused}
 use Rattle.script_engines.specs.FirstLines.{IsFaultyFormat, end_of, lines_left}

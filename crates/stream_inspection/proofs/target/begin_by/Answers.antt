@@ -1,10 +1,9 @@
-use Rattle.std.proofs.Common.{refl}
-use Rattle.run_outcome.specs.Moments.{WasRead}
-use Rattle.stream_inspection.proofs.Told.{some_begun}
+use Rattle.std.proofs.Common.{ap}
+use Rattle.std.specs.Option.{option_copied}
+use Rattle.stream_inspection.proofs.Told.{said_begun}
 use Rattle.stream_inspection.proofs.target.begin_by.Goals as goal
 
 pub returns-in-Ok-clause-begun : goal.returns-in-Ok-clause-begun
 returns-in-Ok-clause-begun g c =
-    let told = g.S.ByteSource in
-    some_begun (WasRead told.gave told.ended) _ _ c.in-Ok.target (rw c.in-Some.is refl)
-    c.in-Ok.ensures.read
+    said_begun (option_copied c.args.sdp) _ c.in-Ok.target (ap option_copied c.in-Some.is)
+    c.in-Ok.ensures.announced

@@ -7,11 +7,11 @@ use Rattle.window_finding.proofs.finding.find_all.Given as goal
 
 abbrev pub invariant-loop-place : goal.invariant-loop-place
 invariant-loop-place g l = record {
-  len : length l.captures ≡ length l.initial.captures;
-  behind : drop l.place l.captures ≡ drop l.place l.initial.captures;
-  failures : sum_by g.S.ByteSource.failures l.captures ≡ sum_by g.S.ByteSource.failures
-      l.initial.captures;
+  len : length l.files ≡ length l.initial.files;
+  behind : drop l.place l.files ≡ drop l.place l.initial.files;
+  failures : sum_by g.S.ByteSource.failures l.files ≡ sum_by g.S.ByteSource.failures
+      l.initial.files;
   begun : HasStarted l.place l.initial.begun l.begun;
-  found : FindsFiles l.fn.sought (WasRead g.S.ByteSource.gave g.S.ByteSource.ended)
-      (zip (take l.place l.initial.captures) (take l.place l.captures)) l.initial.begun l.begun;
+  found : FindsFiles l.fn.sought l.fn.ways (WasRead g.S.ByteSource.gave g.S.ByteSource.ended)
+      (zip (take l.place l.initial.files) (take l.place l.files)) l.initial.begun l.begun;
 }

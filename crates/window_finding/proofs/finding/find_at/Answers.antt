@@ -3,6 +3,7 @@ use Rattle.run_outcome.specs.Moments.{WasRead}
 use Rattle.run_outcome.proofs.Printed.{on_ok}
 use Rattle.run_outcome.proofs.Refusals.{if_err_map, of_refusal_map}
 use Rattle.run_outcome.proofs.SetSums.{set_counted}
+use Rattle.capture_engines.specs.Files.{way_at}
 use Rattle.capture_engines.specs.Received.{IsTakeRefusal}
 use Rattle.capture_engines.proofs.OneOf.{first_at}
 use Rattle.window_finding.specs.Finding.{FindsFile}
@@ -13,10 +14,10 @@ returns-clause-found g c =
     let told = WasRead g.S.ByteSource.gave g.S.ByteSource.ended in
     on_ok c.find_one.result _ _
     (λ found. first_at
-    (λ s. FindsFile c.args.sought (told s) c.args.begun.now c.find_one.new.begun)
-    c.args.captures.now c.args.place c.index-captures-place.result c.find_one.new.capture
+    (λ s. FindsFile c.args.sought (way_at c.args.ways.now c.args.place) (told s) c.args.begun.now c.find_one.new.begun)
+    c.args.files.now c.args.place c.index-files-place.result c.find_one.new.file
     c.requires.place found)
-    c.find_one.ensures.found
+    (rw c.at.ensures at c.find_one.ensures.found)
 
 pub returns-clause-refusal : goal.returns-clause-refusal
 returns-clause-refusal g c =
@@ -24,13 +25,13 @@ returns-clause-refusal g c =
     if_err_map c.find_one.result
     (λ f. of_refusal_map f
     (λ r is. first_at
-    (λ s. IsTakeRefusal (0 ∷ []) c.args.begun.now (told s) r)
-    c.args.captures.now c.args.place c.index-captures-place.result c.find_one.new.capture
+    (λ s. IsTakeRefusal (0 ∷ []) (way_at c.args.ways.now c.args.place) c.args.begun.now (told s) r)
+    c.args.files.now c.args.place c.index-files-place.result c.find_one.new.file
     c.requires.place is))
-    c.find_one.ensures.refusal
+    (rw c.at.ensures at c.find_one.ensures.refusal)
 
 pub returns-clause-failures : goal.returns-clause-failures
 returns-clause-failures g c =
-    set_counted g.S.ByteSource.failures c.args.captures.now c.args.place
-    c.index-captures-place.result c.find_one.new.capture c.find_one.result c.requires.place
+    set_counted g.S.ByteSource.failures c.args.files.now c.args.place
+    c.index-files-place.result c.find_one.new.file c.find_one.result c.requires.place
     c.find_one.ensures.failures

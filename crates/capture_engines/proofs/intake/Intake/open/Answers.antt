@@ -2,7 +2,7 @@ use Rattle.std.proofs.Common.{ap}
 use Rattle.std.proofs.lemmas.Result.{err_from_is_err_and}
 use Rattle.sdp_format.specs.Views.{description}
 use Rattle.st_format.specs.Fields.{fields_of}
-use Rattle.path_merge.specs.Opening.{Opening}
+use Rattle.path_receiver.specs.Opening.{Opening}
 use Rattle.capture_engines.proofs.CaptureRuns.{window_refused}
 use Rattle.capture_engines.proofs.intake.Intake.open.Goals as goal
 

@@ -1,6 +1,6 @@
 use Rattle.std.proofs.Common.{◌∙◌, ◌-◌, ◌≤◌, ap, arith, drop, length, rules, take}
 use Rattle.std.proofs.lemmas.List.{length-take}
-use Rattle.recorded_capture.proofs.Givings.{first_more, part_is}
+use Rattle.capture_runs.proofs.Given.{first_more, part_is}
 use Rattle.devices.specs.Passed.{file_gave}
 use Rattle.capture_runs.proofs.replaying.ReplayedByteSource.read.Goals as goal
 

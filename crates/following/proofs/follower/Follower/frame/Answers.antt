@@ -2,9 +2,9 @@ use Rattle.std.proofs.Common.{List, ℕ, Option, Some, ap, sym, ◌∙◌, subst
 use Rattle.std.specs.Prelude.{slice_get}
 use Rattle.st_format.specs.Member.{IsMember}
 use Rattle.st_format.specs.Raster.{Raster}
-use Rattle.path_merge.specs.Frames.{frame_at}
-use Rattle.path_merge.proofs.Windows.{below_get, frame_found, frame_none, get_some}
-use Rattle.path_merge.proofs.Windows.{not_member}
+use Rattle.path_receiver.specs.Frames.{frame_at}
+use Rattle.path_receiver.proofs.Windows.{below_get, frame_found, frame_none, get_some}
+use Rattle.path_receiver.proofs.Windows.{not_member}
 use Rattle.following.specs.Follower.{Following}
 use Rattle.following.proofs.Rising.{different, rising_in}
 use Rattle.following.proofs.follower.Follower.frame.Goals as goal

@@ -3,7 +3,7 @@ use Rattle.std.proofs.Common.{None, Some, refl, sym, ap, ◌∙◌, arith, vec_l
 use Rattle.std.specs.Prelude.{slice_get}
 use Rattle.std.proofs.lemmas.Bool.{eqb-false, eqb-true}
 use Rattle.st_format.specs.Raster.{Raster}
-use Rattle.path_merge.proofs.Windows.{get_some}
+use Rattle.path_receiver.proofs.Windows.{get_some}
 use Rattle.following.specs.Follower.{Following}
 use Rattle.following.specs.Turned.{first_complete, is_complete}
 use Rattle.following.proofs.Turning.{complete_none, complete_some}

@@ -3,9 +3,9 @@ use Rattle.std.proofs.Common.{◌∙◌, subst, arith, vec_capacity, length-set}
 use Rattle.std.specs.Prelude.{slice_get}
 use Rattle.st_format.specs.declared.format.Format.{Format}
 use Rattle.st_format.specs.Raster.{Raster}
-use Rattle.path_merge.specs.Grammar.{Datagram}
-use Rattle.path_merge.proofs.Windows.{below_get}
-use Rattle.following.specs.Admission.{datagram_of}
+use Rattle.path_receiver.specs.Grammar.{Datagram}
+use Rattle.path_receiver.proofs.Windows.{below_get}
+use Rattle.path_receiver.specs.Admission.{datagram_of}
 use Rattle.following.specs.Follower.{Following, IsFollower, joined, reading_of, standing_of}
 use Rattle.following.proofs.Kept.{follower_set, format_again, joined_set, joined_taken, left_state}
 use Rattle.following.proofs.Kept.{read_again, refused_state, spare_kept}

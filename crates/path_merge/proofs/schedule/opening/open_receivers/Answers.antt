@@ -1,5 +1,5 @@
 use Rattle.std.proofs.Common.{List, [], ◌∷◌, arith, ap, length, length-append}
-use Rattle.path_merge.specs.Frames.{State}
+use Rattle.path_receiver.specs.Frames.{State}
 use Rattle.path_merge.proofs.OpeningLemmas.{opened_more, opening_of}
 use Rattle.path_merge.proofs.schedule.opening.open_receivers.Goals as goal
 

@@ -1,11 +1,11 @@
 use Rattle.std.proofs.Common.{ℕ, Err, ap, arith, subst, slice_index_or}
 use Rattle.std.proofs.lemmas.Option.{slice_get-get_or}
 use Rattle.path_merge.specs.declared.schedule.event.Event.TheVariants.{Send}
-use Rattle.path_merge.specs.declared.schedule.play_fault.Stop.{Stop}
+use Rattle.path_merge.specs.declared.schedule.stop.Stop.{Stop}
 use Rattle.path_merge.specs.Stage.{StopsAt}
 use Rattle.std.proofs.Common.{inl, inr, length, refl}
 use Rattle.path_merge.specs.Stage.{FollowsTo}
-use Rattle.path_merge.proofs.Failed.{not_event}
+use Rattle.path_merge.proofs.Stopped.{not_event}
 use Rattle.path_merge.proofs.CountingUp.{fewer, reached}
 use Rattle.path_merge.proofs.PlayLemmas.{fails_here, follows_next, same_place}
 use Rattle.path_merge.proofs.schedule.playing.follow_all.Goals as goal

@@ -3,9 +3,9 @@ use Rattle.st_format.specs.declared.format.Format.{Format}
 use Rattle.path_merge.specs.Played.{ArePictures}
 use Rattle.path_merge.specs.Sent.{scene_of, sender_of}
 use Rattle.path_merge.specs.Unfit.{SpeaksAgainst}
-use Rattle.path_merge.specs.declared.schedule.play_fault.PlayFault.TheVariants.{BadEvent}
-use Rattle.path_merge.specs.declared.schedule.play_fault.PlayFault.TheVariants.{BadPictures}
-use Rattle.path_merge.specs.declared.schedule.play_fault.PlayFault.TheVariants.{BadReceivers}
+use Rattle.path_receiver.specs.declared.play_fault.PlayFault.TheVariants.{BadEvent}
+use Rattle.path_receiver.specs.declared.play_fault.PlayFault.TheVariants.{BadPictures}
+use Rattle.path_receiver.specs.declared.play_fault.PlayFault.TheVariants.{BadReceivers}
 use Rattle.path_merge.proofs.PlayLemmas.{fault_is, no_pictures, no_receivers, played_all, texts_by}
 use Rattle.path_merge.proofs.PlayLemmas.{texts_list}
 use Rattle.path_merge.proofs.SenderStays.{senders_frame}

@@ -2,8 +2,8 @@ use Rattle.std.proofs.Common.{length, sym, ◌∙◌}
 use Rattle.std.proofs.lemmas.List.{length-take-le}
 use Rattle.std.proofs.lemmas.Result.{err_from_is_err_and}
 use Rattle.path_merge.specs.Steps.{text_at}
-use Rattle.path_merge.proofs.Failed.{err_known, none_ok}
-use Rattle.path_merge.proofs.Lives.{in_pair, in_static}
+use Rattle.path_receiver.proofs.Failed.{err_known, none_ok}
+use Rattle.path_receiver.proofs.Lives.{in_pair, in_static}
 use Rattle.path_merge.proofs.SendLemmas.{octets_within, room_at}
 use Rattle.path_merge.proofs.schedule.sending.datagram_of.Goals as goal
 

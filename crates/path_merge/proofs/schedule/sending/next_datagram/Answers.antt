@@ -7,8 +7,9 @@ use Rattle.path_merge.proofs.SendLemmas.{next_made}
 use Rattle.std.proofs.Common.{◌<◌, ◌≤◌, sym, subst, refl, length}
 use Rattle.std.proofs.Common.{◌*◌}
 use Rattle.std.proofs.lemmas.Result.{err_from_is_err_and}
-use Rattle.path_merge.proofs.Failed.{none_ok, not_unfit, ok_not_err}
-use Rattle.path_merge.proofs.Lives.{in_pair, in_static}
+use Rattle.path_receiver.proofs.Failed.{none_ok, ok_not_err}
+use Rattle.path_merge.proofs.Stopped.{not_unfit}
+use Rattle.path_receiver.proofs.Lives.{in_pair, in_static}
 use Rattle.path_merge.proofs.SendLemmas.{below_all, fits_below, index_after, to_come_past, upto}
 use Rattle.path_merge.specs.declared.schedule.sending.Next.{Next}
 use Rattle.path_merge.proofs.schedule.sending.next_datagram.Goals as goal

@@ -2,7 +2,7 @@ use Rattle.std.proofs.Common.{arith, refl}
 use Rattle.std.proofs.lemmas.List.{with_items_is}
 use Rattle.path_merge.proofs.StepLemmas.{arrive_unfit_of, arrives_of, merge_unfit_of, merges_of}
 use Rattle.path_merge.specs.declared.schedule.event.Event.TheVariants.{Send, Arrive, Slide, Merge}
-use Rattle.path_merge.specs.declared.schedule.play_fault.Stop.TheVariants.{Unfit}
+use Rattle.path_merge.specs.declared.schedule.stop.Stop.TheVariants.{Unfit}
 use Rattle.path_merge.proofs.StageLemmas.{follows_arrive, follows_merge, follows_of, follows_send}
 use Rattle.path_merge.proofs.StageLemmas.{follows_slide, never_of, on_err, on_ok_map, unfit_arrive}
 use Rattle.path_merge.proofs.StageLemmas.{unfit_merge, unfit_send, unfit_slide}

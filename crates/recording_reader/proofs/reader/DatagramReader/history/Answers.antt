@@ -1,10 +1,10 @@
 use Rattle.std.proofs.Common.{◌≡◌, subst, false, true}
 use Rattle.std.specs.Prelude.{IsSome}
 use Rattle.st_format.specs.History.{GrewFrom, since}
-use Rattle.recording_reader.specs.FileReader.{FileReader, HasGivenFile, IsExact}
+use Rattle.recording_reader.specs.FileReader.{FileReader, HasGivenFile, HasGivenRecords, IsExact}
 use Rattle.recording_reader.specs.Files.{HaveFileRecords}
 use Rattle.recording_reader.proofs.Standings.{way_by_flows, way_given, way_grew, way_has, way_kind}
-use Rattle.recording_reader.proofs.Standings.{way_known, way_said}
+use Rattle.recording_reader.proofs.Standings.{way_known, way_parts, way_said}
 use Rattle.recording_reader.proofs.reader.DatagramReader.history.Goals as goal
 
 pub returns-clause-known : goal.returns-clause-known
@@ -42,6 +42,15 @@ returns-clause-of_capture g c =
     (since v.before.gave (told.gave v.source)) v.records v.left_out) c.self.view_is
     (λ kind. way_given was.way was.flows was.standing (told.gave was.opened.value)
     (told.gave was.source) (told.ended was.source) _ _ c.self.invariant.stands kind)
+
+pub returns-clause-parts : goal.returns-clause-parts
+returns-clause-parts g c =
+    let told = g.S.ByteSource in
+    let was = c.self.inside in
+    subst (λ (v : FileReader _). v.is_recording ≡ false → HasGivenRecords told.gave told.ended v)
+    c.self.view_is
+    (λ kind octets read. way_parts was.way was.flows was.standing (told.gave was.opened.value)
+    (told.gave was.source) (told.ended was.source) _ _ octets c.self.invariant.stands kind read)
 
 pub returns-clause-by_flows : goal.returns-clause-by_flows
 returns-clause-by_flows g c =

@@ -1,8 +1,8 @@
 use Rattle.std.proofs.Common.{◌∙◌, Result, refl, subst, sym}
 use Rattle.std.proofs.lemmas.Result.{on_ok_weaker}
-use Rattle.capture_engines.specs.Tallied.{TalliesMore}
-use Rattle.path_merge.specs.declared.answer.Refusal.{Refusal}
-use Rattle.path_merge.specs.declared.answer.Taken.{Taken}
+use Rattle.path_receiver.specs.Tallied.{TalliesMore}
+use Rattle.path_receiver.specs.declared.answer.Refusal.{Refusal}
+use Rattle.path_receiver.specs.declared.answer.Taken.{Taken}
 use Rattle.stream_inspection.specs.Inspected.{entry}
 use Rattle.stream_inspection.specs.declared.inspection.Inspection.{Inspection}
 use Rattle.stream_inspection.proofs.Noting.{notes_one}

@@ -1,54 +1,58 @@
-use Rattle.std.proofs.Common.{◌∙◌, ap, length, subst}
-use Rattle.media_file.specs.Given.{HasGiven}
-use Rattle.media_file.specs.Reader.{StandsRight}
-use Rattle.run_outcome.proofs.Refusals.{if_err_map}
-use Rattle.st_format.specs.Device.{Told}
-use Rattle.window_finding.specs.Turns.{IsStop, datagrams_in}
-use Rattle.window_finding.proofs.Found.{records_found_if}
-use Rattle.window_finding.proofs.Reading.{none_yet, stop_refuses}
+use Rattle.std.proofs.Common.{◌≡◌, ◌∷◌, [], ap, arith, length, length-append, refl, rules, true}
+use Rattle.std.proofs.Common.{◌∙◌}
+use Rattle.capture_engines.specs.Files.{octets_of}
+use Rattle.capture_engines.proofs.Blaming.{reading_blamed}
+use Rattle.capture_engines.proofs.Readings.{same_twice}
+use Rattle.window_finding.proofs.Found.{none_came, record_came, turn_found}
 use Rattle.window_finding.proofs.finder.Finder.find_in.Goals as goal
 
-pub take_turns-found-requires-clause-none : goal.take_turns-found-requires-clause-none
-take_turns-found-requires-clause-none g c =
-    none_yet c.args.reader.now.before.gave (g.S.ByteSource.gave c.args.reader.now.source)
-    (ap (λ (t : Told). t.gave) c.requires.before)
+pub loop-init : goal.loop-init
+loop-init g c = record {
+  sought = refl;
+  payload_type = refl;
+  reads = c.requires.reads;
+  same = record { before = refl; flows = refl; kind = refl; text = refl };
+  names = refl;
+  failures = refl;
+  count = ap length c.requires.none;
+  found = λ datagrams is. none_came c.args.self.now datagrams c.args.reader.now.records
+      c.requires.none is;
+}
 
-pub returns-clause-found : goal.returns-clause-found
-returns-clause-found g c =
-    let told = g.S.ByteSource in
-    let old = c.args.reader.now in
-    let turns = c.take_turns-found in
-    let now = turns.new.reader in
-    let was : Told = record {
-      gave = told.gave old.source;
-      to_give = told.to_give old.source;
-      failures = told.failures old.source;
-    } in
-    records_found_if c.args.self.now turns.new.self now.standing now.before was
-    (told.to_give now.source) (told.gave now.source) (told.ended now.source) turns.result
-    (turns.ensures.before ∙ c.requires.before) turns.ensures.sought turns.ensures.payload_type
-    c.history.ensures turns.ensures.done turns.ensures.found
+pub loop-preserved : goal.loop-preserved
+loop-preserved g c =
+    let w = c.in-Ok-true in
+    let before = c.loop.invariant in
+    let was = c.args.self.now in
+    let old = c.loop.reader in
+    let now = c.advance.new.self in
+    let noted = c.in_ok-note-in-Ok-true.ensures in
+    let one : w.field-0 ≡ true = search rules in
+    let found = rw one at w.ensures.found in
+    record {
+      sought = noted.sought ∙ before.sought;
+      payload_type = noted.payload_type ∙ before.payload_type;
+      reads = found.reads;
+      same = same_twice c.args.reader.now old now before.same w.ensures.same;
+      names = w.ensures.names ∙ before.names;
+      failures = w.ensures.device before.reads ∙ before.failures;
+      count = omega (
+        arith,
+        before.count,
+        ap length found.records,
+        length-append old.records (found.entry ∷ []),
+      );
+      found = λ datagrams is.
+          turn_found was.sought c.loop.self.sought was.payload_type c.loop.self.payload_type
+          c.loop.self.window.items c.note.new.self.window.items datagrams (octets_of old.records)
+          (octets_of now.records) _ before.sought before.payload_type
+          (record_came old now _ found c.octets.ensures) noted.noted (before.found datagrams is);
+    }
 
-pub returns-clause-refusal : goal.returns-clause-refusal
-returns-clause-refusal g c =
+pub returns-in-Err-clause-failures : goal.returns-in-Err-clause-failures
+returns-in-Err-clause-failures g c =
+    let w = c.in-Err in
     let told = g.S.ByteSource in
-    let old = c.args.reader.now in
-    let turns = c.take_turns-found in
-    let now = turns.new.reader in
-    let left = told.to_give now.source in
-    let gave = told.gave now.source in
-    let over = told.ended now.source in
-    let failures = told.failures now.source in
-    let was : Told = record {
-      gave = told.gave old.source;
-      to_give = told.to_give old.source;
-      failures = told.failures old.source;
-    } in
-    let same = turns.ensures.before ∙ c.requires.before in
-    if_err_map turns.result
-    (λ f is. stop_refuses now.standing now.delivered was left gave over failures f
-    (subst (λ (t : Told). IsStop now.standing (length (datagrams_in t.gave gave)) f) same is)
-    (subst (λ (t : Told). StandsRight now.standing now.delivered t left failures) same
-    c.facts.ensures)
-    (subst (λ (t : Told). HasGiven now.standing t left gave over) same c.history.ensures))
-    turns.ensures.stop
+    reading_blamed w.fault c.of_reading.result (told.failures c.args.reader.now.source)
+    (told.failures c.loop.reader.source) (told.failures c.advance.new.self.source)
+    c.loop.invariant.failures (w.ensures.device c.loop.invariant.reads) c.of_reading.ensures

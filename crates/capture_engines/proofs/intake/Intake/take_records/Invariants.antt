@@ -1,0 +1,18 @@
+use Rattle.std.proofs.Common.{◌≡◌, length}
+use Rattle.recording_reader.specs.FileReader.{IsSameFile}
+use Rattle.recording_reader.specs.declared.way.Standing.TheVariants.{Reads}
+use Rattle.capture_engines.specs.Files.{octets_of}
+use Rattle.capture_engines.specs.Taking.{TakesDatagrams}
+use Rattle.capture_engines.proofs.intake.Intake.take_records.Given as goal
+
+abbrev pub invariant-loop : goal.invariant-loop
+invariant-loop g l =
+    let told = g.S.ByteSource in
+    record {
+      reads : l.reader.standing ≡ Reads;
+      same : IsSameFile l.initial.reader l.reader;
+      names : told.names l.reader.source ≡ told.names l.initial.reader.source;
+      failures : told.failures l.reader.source ≡ told.failures l.initial.reader.source;
+      count : length l.reader.records ≡ l.counter;
+      taken : TakesDatagrams (octets_of l.reader.records) l.initial.self l.self;
+    }

@@ -1,6 +1,0 @@
-use Rattle.std.proofs.Common.{refl, rules}
-use Rattle.capture_engines.proofs.Tallies.{tallies_none}
-use Rattle.capture_engines.proofs.tally.Tally.new.Goals as goal
-
-pub returns : goal.returns
-returns c = tallies_none _ refl (search rules) refl refl

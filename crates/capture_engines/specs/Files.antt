@@ -1,0 +1,76 @@
+-- Files of datagrams, as they are taken (own): a capture, or a recording of another tool by the
+-- flows of two paths.
+use Rattle.std.specs.Prelude.{◌≡◌, ℕ, zero, suc, ◌⊎◌, List, [], ◌∷◌, ◌++◌, map, Option, None, Some}
+use Rattle.std.specs.Prelude.{IsSome, Result, Ok, Err, true, false}
+use Rattle.flow.specs.declared.flows.Flows.{Flows}
+use Rattle.media_file.specs.Fronts.{front_at}
+use Rattle.media_file.specs.Records.{Entry}
+use Rattle.recording_reader.specs.Files.{capture_records, records_of_file}
+use Rattle.recording_reader.specs.Kinds.{is_recording}
+use Rattle.recording_reader.specs.declared.fault.ReadingFault.{ReadingFault}
+use Rattle.recording_reader.specs.declared.fault.ReadingFault.TheVariants.{Capture, Recording}
+use Rattle.run_outcome.specs.LowerFaults.{capture_fault, of_recording}
+use Rattle.run_outcome.specs.declared.fault.Fault.{Fault}
+use Rattle.run_outcome.specs.declared.refusal.Refusal.{Refusal}
+use Rattle.capture_engines.specs.declared.way.Way.{Way}
+use Rattle.capture_engines.specs.declared.way.Way.TheVariants as way
+
+-- the octets of the datagrams of records
+abbrev pub octets_of : List Entry → List (List ℕ)
+octets_of records = map (λ e. e.octets) records
+
+-- ---- how a file is taken
+
+-- the flows by which a recording is
+abbrev pub flows_in : Way → Option Flows
+flows_in (way.Flows flows) = Some flows
+flows_in (way.Refused r) = None
+flows_in way.Capture = None
+
+abbrev pub way_by : Result Flows Refusal → Way
+way_by (Ok flows) = way.Flows flows
+way_by (Err r) = way.Refused r
+
+-- how the first file is taken, and how the others are; one of which nothing is said as a capture
+abbrev pub first_way : List (Result Flows Refusal) → Way
+first_way [] = way.Capture
+first_way (w ∷ ws) = way_by w
+
+abbrev pub other_ways : List (Result Flows Refusal) → List (Result Flows Refusal)
+other_ways [] = []
+other_ways (w ∷ ws) = ws
+
+-- how the file of a place is
+abbrev pub way_at : List (Result Flows Refusal) → ℕ → Way
+way_at ways zero = first_way ways
+way_at ways (suc place) = way_at (other_ways ways) place
+
+-- a fault of a file as what ends a run
+abbrev pub fault_by : ReadingFault → Fault
+fault_by (Capture f) = capture_fault f
+fault_by (Recording f) = of_recording f
+
+-- ---- its text
+
+-- Octets are a file with this text before its records, which is taken so: a recording, by flows,
+-- has none, and a capture has it in its front.
+abbrev pub HasFileText : Way → List ℕ → List ℕ → Type 0
+HasFileText w octets text =
+    ((is_recording octets ≡ true) × IsSome (flows_in w) × (text ≡ []))
+    ⊎ ((rest : List ℕ) × (is_recording octets ≡ false) × (front_at octets ≡ Ok (text, rest)))
+
+-- ---- its datagrams
+
+-- those of a capture
+abbrev pub capture_datagrams : List ℕ → List (List ℕ)
+capture_datagrams octets = octets_of (capture_records octets)
+
+-- those of a file that is taken so, up to its end or its first fault
+abbrev pub file_datagrams : Way → List ℕ → List (List ℕ)
+file_datagrams w octets = octets_of (records_of_file (flows_in w) octets)
+
+-- those of files, one behind the other
+abbrev pub files_datagrams : List (Result Flows Refusal) → List (List ℕ) → List (List ℕ)
+files_datagrams ways [] = []
+files_datagrams ways (octets ∷ files) =
+    file_datagrams (first_way ways) octets ++ files_datagrams (other_ways ways) files

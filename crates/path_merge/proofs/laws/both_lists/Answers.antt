@@ -1,5 +1,0 @@
-use Rattle.path_merge.proofs.Frames.{frames_of-append}
-use Rattle.path_merge.proofs.laws.both_lists.Goals as goal
-
-pub returns : goal.returns
-returns c = frames_of-append

@@ -1,5 +1,0 @@
-use Rattle.path_merge.proofs.Held.{held_same}
-use Rattle.path_merge.proofs.laws.holds_same.Goals as goal
-
-pub returns : goal.returns
-returns c = held_same

@@ -1,5 +1,0 @@
-use Rattle.path_merge.proofs.RefusedLemmas.{refusal_is_one}
-use Rattle.path_merge.proofs.laws.refused_once.Goals as goal
-
-pub returns : goal.returns
-returns c = refusal_is_one

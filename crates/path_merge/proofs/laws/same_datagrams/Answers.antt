@@ -1,5 +1,0 @@
-use Rattle.path_merge.proofs.Frames.{frames_of-same}
-use Rattle.path_merge.proofs.laws.same_datagrams.Goals as goal
-
-pub returns : goal.returns
-returns c = frames_of-same

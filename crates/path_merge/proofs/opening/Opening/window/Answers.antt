@@ -1,6 +1,0 @@
-use Rattle.std.proofs.Common.{ap}
-use Rattle.path_merge.specs.Opening.{Opening}
-use Rattle.path_merge.proofs.opening.Opening.window.Goals as goal
-
-pub returns : goal.returns
-returns c = ap (λ (o : Opening). record o { window = c.args.window.now }) c.self.view_is

@@ -1,5 +1,0 @@
-use Rattle.std.proofs.Common.{length}
-use Rattle.path_merge.proofs.window.+has_double.Given as goal
-
-abbrev pub decreases-has_double : goal.decreases-has_double
-decreases-has_double l = length l.window.now

@@ -1,0 +1,15 @@
+pub mod Opening
+pub mod Grammar
+pub mod Refused
+pub mod Admission
+pub mod Offers
+pub mod Frames
+pub mod Answers
+pub mod Sliding
+pub mod Sender
+pub mod TookSent
+pub mod Took
+pub mod Tallied
+pub mod PlayFault
+pub use Rattle.packet_numbers.specs.BitList
+pub use Rattle.packet_numbers.specs.Numbers
