@@ -1,11 +1,10 @@
 -- The text of a number is read as its value, and what is read as a value is such a text.
-use Rattle.std.proofs.Common.{◌≡◌, ℕ, zero, suc, ◌+◌, ◌-◌, ◌*◌, ◌<◌, ◌≤◌, Bool, true, false, cond}
+use Rattle.std.proofs.Common.{◌≡◌, ℕ, zero, suc, ◌+◌, ◌-◌, ◌*◌, ◌<◌, ◌≤◌, Bool, true, false}
 use Rattle.std.proofs.Common.{eqb, ltb, not, List, [], ◌∷◌, ◌++◌, length, Option, None, Some}
 use Rattle.std.proofs.Common.{Result, Ok, Err, append_assoc, refl, sym, ap, ◌∙◌, arith, rules}
 use Rattle.std.specs.Char.{is_ascii_digit}
 use Rattle.std.specs.List.{list_all}
 use Rattle.std.specs.Option.{option_map}
-use Rattle.std.specs.Str.Parse.{IsNumeral, digits_value}
 use Rattle.std.proofs.lemmas.Bool.{and_from, and_parts, cond-false, cond-true, lt-ltb}
 use Rattle.std.proofs.lemmas.Bool.{ltb-true}
 use Rattle.std.proofs.lemmas.Bool.Decides.{nat_tests}
@@ -14,7 +13,6 @@ use Rattle.std.proofs.lemmas.Str.Parse.{IsNumeralModel, numerals_by_fold}
 use Rattle.picture_forms.specs.declared.fault.FormFault.{FormFault}
 use Rattle.picture_forms.specs.declared.fault.FormFault.TheVariants.{BadHeader, Truncated}
 use Rattle.picture_forms.specs.declared.number_part.NumberPart.{NumberPart}
-use Rattle.picture_forms.specs.declared.number_part.NumberStep.{NumberStep}
 use Rattle.picture_forms.specs.declared.number_part.NumberStep.TheVariants.{More, Done, Wrong}
 use Rattle.picture_forms.specs.declared.number_part.Stage.{Stage}
 use Rattle.picture_forms.specs.declared.number_part.Stage.TheVariants.{Front, Gap, Digits}

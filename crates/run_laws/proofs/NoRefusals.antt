@@ -1,15 +1,18 @@
 -- Against what a run read that ended well no refusal speaks.
 use Rattle.std.proofs.Common.{◌≡◌, ℕ, zero, suc, ◌+◌, List, [], ◌∷◌, ◌++◌}
-use Rattle.std.proofs.Common.{Result, Ok, Err, inl, inr, refl, sym, ap, ◌∙◌, subst, arith}
+use Rattle.std.proofs.Common.{Option, Result, Ok, Err, inl, inr, refl, sym, ap, ◌∙◌, subst, arith}
 use Rattle.st_format.specs.Device.{AreOctets}
 use Rattle.st_format.specs.Member.{IsMember}
 use Rattle.st_format.specs.Picture.{Values}
 use Rattle.st_format.specs.declared.format.Format.{Format}
+use Rattle.st_format.proofs.Histories.{since_is}
 use Rattle.st_format.proofs.SameFields.{same_format}
+use Rattle.media_file.specs.Capture.{Content, capture_walk}
 use Rattle.media_file.specs.PictureFaults.{IsPictureFault}
 use Rattle.media_file.specs.PictureFile.{IsPictureFile, Shown, picture_walk, shown_of}
 use Rattle.media_file.specs.StateFile.{Kept}
 use Rattle.media_file.specs.declared.fault.FileFault.{FileFault}
+use Rattle.media_file.proofs.CaptureFaults.{capture_tells}
 use Rattle.media_file.proofs.PictureFaults.{picture_tells}
 use Rattle.media_file.proofs.Seen.{picture_again, picture_once}
 use Rattle.packet_plan.specs.Plan.{IsSize}
@@ -35,6 +38,8 @@ use Rattle.receiver_engines.specs.Merging.{GivesReceiver, SaysReceiver}
 use Rattle.receiver_engines.specs.Reading.{SayReceivers}
 use Rattle.receiver_engines.specs.Reporting.{Reports}
 use Rattle.receiver_engines.specs.States.{IsStateRefusal}
+use Rattle.export_engine.specs.ExportRefused.{IsExportRefusal}
+use Rattle.export_engine.specs.Exported.{PrintsExported}
 use Rattle.run_laws.specs.Received.{read_of}
 use Rattle.run_laws.proofs.Receiving.{was_read}
 
@@ -218,3 +223,26 @@ pub merge_refuses_none : {S : Type 0} (gave : S → List ℕ) (ended : S → Typ
     → IsMergeAllRefusal (WasRead gave ended first) (WasRead gave ended) others refusal → ⊥
 merge_refuses_none gave ended first others old new refusal merges bytes =
     merge_not gave ended first others old new merges bytes refusal
+
+-- ---- a capture that is exported
+
+pub export_not : {S : Type 0} (gave : S → List ℕ) (ended : S → Type 0) (a : List ℕ)
+    (b : Option (List ℕ)) (source later : S) (old new shown printed : List ℕ) (refusal : Refusal)
+    → PrintsExported a b (gave source) (gave later) (ended later) old new shown printed
+    → AreOctets (read_of gave (source, later))
+    → IsExportRefusal a b (WasRead gave ended (source, later)) refusal → ⊥
+export_not gave ended a b source later old new shown printed why.ExportFlow exports bytes wrong =
+    wrong exports.exported.envelopes exports.exported.are
+export_not gave ended a b source later old new shown printed (why.Capture f) exports bytes wrong =
+    let capture = exports.exported.exported in
+    let octets : List ℕ = read_of gave (source, later) in
+    let rest : List ℕ = [] in
+    let pair : Content × List ℕ = (capture.content, rest) in
+    let same : octets ≡ capture.read.part =
+    since_is (gave source) (gave later) capture.read.part capture.read.grown in
+    apart (capture_walk 16777216 octets) pair f
+    (ap (capture_walk 16777216) same ∙ capture.read.says)
+    (capture_tells 16777216 f octets
+    (wrong.1 octets (was_read gave ended (source, later)) bytes))
+export_not gave ended a b source later old new shown printed refusal exports bytes wrong =
+    absurd wrong.1

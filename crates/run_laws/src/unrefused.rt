@@ -3,7 +3,7 @@
 //! and memory was there. Each is the contract of a function that does nothing; a caller has the
 //! first premise from the clause of the call. That octets are below 256 is wanted, as the
 //! conditions of faults are told of octets.
-ghost use Rattle.std.specs.Prelude.{◌∷◌, ℕ, List};
+ghost use Rattle.std.specs.Prelude.{◌∷◌, ℕ, List, Option};
 ghost use Rattle.st_format.specs.Device.{AreOctets};
 ghost use Rattle.st_format.specs.History.{IsRead, since};
 ghost use Rattle.st_format.specs.Member.{IsMember};
@@ -15,6 +15,8 @@ ghost use Rattle.receiver_engines.specs.MergeAllRefused.{IsMergeAllRefusal};
 ghost use Rattle.receiver_engines.specs.MergedAll.{MergesAll};
 ghost use Rattle.receiver_engines.specs.Reporting.{Reports};
 ghost use Rattle.receiver_engines.specs.States.{IsStateRefusal};
+ghost use Rattle.export_engine.specs.ExportRefused.{IsExportRefusal};
+ghost use Rattle.export_engine.specs.Exported.{PrintsExported};
 ghost use Rattle.run_laws.specs.Received.{read_of};
 
 use st_format::ByteSource;
@@ -43,4 +45,13 @@ pub fn loop_unrefused<S: ByteSource>()
         before after old new
         → AreOctets (since (S.gave source) (S.gave later))
         → IsLoopRefusal max (IsRead (S.gave source) (S.gave later) (S.ended later)) r → ⊥ }
+{}
+
+/// The same of a run of `export` (`exported` there).
+pub fn export_unrefused<S: ByteSource>()
+    ensures { (a : List ℕ) (b : Option (List ℕ)) (source later : S)
+        (old new shown printed : List ℕ) (r : Refusal)
+        → PrintsExported a b (S.gave source) (S.gave later) (S.ended later) old new shown printed
+        → AreOctets (since (S.gave source) (S.gave later))
+        → IsExportRefusal a b (IsRead (S.gave source) (S.gave later) (S.ended later)) r → ⊥ }
 {}
