@@ -12,3 +12,4 @@ pub mod Captures
 pub mod SentAgain
 pub mod Looped
 pub mod NoRefusals
+pub mod NoTextFault

@@ -17,4 +17,6 @@ pub use sent::{
     looped_picture, migrated_again, migrated_and_received, processed_and_received,
     sent_and_received, sent_file, written_again,
 };
-pub use unrefused::{export_unrefused, loop_unrefused, merge_unrefused, report_unrefused};
+pub use unrefused::{
+    export_unrefused, loop_unrefused, merge_unrefused, report_unrefused, sdp_unrefused,
+};

@@ -15,6 +15,8 @@ ghost use Rattle.receiver_engines.specs.MergeAllRefused.{IsMergeAllRefusal};
 ghost use Rattle.receiver_engines.specs.MergedAll.{MergesAll};
 ghost use Rattle.receiver_engines.specs.Reporting.{Reports};
 ghost use Rattle.receiver_engines.specs.States.{IsStateRefusal};
+ghost use Rattle.script_engines.specs.Described.{Describes, IsUndescribed};
+ghost use Rattle.script_engines.specs.Reading.{DoesScript, IsRefusedFor};
 ghost use Rattle.export_engine.specs.ExportRefused.{IsExportRefusal};
 ghost use Rattle.export_engine.specs.Exported.{PrintsExported};
 ghost use Rattle.run_laws.specs.Received.{read_of};
@@ -54,4 +56,11 @@ pub fn export_unrefused<S: ByteSource>()
         → PrintsExported a b (S.gave source) (S.gave later) (S.ended later) old new shown printed
         → AreOctets (since (S.gave source) (S.gave later))
         → IsExportRefusal a b (IsRead (S.gave source) (S.gave later) (S.ended later)) r → ⊥ }
+{}
+
+/// The same of a run of `sdp` (`printed` of `describe`).
+pub fn sdp_unrefused<S: ByteSource>()
+    ensures { (source later : S) (old new : List ℕ) (r : Refusal)
+        → DoesScript Describes (S.gave source) (S.gave later) (S.ended later) old new
+        → IsRefusedFor IsUndescribed (S.gave source) (S.gave later) (S.ended later) r → ⊥ }
 {}
