@@ -1,5 +1,5 @@
 -- Against a text whose line was printed no refusal speaks.
-use Rattle.std.proofs.Common.{◌≡◌, ℕ, ◌≤◌, Bool, true, false, List, ◌++◌, length, Result, Ok, Err}
+use Rattle.std.proofs.Common.{◌≡◌, ℕ, Bool, true, false, List, ◌++◌, length, Result, Ok, Err}
 use Rattle.std.proofs.Common.{sym, ap, ◌∙◌, subst, arith}
 use Rattle.st_format.proofs.Histories.{since_is}
 use Rattle.sdp_format.specs.Bytes.{lines}
@@ -14,7 +14,6 @@ use Rattle.run_outcome.specs.declared.refusal.Refusal.TheVariants as why
 use Rattle.script_engines.specs.Described.{Describes, IsUndescribed}
 use Rattle.script_engines.specs.Reading.{DoesScript, IsRefusedFor}
 use Rattle.script_engines.specs.Script.{IsReadFrom}
-use Rattle.script_engines.specs.declared.script.TheConstants.{LIMIT}
 
 abbrev Walked : Type 0
 Walked = Result Description SdpFault
@@ -46,8 +45,8 @@ module _ (before now : List ℕ) (ended : Type 0) (old new : List ℕ)
         → IsReadFrom before now ended other is_cut → IsUndescribed other is_cut (Refused r) → ⊥
     by_cut r other true read wrong =
         let given : read.0 ≡ does.1.0 = same read.0 read.1 ∙ does.1.2.0 in
-        let few : length does.1.0 ≤ LIMIT = does.1.2.1 in
-        absurd (omega (arith, read.2.0, ap (λ (l : List ℕ). length l) given, few))
+        absurd
+        (omega (arith, read.2.0, ap (λ (l : List ℕ). length l) given, does.1.2.1))
     by_cut (why.Sdp at) other false read wrong =
         let script : other ≡ does.0 = read.2.0 ∙ same read.0 read.1 in
         no_text_fault does.0 does.2.is.described at.fault does.2.is.is_described
