@@ -81,7 +81,9 @@ pub use Rattle.following.specs.Follower
 pub use Rattle.following.specs.Following
 pub use Rattle.following.specs.Memory as FollowingMemory
 pub use Rattle.following.specs.Names
+pub use Rattle.following.specs.Need as FollowingNeed
 pub use Rattle.following.specs.Pictures
+pub use Rattle.following.specs.Restarts as FollowingRestarts
 pub use Rattle.following.specs.Serial
 pub use Rattle.following.specs.Since
 pub use Rattle.following.specs.Spare

@@ -74,8 +74,8 @@ pub mod receive {
 pub mod follow {
     pub use following::{
         FollowFault, FollowObserver, FollowTally, Followed, Follower, FrameFault, FrameSink,
-        FrameSinkFault, MOST_FRAMES, MemoryFrames, Shown, StreamFault, TEN_SECONDS, TurnTaken,
-        Unobserved, finish, follow, follow_eagerly, hand_out, take_turn,
+        FrameSinkFault, MOST_FRAMES, MemoryFrames, Restarts, Shown, StreamFault, TEN_SECONDS,
+        TurnTaken, Unobserved, WindowNeed, finish, follow, follow_eagerly, hand_out, take_turn,
     };
 }
 
