@@ -18,8 +18,9 @@ use Rattle.sdp_format.specs.Naming.{item, items, items_of, is_filled, colorimetr
 use Rattle.sdp_format.specs.Naming.{is_bad}
 use Rattle.sdp_format.specs.Sections.{Leg}
 use Rattle.sdp_format.specs.Reading.{leg_of}
-use Rattle.sdp_format.specs.Canonical.{canonical_line, depth_text, divisor_text}
+use Rattle.sdp_format.specs.Canonical.{canonical_line, divisor_text}
 use Rattle.st_format.specs.Words.{sampling_text}
+use Rattle.st_format.specs.Forms.{depth_text}
 use Rattle.sdp_format.specs.Canonical.{range_text}
 use Rattle.sdp_format.proofs.SpelledItems.{spelled, said_items, range_items}
 use Rattle.sdp_format.specs.Back.{IsLeg}

@@ -18,10 +18,11 @@ use Rattle.sdp_format.specs.declared.sdp.Range.TheVariants.{Narrow, FullProtect,
 use Rattle.sdp_format.specs.Bytes.{is_space, trimmed, front, behind, split, text_or}
 use Rattle.sdp_format.specs.Naming.{Item, item, items, items_of, is_filled, rate, is_bad}
 use Rattle.sdp_format.specs.Naming.{range_named, colorimetry}
-use Rattle.sdp_format.specs.Reading.{leg_of, said_in, format_of, depth_named}
+use Rattle.sdp_format.specs.Reading.{leg_of, said_in, format_of}
 use Rattle.st_format.specs.Words.{sampling_named}
-use Rattle.sdp_format.specs.Canonical.{depth_text, divisor_text}
+use Rattle.sdp_format.specs.Canonical.{divisor_text}
 use Rattle.st_format.specs.Words.{sampling_text}
+use Rattle.st_format.specs.Forms.{depth_text, depth_named}
 use Rattle.sdp_format.proofs.SpelledItems.{spelled, said_items}
 use Rattle.sdp_format.proofs.Parts.{front_later, behind_later}
 use Rattle.sdp_format.proofs.Again.{own, number_decimal, is_word, trimmed_word, trimmed_space}

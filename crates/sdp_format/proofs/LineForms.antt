@@ -13,9 +13,10 @@ use Rattle.std.proofs.lemmas.Bool.Decides.{Decides-eqb, nat_tests}
 use Rattle.std.proofs.Math.Seq.{drop-append_seam}
 use Rattle.sdp_format.specs.Bytes.{is_space, trim_end, unless_spaces, at_most}
 use Rattle.st_format.specs.Words.{number, is_number}
+use Rattle.st_format.specs.Forms.{number_pair}
 use Rattle.sdp_format.specs.Bytes.{front, behind, split, split_left, begins_with, attribute}
 use Rattle.sdp_format.specs.Bytes.{behind_number, is_equal}
-use Rattle.sdp_format.specs.Reading.{media_of, media_of_parts, number_pair, first_attribute}
+use Rattle.sdp_format.specs.Reading.{media_of, media_of_parts, first_attribute}
 use Rattle.sdp_format.specs.Grammar.{IsMediaLine, IsAttribute, HasNone, IsFirst}
 use Rattle.sdp_format.proofs.Members.{not_both}
 use Rattle.sdp_format.proofs.Doubles.{bytes_same}

@@ -1,12 +1,13 @@
 //! The one fmtp line of what a text says.
 ghost use Rattle.std.specs.Prelude.{◌≡◌, ◌++◌, MatchResult, IfOk, codes, decimal};
 ghost use Rattle.sdp_format.specs.declared.fault.SdpFault.TheVariants.{NoMemory};
-ghost use Rattle.sdp_format.specs.Canonical.{canonical_line, divisor_text, depth_text};
+ghost use Rattle.sdp_format.specs.Canonical.{canonical_line, divisor_text};
 ghost use Rattle.sdp_format.specs.Canonical.{range_text};
 ghost use Rattle.sdp_format.specs.Views.{description};
 ghost use Rattle.sdp_format.specs.Back.{ReadsBack};
 ghost use Rattle.st_format.specs.Fields.{fields_of};
 ghost use Rattle.st_format.specs.Words.{sampling_text};
+ghost use Rattle.st_format.specs.Forms.{depth_text};
 
 use crate::fault::SdpFault;
 use crate::sdp::{Range, Sdp};

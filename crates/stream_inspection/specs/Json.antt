@@ -4,7 +4,8 @@ use Rattle.std.specs.Fmt.{decimal}
 use Rattle.path_receiver.specs.Answers.{refusal_name, refusal_number}
 use Rattle.path_receiver.specs.declared.answer.Refusal.{Refusal}
 use Rattle.recording_counts.specs.declared.packet.StreamKey.{StreamKey}
-use Rattle.stream_inspection.specs.Values.{bool_text, commas_text, null_signed, null_text, path_text}
+use Rattle.st_format.specs.Forms.{path_text}
+use Rattle.stream_inspection.specs.Values.{bool_text, commas_text, null_signed, null_text}
 use Rattle.stream_inspection.specs.declared.rows.PathRow.{PathRow}
 use Rattle.stream_inspection.specs.declared.rows.Row.{Row}
 use Rattle.stream_inspection.specs.declared.rows.Row.TheVariants.{Path, Together, Timestamp, Skew}
