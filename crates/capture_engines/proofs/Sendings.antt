@@ -31,6 +31,7 @@ use Rattle.packet_plan.specs.Sender.{IsNext, SendsFrom, Sender, stamp_of}
 use Rattle.packet_plan.specs.Sent.{AreSent, IsSentPicture}
 use Rattle.packet_plan.specs.declared.run.PacketRun.{PacketRun}
 use Rattle.packet_plan.specs.declared.stamp.Stamp.{Stamp}
+use Rattle.recording_counts.specs.Numbering.{capped}
 use Rattle.capture_engines.specs.Sent.{FirstIs}
 use Rattle.run_outcome.specs.Pictures.{SaysPicture}
 use Rattle.run_outcome.specs.Text.{GivesText}
@@ -39,7 +40,7 @@ use Rattle.st_format.specs.History.{IsRead, since}
 use Rattle.st_format.proofs.Histories.{since_is}
 use Rattle.capture_engines.specs.Sending.{HasSent, SayPictures, SendsFirstAndRest, SendsMore}
 use Rattle.capture_engines.specs.Sending.{SaysSdp, SendsNext, SendsPictures, SendsRest, SendsTo}
-use Rattle.capture_engines.specs.Sending.{counted, run_sender}
+use Rattle.capture_engines.specs.Sending.{run_sender}
 use Rattle.capture_engines.proofs.OneOf.{first_again}
 use Rattle.capture_engines.specs.Writing.{WritesPicture}
 use Rattle.capture_engines.specs.declared.sender.Sender.{Sender as Sends}
@@ -196,8 +197,8 @@ all_sent p stamp i [] (q ∷ qs) sent = absurd sent
 all_sent p stamp i (d ∷ ds) (q ∷ qs) sent =
     ap (λ (n : ℕ). suc n) (all_sent p stamp (i + 1) ds qs sent.1)
 
-count_more : (old packets new : ℕ) (ds es : List (List ℕ)) → old ≡ counted (length ds)
-    → length es ≡ packets → new ≡ counted (old + packets) → new ≡ counted (length (ds ++ es))
+count_more : (old packets new : ℕ) (ds es : List (List ℕ)) → old ≡ capped (length ds)
+    → length es ≡ packets → new ≡ capped (old + packets) → new ≡ capped (length (ds ++ es))
 count_more old packets new ds es is long more =
     let both : length (ds ++ es) ≡ length ds + length es = length-append ds es in
     omega (arith, is, long, more, both)

@@ -8,6 +8,7 @@ use Rattle.std.specs.Prelude.{cond}
 use Rattle.media_file.specs.Records.{Entry, record_text, records_text}
 use Rattle.st_format.specs.declared.path.Path.{Path}
 use Rattle.st_format.specs.declared.path.Path.TheVariants.{A, B}
+use Rattle.st_format.specs.Turns.{is_path}
 use Rattle.run_outcome.specs.declared.fault.Fault.{Fault}
 use Rattle.run_outcome.specs.declared.fault.Fault.TheVariants.{Refused}
 use Rattle.run_outcome.specs.declared.refusal.Refusal.{Refusal}
@@ -17,7 +18,7 @@ use Rattle.recording_engines.specs.Files.{AllReady, Leads, ReadsOn, StopsAt, nex
 use Rattle.recording_engines.specs.Files.{standing_of, standings}
 use Rattle.recording_engines.specs.Progress.{CountsPath, HasWritten}
 use Rattle.recording_engines.specs.Progress.{OneComes, StopsBy, StopsJoining, TakesOne}
-use Rattle.recording_engines.specs.Progress.{Writes, WritesNext, count_of, is_of}
+use Rattle.recording_engines.specs.Progress.{Writes, WritesNext, count_of}
 use Rattle.recording_engines.specs.Steps.{Ahead, AllFresh, Over, ReadsMore, Standing}
 use Rattle.recording_engines.specs.declared.file.ImportFile.{ImportFile}
 use Rattle.recording_engines.specs.declared.joining.Written.{Written}
@@ -164,12 +165,12 @@ next_written f x old new w w' is writes e some =
     subst (λ (y : Entry). Writes (y ∷ []) old new w w') equal writes
 
 counts_a : (path : Path) (w w' : Written) → CountsPath path w w'
-    → w'.a ≡ w.a + (0 + cond (is_of A path) 1 0)
+    → w'.a ≡ w.a + (0 + cond (is_path A path) 1 0)
 counts_a A w w' counts = omega (arith, counts.0)
 counts_a B w w' counts = omega (arith, counts.0)
 
 counts_b : (path : Path) (w w' : Written) → CountsPath path w w'
-    → w'.b ≡ w.b + (0 + cond (is_of B path) 1 0)
+    → w'.b ≡ w.b + (0 + cond (is_path B path) 1 0)
 counts_b A w w' counts = omega (arith, counts.1)
 counts_b B w w' counts = omega (arith, counts.1)
 

@@ -22,12 +22,11 @@ use Rattle.recording_reader.specs.Kinds.{is_recording}
 use Rattle.recording_reader.specs.Records.{omissions_of, records_in, room}
 use Rattle.recording_reader.specs.declared.fault.ReadingFault.{ReadingFault}
 use Rattle.recording_reader.specs.declared.fault.ReadingFault.TheVariants.{Capture, Recording}
-use Rattle.st_format.specs.Turns.{came_of}
+use Rattle.st_format.specs.Turns.{came_of, is_path}
 use Rattle.st_format.specs.declared.device.SourceFault.{SourceFault}
 use Rattle.st_format.specs.declared.device.SourceFault.TheVariants.{Content}
 use Rattle.st_format.specs.declared.device.SourceFault.TheVariants.{Device as FailedDevice}
 use Rattle.st_format.specs.declared.path.Path.{Path}
-use Rattle.st_format.specs.declared.path.Path.TheVariants.{A, B}
 
 -- ---- its records
 
@@ -54,13 +53,6 @@ records_of_file flows octets =
 -- the datagrams of records, each with its path, in order
 abbrev pub datagrams_of : List Entry → List (Path × List ℕ)
 datagrams_of records = came_of (map due_of_entry records)
-
--- two paths are one
-abbrev pub is_path : Path → Path → Bool
-is_path A A = true
-is_path A B = false
-is_path B A = false
-is_path B B = true
 
 -- a record came by this path
 abbrev pub has_path : Path → List Entry → Bool

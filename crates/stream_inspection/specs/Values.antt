@@ -30,12 +30,9 @@ abbrev pub null_signed : Option ℕ → List ℕ
 null_signed None = codes "null"
 null_signed (Some n) = signed_text n
 
--- whether it is so, in a column, and as JSON says it
+-- whether it is so, in a column
 abbrev pub yes_text : Bool → List ℕ
 yes_text b = if b then codes "          yes" else codes "           no"
-
-abbrev pub bool_text : Bool → List ℕ
-bool_text b = if b then codes "true" else codes "false"
 
 -- numbers with commas between
 abbrev pub commas_text : List ℕ → List ℕ

@@ -1,6 +1,7 @@
 //! Values as text.
 ghost use Rattle.std.specs.Prelude.{Some};
-ghost use Rattle.stream_inspection.specs.Values.{bool_text, commas_text, null_text};
+ghost use Rattle.recording_counts.specs.FlowJson.{truth_json};
+ghost use Rattle.stream_inspection.specs.Values.{commas_text, null_text};
 ghost use Rattle.stream_inspection.specs.Values.{signed_text, wide_signed, wide_text, yes_text};
 
 use std::fmt;
@@ -112,7 +113,7 @@ impl fmt::Display for Yes {
 pub(crate) struct Truth(pub(crate) bool);
 
 impl fmt::Display for Truth {
-    ghost output = { λ t. Some (bool_text t.0) };
+    ghost output = { λ t. Some (truth_json t.0) };
 
     fn fmt<W: fmt::Write>(&self, f: &mut fmt::Formatter<W>) -> fmt::Result {
         if self.0 {
