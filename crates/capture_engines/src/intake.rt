@@ -12,16 +12,13 @@ ghost use Rattle.run_outcome.specs.Fault.{Accounts, counts};
 ghost use Rattle.run_outcome.specs.Refusing.{OfRefusal};
 
 use crate::way::of_reading;
-use media_file::FileFault;
+use media_file::{FileFault, MOST_RECORDS};
 use path_receiver::{Observer, Receiver, Tally};
 use recording_reader::DatagramReader;
 use run_outcome::{Fault, of_capture};
 use sdp_format::read_located;
 use st_format::{ByteSource, Path};
 use std::alloc::Allocator;
-
-/// The greatest number of datagrams of one file (own).
-const TURNS: u64 = 16_777_216;
 
 /// A receiver, and what it was given.
 #[derive(Drop)]
@@ -96,7 +93,7 @@ impl<A: Allocator> Intake<A> {
             (S.failures reader.new.source) ∷ []) }
         ensures names { S.names reader.new.source ≡ S.names reader.old.source }
     {
-        for _ in 0..TURNS {
+        for _ in 0..MOST_RECORDS {
             match reader.advance() {
                 Ok(true) => self.take_at_hand(reader),
                 Ok(false) => return Ok(()),

@@ -35,12 +35,9 @@ use crate::seen::{Seen, note_seen};
 use crate::way::{Way, unopened};
 use flow::Flows;
 use recording_reader::DatagramReader;
-use run_outcome::{Fault, Refusal, read_source, read_text, read_timestamps};
+use run_outcome::{Fault, MOST_TEXT, Refusal, read_source, read_text, read_timestamps};
 use st_format::{ByteSink, ByteSource};
 use std::alloc::Allocator;
-
-/// The greatest number of octets of an SDP's file (own).
-const SDP: usize = 16_777_216;
 
 /// What `receive` is asked for, beside its files.
 #[derive(Clone, Copy)]
@@ -170,7 +167,7 @@ fn read_given<A: Allocator, S: ByteSource>(alloc: A, source: &mut S) -> Result<V
     ensures failures { Accounts result (counts (S.failures source.old) (S.failures source.new)
         ∷ []) }
 {
-    match read_text(alloc, source, SDP)? {
+    match read_text(alloc, source, MOST_TEXT)? {
         Some(text) => Ok(text),
         None => Err(Fault::Refused(Refusal::ReceiveSdp)),
     }

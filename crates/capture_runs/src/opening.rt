@@ -21,7 +21,7 @@ use command_end::find_output;
 use devices::{FileOutput, FileSource, Identity, Reading};
 use flow::Flows;
 use recording_engines::{Importing, ways_each};
-use run_outcome::{Fault, Refusal, Writer, read_text};
+use run_outcome::{Fault, MOST_TEXT, Refusal, Writer, read_text};
 use window_finding::Sought;
 
 /// What `receive` reads, or `inspect` of a stream.
@@ -55,9 +55,6 @@ pub struct Asked<'a> {
     /// The files of captures and recordings.
     pub recordings: &'a [&'a str],
 }
-
-/// The greatest number of octets of an SDP's file.
-const SDP: usize = 16_777_216;
 
 impl<'a> Files<'a> {
     /// Where nothing is read yet.
@@ -274,7 +271,7 @@ fn read_said(rt: &HostRuntime, file: &mut Replayed<'_>) -> Result<Vec<u8>, Fault
         (replayed_ended file.new) said.items) }
     ensures refusal { IfErr result (λ f. OfRefusal f (IsTooLong (Some file.new))) }
 {
-    match read_text(rt.alloc(), file, SDP)? {
+    match read_text(rt.alloc(), file, MOST_TEXT)? {
         Some(said) => Ok(said),
         None => Err(Fault::Refused(Refusal::ReceiveSdp)),
     }

@@ -35,7 +35,7 @@ pub use link::{IpVersion, Link, LinkView, read_link};
 pub use order::ByteOrder;
 pub use pcap::{PCAP_HEAD, PacketHead, PcapHead, RECORD_HEAD, read_pcap_head, read_record_head};
 pub use pcap_reading::{next_record, read_pcap, record_begins, record_rest};
-pub use recording::{Layout, Packet, next_packet, open_behind, open_recording};
+pub use recording::{Layout, MOST_PACKET, Packet, next_packet, open_behind, open_recording};
 pub use section::{INTERFACES, Section, Step, next_block, read_first_section};
 pub use udp::read_udp;
 pub use writing::{Envelope, HEADS, write_pcap_head, write_record};

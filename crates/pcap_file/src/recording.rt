@@ -21,6 +21,9 @@ use crate::pcap_reading::next_record;
 use crate::section::{Section, Step, next_block};
 use st_format::ByteSource;
 
+/// How many octets of a packet or a block a reader of files has room for (own).
+pub const MOST_PACKET: usize = 1_048_576;
+
 /// How a recording lies in its file, and what was read of that so far: what stands before what is
 /// to come, and how many records or blocks may still come.
 #[derive(Drop)]

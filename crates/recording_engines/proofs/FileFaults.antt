@@ -13,7 +13,7 @@ use Rattle.media_file.specs.Records.{AllFit, Entry, Fits, record_text, records_t
 use Rattle.media_file.specs.declared.fault.FileFault.{FileFault}
 use Rattle.media_file.specs.declared.fault.FileFault.TheVariants as file
 use Rattle.media_file.proofs.Entries.{rest_again, rest_shrinks}
-use Rattle.pcap_file.specs.Runs.{fault_in, packets_in}
+use Rattle.pcap_file.specs.Runs.{fault_in, packets_in, most_packet}
 use Rattle.pcap_file.specs.declared.fault.RecordingFault.{RecordingFault}
 use Rattle.pcap_file.specs.declared.fault.RecordingFault.TheVariants as recording
 use Rattle.recording_reader.specs.Files.{CountsReadingFault, HasWrongPart, IfFile, IsFileFault}
@@ -22,7 +22,7 @@ use Rattle.recording_reader.specs.Files.{capture_records, records_behind, record
 use Rattle.recording_reader.specs.Files.{records_of_file}
 use Rattle.recording_reader.specs.Kinds.{is_recording}
 use Rattle.recording_reader.specs.Opening.{CountsOpening}
-use Rattle.recording_reader.specs.Records.{records_of, room}
+use Rattle.recording_reader.specs.Records.{records_of}
 use Rattle.recording_reader.specs.declared.fault.FileOpeningFault.{FileOpeningFault}
 use Rattle.recording_reader.specs.declared.fault.FileOpeningFault.TheVariants.{NoFlows, NoMemory}
 use Rattle.recording_reader.specs.declared.fault.FileOpeningFault.TheVariants.{Reading}
@@ -123,7 +123,8 @@ of_recording f = option_map (λ (g : RecordingFault). Recording g) f
 
 abbrev fault_by_kind : Bool → List ℕ → Option ReadingFault
 fault_by_kind b octets =
-    if b then of_recording (fault_in room octets) else of_capture (fault_behind (front_at octets))
+    if b then of_recording (fault_in most_packet octets)
+    else of_capture (fault_behind (front_at octets))
 
 pub fault_is : (f : ReadingFault) (octets : List ℕ) → IsFileFault f octets
     → fault_of_file octets ≡ Some f
@@ -143,7 +144,7 @@ abbrev records_by_kind : Bool → Option Flows → List ℕ → List Entry
 records_by_kind b flows octets =
     if b then records_by flows octets else capture_records octets
 
-no_packets : (flows : Option Flows) (octets : List ℕ) → packets_in room octets ≡ []
+no_packets : (flows : Option Flows) (octets : List ℕ) → packets_in most_packet octets ≡ []
     → records_by flows octets ≡ []
 no_packets None octets is = refl
 no_packets (Some flows) octets is = ap (records_of flows) is

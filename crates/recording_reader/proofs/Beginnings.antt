@@ -14,7 +14,7 @@ use Rattle.media_file.specs.Faults.{file_fault_origin}
 use Rattle.pcap_file.specs.Fields.{recording_fault_origin}
 use Rattle.media_file.proofs.FrontBehind.{few_cut}
 use Rattle.media_file.proofs.Gave.{fault_read}
-use Rattle.pcap_file.specs.Runs.{HasFailed, HasRead, fault_in, layout_seen, packets_in}
+use Rattle.pcap_file.specs.Runs.{HasFailed, HasRead, fault_in, layout_seen, packets_in, most_packet}
 use Rattle.pcap_file.specs.declared.fault.RecordingFault.{RecordingFault}
 use Rattle.st_format.proofs.Origins.{if_content_weaker}
 use Rattle.st_format.proofs.Gave.{grew_twice}
@@ -23,7 +23,6 @@ use Rattle.st_format.proofs.Histories.{since_is}
 use Rattle.recording_reader.specs.Files.{IsFrontFault}
 use Rattle.recording_reader.specs.Kinds.{is_magic, is_recording}
 use Rattle.recording_reader.specs.Opening.{HasGivenFour, StopsOpening}
-use Rattle.recording_reader.specs.Records.{room}
 use Rattle.recording_reader.specs.Ways.{Begins}
 use Rattle.recording_reader.specs.declared.fault.FileOpeningFault.{FileOpeningFault}
 use Rattle.recording_reader.specs.declared.fault.FileOpeningFault.TheVariants as opening
@@ -128,19 +127,19 @@ module _ (before was four : List ℕ) (size : length four ≡ 4) (magic : is_mag
   )
 
   pub recording_stops : (flows : Option Flows) (now : List ℕ) (ended : Type 0)
-      (f : RecordingFault) → GrewFrom was now → HasFailed room before now ended f []
+      (f : RecordingFault) → GrewFrom was now → HasFailed most_packet before now ended f []
       → StopsOpening flows before now ended (opening.Reading (fault.Recording f))
   recording_stops flows now ended f grew failed octets read =
       let part = read_part before now failed.part ended octets failed.grown read in
       if_content_weaker recording_fault_origin f _ (IsFrontFault (fault.Recording f) octets)
       (λ says. (
         kind_read before was four true size magic is now ended octets grew read,
-        ap (packets_in room) part ∙ says.0,
-        ap (fault_in room) part ∙ says.1,
+        ap (packets_in most_packet) part ∙ says.0,
+        ap (fault_in most_packet) part ∙ says.1,
       )) (failed.says read.behind read.all)
 
   pub recording_begins : (t : Track) (now : List ℕ) (ended : Type 0) → GrewFrom was now
-      → HasRead room before now (layout_seen t.layout) [] → t.left_out ≡ left_out_of []
+      → HasRead most_packet before now (layout_seen t.layout) [] → t.left_out ≡ left_out_of []
       → Begins (Recording t) (Some t.flows) before now ended []
   recording_begins t now ended grew read none = (
     refl,

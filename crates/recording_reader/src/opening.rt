@@ -13,13 +13,10 @@ use crate::room::Room;
 use crate::way::{Track, Way};
 use flow::Flows;
 use media_file::{FileFault, read_front_behind};
-use pcap_file::open_behind;
+use pcap_file::{MOST_PACKET, open_behind};
 use recording_counts::LeftOut;
 use st_format::{ByteSource, MOST_DATAGRAM, read_whole};
 use std::alloc::Allocator;
-
-/// The octets of a packet or a block of a recording that there is room for.
-const MOST_PACKET: usize = 1_048_576;
 
 /// A file that was opened, and how many octets its text has.
 #[derive(Drop)]

@@ -13,6 +13,9 @@ use sdp_format::read_located;
 use st_format::{ByteSource, MOST_DATAGRAM, read_whole};
 use std::alloc::{AllocError, Allocator};
 
+/// How many octets a script has at most, and an SDP text that opens a receiver (own): 16 MiB.
+pub const MOST_TEXT: usize = 16_777_216;
+
 /// Reads an SDP text for a capture, and finds that it is one. A longer text than a capture may have
 /// is refused so.
 pub fn read_checked<A: Allocator + Copy, S: ByteSource>(
