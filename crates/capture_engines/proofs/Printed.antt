@@ -16,7 +16,7 @@ use Rattle.rtp_header.specs.declared.header.RtpFault.TheVariants as rtp
 use Rattle.run_outcome.specs.Line.{line_text}
 use Rattle.capture_engines.specs.Printed.{counted_line, refusal_line, answers_text, received_text}
 use Rattle.capture_engines.specs.Printed.{refusals, taken_text, tally_text}
-use Rattle.path_receiver.specs.Tallied.{Tallies, fitting, is_refusal, place_of}
+use Rattle.path_receiver.specs.Tallied.{Tallies, fitting, is_refusal, slot_of}
 use Rattle.run_outcome.specs.declared.line.Line.{Line}
 use Rattle.run_outcome.specs.declared.line.Line.TheVariants.{OutsideCount, RefusedCount}
 use Rattle.path_receiver.specs.declared.tally.Tally.{Tally}
@@ -29,13 +29,13 @@ use Rattle.run_outcome.proofs.Printed.{texts_before, texts_more, texts_cut}
 
 -- ---- the lines of refusals
 
-at_header : (e : RtpFault) → Header e ≡ get_or refusals (place_of (Header e)) (Header e)
+at_header : (e : RtpFault) → Header e ≡ get_or refusals (slot_of (Header e)) (Header e)
 at_header rtp.ShortHeader = refl
 at_header rtp.BadVersion = refl
 at_header rtp.ShortExtension = refl
 at_header rtp.BadPadding = refl
 
-at_payload : (e : PayloadFault) → Payload e ≡ get_or refusals (place_of (Payload e)) (Payload e)
+at_payload : (e : PayloadFault) → Payload e ≡ get_or refusals (slot_of (Payload e)) (Payload e)
 at_payload payload.ShortPayloadHeader = refl
 at_payload payload.TooManySegments = refl
 at_payload payload.SecondField = refl
@@ -45,13 +45,13 @@ at_payload payload.RowOutside = refl
 at_payload payload.ColumnsOutside = refl
 at_payload payload.ShortData = refl
 
-at_place : (e : Refusal) → e ≡ get_or refusals (place_of e) e
+at_place : (e : Refusal) → e ≡ get_or refusals (slot_of e) e
 at_place (Header f) = at_header f
 at_place WrongPayloadType = refl
 at_place WrongSource = refl
 at_place (Payload f) = at_payload f
 
-place_is : (e : Refusal) (i : ℕ) → refusal_number e ≡ i + 1 → place_of e ≡ i
+place_is : (e : Refusal) (i : ℕ) → refusal_number e ≡ i + 1 → slot_of e ≡ i
 place_is e i is = omega (arith, is)
 
 -- the line of the refusal of a number, by its count

@@ -11,7 +11,7 @@ use Rattle.path_receiver.specs.declared.answer.Taken.{Taken}
 use Rattle.payload_header.specs.declared.payload.PayloadFault.TheVariants as payload
 use Rattle.rtp_header.specs.declared.header.RtpFault.TheVariants as rtp
 use Rattle.run_outcome.specs.Line.{line_text}
-use Rattle.path_receiver.specs.Tallied.{fitting, is_outside, is_refusal, place_of}
+use Rattle.path_receiver.specs.Tallied.{fitting, is_outside, is_refusal, slot_of}
 use Rattle.run_outcome.specs.declared.line.Line.{Line}
 use Rattle.run_outcome.specs.declared.line.Line.TheVariants.{Delivered, OutsideCount, RefusedCount}
 use Rattle.path_receiver.specs.declared.tally.Tally.{Tally}
@@ -43,8 +43,8 @@ refusals_text refused outside =
 -- the line of a refusal, by the counts of all
 abbrev pub refusal_line : List ℕ → Refusal → List ℕ
 refusal_line counts e =
-    counted_line (slice_index counts (place_of e))
-    (RefusedCount e (slice_index counts (place_of e)))
+    counted_line (slice_index counts (slot_of e))
+    (RefusedCount e (slice_index counts (slot_of e)))
 
 -- those of a tally's counts
 abbrev pub tally_text : Tally → List ℕ

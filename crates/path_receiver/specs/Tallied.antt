@@ -13,8 +13,8 @@ abbrev pub count_after : ℕ → ℕ
 count_after count = min (count + 1) (2 ^ 64 - 1)
 
 -- where a refusal's count stands
-abbrev pub place_of : Refusal → ℕ
-place_of e = refusal_number e - 1
+abbrev pub slot_of : Refusal → ℕ
+slot_of e = refusal_number e - 1
 
 -- Of an answer one count is one more, and every other stays: that of its refusal, that of the
 -- datagrams outside the window, or that of those that were kept.
@@ -25,7 +25,7 @@ tally_after (Ok Outside) t =
     record { refused = t.refused; outside = count_after t.outside; kept = t.kept }
 tally_after (Err e) t =
     record {
-      refused = slice_set t.refused (place_of e) (count_after (slice_index t.refused (place_of e)));
+      refused = slice_set t.refused (slot_of e) (count_after (slice_index t.refused (slot_of e)));
       outside = t.outside;
       kept = t.kept;
     }
@@ -58,7 +58,7 @@ fitting count = min count (2 ^ 64 - 1)
 pub record Tallies (t : Tally) (answers : List (Result Taken Refusal)) : Type 0 where
   pub places : length t.refused ≡ 14
   pub refused : (e : Refusal)
-      → slice_index t.refused (place_of e) ≡ fitting (count_by (is_refusal e) answers)
+      → slice_index t.refused (slot_of e) ≡ fitting (count_by (is_refusal e) answers)
   pub outside : t.outside ≡ fitting (count_by is_outside answers)
   pub kept : t.kept ≡ fitting (count_by is_kept answers)
 

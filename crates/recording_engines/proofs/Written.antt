@@ -14,7 +14,7 @@ use Rattle.run_outcome.specs.declared.fault.Fault.TheVariants.{Refused}
 use Rattle.run_outcome.specs.declared.refusal.Refusal.{Refusal}
 use Rattle.run_outcome.specs.declared.refusal.Refusal.TheVariants.{ImportRecords}
 use Rattle.recording_reader.specs.declared.fault.ReadingFault.{ReadingFault}
-use Rattle.recording_engines.specs.Files.{AllReady, Leads, ReadsOn, StopsAt, next_of}
+use Rattle.recording_engines.specs.Files.{AllReady, Leads, ReadsOn, ReadsToFault, next_of}
 use Rattle.recording_engines.specs.Files.{standing_of, standings}
 use Rattle.recording_engines.specs.Progress.{CountsPath, HasWritten}
 use Rattle.recording_engines.specs.Progress.{OneComes, StopsBy, StopsJoining, TakesOne}
@@ -66,7 +66,7 @@ takes_at fs k moment d f' old new w w' ready leads writes reads =
 pub stops_at : {X S : Type 0} (fs : List (ImportFile X S)) (k moment : ℕ) (d f' : ImportFile X S)
     (fault : Fault) (r : Refusal) (old new : List ℕ) (w w' : Written) → k < length fs
     → AllReady fs → Leads k moment fs → WritesNext (get_or fs k d) old new w w'
-    → StopsAt fault (get_or fs k d) f' → fault ≡ Refused r
+    → ReadsToFault fault (get_or fs k d) f' → fault ≡ Refused r
     → StopsBy r fs (set fs k f') old new
 stops_at fs k moment d f' fault r old new w w' lt ready leads writes stops told =
     let is = led k moment fs d ready leads in (

@@ -130,7 +130,7 @@ pub record ReadsOn {A S : Type 0} (old new : ImportFile A S) : Type 0 where
   pub more : ReadsMore (standing_of old).entries (standing_of new).ahead (standing_of new).entries
 
 -- It was read on, to a fault, by which the run ends.
-pub record StopsAt {A S : Type 0} (fault : Fault) (old new : ImportFile A S) : Type 0 where
+pub record ReadsToFault {A S : Type 0} (fault : Fault) (old new : ImportFile A S) : Type 0 where
   pub reading : ReadingFault
   pub told : fault ≡ reading_fault reading
   pub at : IsAt reading new

@@ -2,7 +2,7 @@
 ghost use Rattle.std.specs.Prelude.{◌≡◌, ◌≤◌, ◌∷◌, [], None, Some, IfErr, IfSome, MatchOption};
 ghost use Rattle.std.specs.Prelude.{OnOk, length};
 ghost use Rattle.std.specs.Option.{option_map};
-ghost use Rattle.recording_engines.specs.Files.{IsReading, ReadsOn, StopsAt, begun_of};
+ghost use Rattle.recording_engines.specs.Files.{IsReading, ReadsOn, ReadsToFault, begun_of};
 ghost use Rattle.recording_engines.specs.Files.{failures_by, is_recording_file, next_of, source_of};
 ghost use Rattle.recording_reader.specs.FileReader.{record_seen};
 ghost use Rattle.run_outcome.specs.Fault.{Accounts, counts};
@@ -82,7 +82,7 @@ impl<A: Allocator, S: ByteSource> ImportFile<A, S> {
         requires { IsReading self.old }
         ensures begun { begun_of self.new ≡ begun_of self.old }
         ensures read { OnOk result (ReadsOn self.old self.new) }
-        ensures stopped { IfErr result (λ f. StopsAt f self.old self.new) }
+        ensures stopped { IfErr result (λ f. ReadsToFault f self.old self.new) }
         ensures failures { Accounts result (counts (failures_by S.failures self.old)
             (failures_by S.failures self.new) ∷ []) }
     {

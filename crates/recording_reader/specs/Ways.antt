@@ -89,8 +89,8 @@ WayStands (Recording t) flows standing before now ended text records =
     × RecordingStands t.flows standing t.layout before now ended records t.left_out
 
 -- of a file that was just opened
-abbrev pub Begins : Way → Option Flows → List ℕ → List ℕ → Type 0 → List ℕ → Type 0
-Begins way flows before now ended text = WayStands way flows Reads before now ended text []
+abbrev pub BeginsWay : Way → Option Flows → List ℕ → List ℕ → Type 0 → List ℕ → Type 0
+BeginsWay way flows before now ended text = WayStands way flows Reads before now ended text []
 
 -- whether it is a recording
 abbrev pub is_recording_way : Way → Bool

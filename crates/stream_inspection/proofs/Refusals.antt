@@ -2,7 +2,7 @@
 use Rattle.std.proofs.Common.{◌≡◌, ℕ, ◌+◌, ◌<◌, List, ◌++◌, get_or, slice_index, refl, ap, sym, subst}
 use Rattle.std.proofs.Common.{arith}
 use Rattle.capture_engines.specs.Printed.{refusals}
-use Rattle.path_receiver.specs.Tallied.{place_of}
+use Rattle.path_receiver.specs.Tallied.{slot_of}
 use Rattle.path_receiver.specs.Answers.{refusal_number}
 use Rattle.path_receiver.specs.declared.answer.Refusal.{Refusal}
 use Rattle.path_receiver.specs.declared.answer.Refusal.TheVariants.{Header, WrongPayloadType}
@@ -17,13 +17,13 @@ use Rattle.stream_inspection.specs.Told.{refused_line}
 use Rattle.stream_inspection.specs.declared.rows.Row.TheVariants.{Refused}
 use Rattle.stream_inspection.specs.declared.text.Form.{Form}
 
-at_header : (e : RtpFault) → Header e ≡ get_or refusals (place_of (Header e)) (Header e)
+at_header : (e : RtpFault) → Header e ≡ get_or refusals (slot_of (Header e)) (Header e)
 at_header rtp.ShortHeader = refl
 at_header rtp.BadVersion = refl
 at_header rtp.ShortExtension = refl
 at_header rtp.BadPadding = refl
 
-at_payload : (e : PayloadFault) → Payload e ≡ get_or refusals (place_of (Payload e)) (Payload e)
+at_payload : (e : PayloadFault) → Payload e ≡ get_or refusals (slot_of (Payload e)) (Payload e)
 at_payload payload.ShortPayloadHeader = refl
 at_payload payload.TooManySegments = refl
 at_payload payload.SecondField = refl
@@ -33,13 +33,13 @@ at_payload payload.RowOutside = refl
 at_payload payload.ColumnsOutside = refl
 at_payload payload.ShortData = refl
 
-at_place : (e : Refusal) → e ≡ get_or refusals (place_of e) e
+at_place : (e : Refusal) → e ≡ get_or refusals (slot_of e) e
 at_place (Header f) = at_header f
 at_place WrongPayloadType = refl
 at_place WrongSource = refl
 at_place (Payload f) = at_payload f
 
-place_is : (e : Refusal) (i : ℕ) → refusal_number e ≡ i + 1 → place_of e ≡ i
+place_is : (e : Refusal) (i : ℕ) → refusal_number e ≡ i + 1 → slot_of e ≡ i
 place_is e i is = omega (arith, is)
 
 -- the line of the refusal of a number, by its count

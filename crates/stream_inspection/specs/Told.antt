@@ -5,7 +5,7 @@ use Rattle.std.specs.List.{AllZip, flat_map}
 use Rattle.capture_engines.specs.Files.{fault_by}
 use Rattle.capture_engines.specs.Printed.{refusals}
 use Rattle.capture_engines.specs.Received.{IsFilesRefusal}
-use Rattle.path_receiver.specs.Tallied.{Tallies, place_of}
+use Rattle.path_receiver.specs.Tallied.{Tallies, slot_of}
 use Rattle.path_receiver.specs.declared.tally.Tally.{Tally}
 use Rattle.flow.specs.declared.flows.Flows.{Flows}
 use Rattle.media_file.specs.Records.{Entry}
@@ -38,8 +38,8 @@ use Rattle.stream_inspection.specs.declared.text.Form.TheVariants.{Columns, Json
 -- the line of a refusal that came, by the counts of all
 abbrev pub refused_line : Form → List ℕ → Reason → List ℕ
 refused_line form counts e =
-    counted_line form (Refused e (slice_index counts (place_of e)))
-    (slice_index counts (place_of e))
+    counted_line form (Refused e (slice_index counts (slot_of e)))
+    (slice_index counts (slot_of e))
 
 abbrev pub refusals_text : Form → List ℕ → List ℕ
 refusals_text form counts = flat_map (refused_line form counts) refusals
