@@ -8,8 +8,8 @@ use Rattle.recording_reader.specs.declared.fault.ReadingFault.{ReadingFault}
 use Rattle.recording_reader.specs.declared.fault.ReadingFault.TheVariants.{Capture, Recording}
 use Rattle.run_outcome.specs.Fault.{Blames, counts}
 use Rattle.run_outcome.specs.declared.fault.Fault.{Fault}
+use Rattle.run_outcome.specs.LowerFaults.{reading_fault}
 use Rattle.st_format.specs.Device.{CountsOne, Failed}
-use Rattle.capture_engines.specs.Files.{fault_by}
 
 pub failed_one : (old new : ℕ) → CountsOne old new → Failed old new
 failed_one old new is = elim (cases_lt old (2 ^ 64 - 1)) [
@@ -18,7 +18,7 @@ failed_one old new is = elim (cases_lt old (2 ^ 64 - 1)) [
 ]
 
 reading_blames : (f : ReadingFault) (old new : ℕ) → CountsReadingFault f old new
-    → Blames (counts old new ∷ []) (fault_by f)
+    → Blames (counts old new ∷ []) (reading_fault f)
 reading_blames (Capture file.NoMemory) old new is = is
 reading_blames (Capture file.Device) old new is = failed_one old new is
 reading_blames (Capture file.BadName) old new is = is
@@ -42,7 +42,7 @@ reading_blames (Recording recording.TooManyBlocks) old new is = is
 
 -- so what a run ends by, of a source that had not failed before
 pub reading_blamed : (f : ReadingFault) (g : Fault) (was old new : ℕ) → old ≡ was
-    → CountsReadingFault f old new → g ≡ fault_by f → Blames (counts was new ∷ []) g
+    → CountsReadingFault f old new → g ≡ reading_fault f → Blames (counts was new ∷ []) g
 reading_blamed f g was old new same counted is =
     subst (λ (x : Fault). Blames (counts was new ∷ []) x) (sym is)
     (reading_blames f was new (subst (λ (n : ℕ). CountsReadingFault f n new) same counted))

@@ -11,11 +11,10 @@ ghost use Rattle.recording_reader.specs.declared.way.Standing.TheVariants.{Reads
 ghost use Rattle.run_outcome.specs.Fault.{Accounts, counts};
 ghost use Rattle.run_outcome.specs.Refusing.{OfRefusal};
 
-use crate::way::of_reading;
 use media_file::{FileFault, MOST_RECORDS};
 use path_receiver::{Observer, Receiver, Tally};
 use recording_reader::DatagramReader;
-use run_outcome::{Fault, of_capture};
+use run_outcome::{Fault, of_capture, of_reading};
 use sdp_format::read_located;
 use st_format::{ByteSource, Path};
 use std::alloc::Allocator;

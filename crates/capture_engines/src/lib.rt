@@ -29,4 +29,4 @@ pub use seen::{Seen, note_seen};
 pub use sender::Sending;
 pub use sending::{check_pictures, send};
 pub use typed::send_typed;
-pub use way::{Way, of_reading, unopened};
+pub use way::{Way, unopened};

@@ -33,8 +33,9 @@ use Rattle.run_outcome.specs.Refusing.{OfRefusal}
 use Rattle.run_outcome.specs.declared.fault.Fault.{Fault}
 use Rattle.run_outcome.specs.declared.fault.Fault.TheVariants.{Refused, Device, Memory}
 use Rattle.run_outcome.specs.declared.refusal.Refusal.{Refusal}
+use Rattle.run_outcome.specs.LowerFaults.{reading_fault}
 use Rattle.st_format.specs.Device.{CountsOne, Failed}
-use Rattle.recording_engines.specs.Faults.{opening_fault, reading_fault}
+use Rattle.recording_engines.specs.Faults.{opening_fault}
 use Rattle.recording_engines.specs.Joining.{Strand}
 use Rattle.recording_engines.specs.Strands.{fault_behind, fault_of_file, fault_past, fault_up_to}
 use Rattle.recording_engines.specs.Strands.{records_fault, strand_in}

@@ -15,8 +15,9 @@ use Rattle.run_outcome.specs.Moments.{WasRead}
 use Rattle.run_outcome.specs.Refusing.{OfRefusal}
 use Rattle.run_outcome.specs.declared.fault.Fault.{Fault}
 use Rattle.run_outcome.specs.declared.refusal.Refusal.{Refusal}
+use Rattle.run_outcome.specs.LowerFaults.{reading_fault}
 use Rattle.st_format.specs.History.{IsRead}
-use Rattle.recording_engines.specs.Faults.{opening_fault, reading_fault}
+use Rattle.recording_engines.specs.Faults.{opening_fault}
 use Rattle.recording_engines.specs.Files.{AllClosed, AllOpened, IsClosed, IsKnown, IsOpened}
 use Rattle.recording_engines.specs.Files.{ReadsOn, ReadsToFault, begun_of, ended_by, gave_by}
 use Rattle.recording_engines.specs.Files.{standing_of}

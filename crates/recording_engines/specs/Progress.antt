@@ -9,7 +9,7 @@ use Rattle.st_format.specs.declared.path.Path.TheVariants.{A, B}
 use Rattle.run_outcome.specs.declared.fault.Fault.TheVariants.{Refused}
 use Rattle.run_outcome.specs.declared.refusal.Refusal.{Refusal}
 use Rattle.run_outcome.specs.declared.refusal.Refusal.TheVariants.{ImportRecords}
-use Rattle.recording_engines.specs.Faults.{reading_fault}
+use Rattle.run_outcome.specs.LowerFaults.{reading_fault}
 use Rattle.recording_engines.specs.Files.{IsAt, IsReady, next_of, standings}
 use Rattle.recording_engines.specs.Steps.{Coming, HasJoined, Standing, Takes}
 use Rattle.recording_engines.specs.declared.file.ImportFile.{ImportFile}

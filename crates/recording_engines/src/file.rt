@@ -7,9 +7,8 @@ ghost use Rattle.recording_engines.specs.Files.{failures_by, is_recording_file, 
 ghost use Rattle.recording_reader.specs.FileReader.{record_seen};
 ghost use Rattle.run_outcome.specs.Fault.{Accounts, counts};
 
-use crate::faults::of_reading;
 use recording_reader::{DatagramReader, RecordView};
-use run_outcome::Fault;
+use run_outcome::{Fault, of_reading};
 use st_format::ByteSource;
 use std::alloc::Allocator;
 

@@ -19,7 +19,7 @@ mod wanted;
 mod words;
 
 pub use ending::end;
-pub use fault::{Fault, of_capture, of_picture, of_state};
+pub use fault::{Fault, of_capture, of_picture, of_reading, of_state};
 pub use line::Line;
 pub use pictures::{read_packed, read_unpacked};
 pub use printing::{print, print_frames};

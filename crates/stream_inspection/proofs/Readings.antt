@@ -2,7 +2,7 @@
 use Rattle.std.proofs.Common.{◌≡◌, ◌∙◌, ℕ, ◌⊎◌, inl, inr, List, [], ◌∷◌, ◌++◌, length, Bool, true}
 use Rattle.std.proofs.Common.{false, cond, Option, None, Some, Result, Ok, Err, refl, ap, sym, subst}
 use Rattle.std.specs.Prelude.{IfErr, IfOk, IsSome, MatchOption, OnOk}
-use Rattle.capture_engines.specs.Files.{HasFileText, fault_by, flows_in}
+use Rattle.capture_engines.specs.Files.{HasFileText, flows_in}
 use Rattle.capture_engines.specs.Received.{IsFrontRefusal, IsTakeRefusal}
 use Rattle.capture_engines.specs.declared.way.Way.{Way}
 use Rattle.capture_engines.proofs.Blaming.{reading_blamed}
@@ -23,6 +23,7 @@ use Rattle.recording_reader.specs.declared.way.Standing.TheVariants.{Ended, Fail
 use Rattle.run_outcome.specs.Fault.{Accounts, counts}
 use Rattle.run_outcome.specs.Refusing.{OfRefusal}
 use Rattle.run_outcome.specs.declared.fault.Fault.{Fault}
+use Rattle.run_outcome.specs.LowerFaults.{reading_fault}
 use Rattle.st_format.specs.Given.{IfOfContent, OfContent, OfDevice, OfMemory, Origin}
 use Rattle.st_format.specs.History.{IsRead}
 use Rattle.st_format.proofs.Origins.{if_content, if_content_weaker}
@@ -51,7 +52,7 @@ if_end (Some f) P Q then is = file_weaker f P Q then is
 pub end_counted : (end : Option ReadingFault) (old new : ℕ) → counts_end end old new
     → Accounts (ended_by (Ok end)) (counts old new ∷ [])
 end_counted None old new is = is
-end_counted (Some f) old new is = reading_blamed f (fault_by f) old old new refl is refl
+end_counted (Some f) old new is = reading_blamed f (reading_fault f) old old new refl is refl
 
 -- what holds at each of some octets, where the fault is the content's
 each_content : (o : Origin) (told P : List ℕ → Type 0)

@@ -2,7 +2,6 @@
 use Rattle.std.specs.Prelude.{◌≡◌, ℕ, ◌⊎◌, List, [], ◌∷◌, ◌++◌, slice_index, take, Option, None, Some}
 use Rattle.std.specs.Prelude.{Result}
 use Rattle.std.specs.List.{AllZip, flat_map}
-use Rattle.capture_engines.specs.Files.{fault_by}
 use Rattle.capture_engines.specs.Printed.{refusals}
 use Rattle.capture_engines.specs.Received.{IsFilesRefusal}
 use Rattle.path_receiver.specs.Tallied.{Tallies, slot_of}
@@ -13,6 +12,7 @@ use Rattle.path_receiver.specs.declared.answer.Refusal.{Refusal as Reason}
 use Rattle.recording_reader.specs.declared.fault.ReadingFault.{ReadingFault}
 use Rattle.run_outcome.specs.declared.fault.Fault.TheVariants as outcome
 use Rattle.run_outcome.specs.declared.refusal.Refusal.{Refusal}
+use Rattle.run_outcome.specs.LowerFaults.{reading_fault}
 use Rattle.recording_counts.specs.Timestamps.{timestamps_of}
 use Rattle.recording_counts.specs.declared.stream.StreamCount.{StreamCount}
 use Rattle.recording_counts.specs.declared.timestamp.TimestampCount.{TimestampCount}
@@ -99,7 +99,7 @@ abbrev pub IsStreamsRefusal : {S : Type 0} → Wanted → Form → Option (List 
 IsStreamsRefusal w form sdp ways told files shown shown' r =
     ((shown' ≡ shown) × (IsBeginRefusal w sdp r
     ⊎ IsFilesRefusal (0 ∷ []) (begins w sdp) ways told files r))
-    ⊎ ((f : ReadingFault) × (count : ℕ) × (fault_by f ≡ outcome.Refused r)
+    ⊎ ((f : ReadingFault) × (count : ℕ) × (reading_fault f ≡ outcome.Refused r)
     × Tells w form sdp ways told (take count files) (Some f) shown shown')
 
 -- ---- on the way there
@@ -116,5 +116,5 @@ pub record IsEndRefusal {A : Type 0} (form : Form) (t : Target) (i : Inspection 
     (end : Option ReadingFault) (shown shown' : List ℕ) (r : Refusal) : Type 0 where
   pub fault : ReadingFault
   pub ended : end ≡ Some fault
-  pub is : fault_by fault ≡ outcome.Refused r
+  pub is : reading_fault fault ≡ outcome.Refused r
   pub printed : Prints form t i shown shown'

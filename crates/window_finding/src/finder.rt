@@ -12,11 +12,10 @@ ghost use Rattle.window_finding.specs.Finding.{AnnouncesType};
 ghost use Rattle.window_finding.specs.First.{distinct, first_timestamps, timestamp_in};
 ghost use Rattle.window_finding.specs.Turns.{IsDone, IsStop};
 
-use capture_engines::of_reading;
 use media_file::{FileFault, MOST_RECORDS};
 use recording_reader::DatagramReader;
 use rtp_header::read_rtp;
-use run_outcome::{Fault, of_capture};
+use run_outcome::{Fault, of_capture, of_reading};
 use sdp_format::read_located;
 use st_format::ByteSource;
 use std::alloc::{AllocError, Allocator};
