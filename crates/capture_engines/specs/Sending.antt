@@ -1,6 +1,6 @@
 -- What `send` writes.
 use Rattle.std.specs.Prelude.{◌≡◌, ℕ, ◌+◌, ◌%◌, ◌^◌, List, [], ◌∷◌, ◌++◌, length}
-use Rattle.std.specs.Prelude.{⊤, Option, None, Some}
+use Rattle.std.specs.Prelude.{⊤, Option}
 use Rattle.run_outcome.specs.Moments.{WasRead}
 use Rattle.st_format.specs.Picture.{Values}
 use Rattle.st_format.specs.declared.device.ByteSink.{Ghosts}
@@ -11,7 +11,7 @@ use Rattle.packet_plan.specs.Sender.{IsNext, IsSenderList, Sender, stamp_of}
 use Rattle.recording_counts.specs.Numbering.{capped}
 use Rattle.run_outcome.specs.Line.{line_text}
 use Rattle.run_outcome.specs.Pictures.{SaysPicture}
-use Rattle.run_outcome.specs.TextRefusals.{IsCaptureText}
+use Rattle.run_outcome.specs.TextRefusals.{SaysText}
 use Rattle.run_outcome.specs.declared.line.Line.TheVariants as line
 use Rattle.capture_engines.specs.Writing.{WritesPicture}
 use Rattle.capture_engines.specs.declared.sender.Sender.{Sender as Sends}
@@ -128,22 +128,13 @@ pub record SendsPictures {S : Type 0} (told : S × S → List ℕ → Type 0) (w
   pub say : SayPictures told sources later pictures
   pub taken : TakesPictures wanted text pictures old new count
 
--- the text of a capture: all that the SDP's source gave, up to its end, which describes a video; or
--- nothing, where there is none
-abbrev pub SaysSdp : {S : Type 0} → (S → List ℕ) → (S → Type 0) → Option S → Option S → List ℕ
-    → Type 0
-SaysSdp gave ended None later text = text ≡ []
-SaysSdp gave ended (Some sdp) None text = ⊥
-SaysSdp gave ended (Some sdp) (Some later) text =
-    (gave later ≡ gave sdp ++ text) × ended later × IsCaptureText text
-
 -- A sink took that text and those pictures, and to the output it was printed how many datagrams
 -- they are.
 pub record SendsAll {S : Type 0} (gave : S → List ℕ) (ended : S → Type 0) (wanted : Sending)
     (sdp sdp_later : Option S) (sources later : List S) (old new printed printed_new : List ℕ)
     : Type 0 where
   pub text : List ℕ
-  pub says : SaysSdp gave ended sdp sdp_later text
+  pub says : SaysText gave ended sdp sdp_later text
   pub count : ℕ
   pub pictures : SendsPictures (WasRead gave ended) wanted text sources later old new count
   pub line : printed_new ≡ printed ++ (line_text (line.Sent count) ++ 10 ∷ [])

@@ -4,3 +4,4 @@ pub mod TextLines
 pub mod Printed
 pub mod Refusals
 pub mod SetSums
+pub mod SaidTexts

@@ -1,11 +1,10 @@
--- A run of `process` with a text.
+-- The text of a capture, where one is given.
 use Rattle.std.proofs.Common.{◌≡◌, List, ℕ, [], Option, Some, None, sym, refl, ◌∙◌, subst}
 use Rattle.std.proofs.Common.{append-nil}
 use Rattle.run_outcome.specs.Text.{GivesText}
-use Rattle.run_outcome.specs.TextRefusals.{SaysCaptureText}
+use Rattle.run_outcome.specs.TextRefusals.{SaysCaptureText, SaysText}
 use Rattle.st_format.specs.History.{IsRead, since}
 use Rattle.st_format.proofs.Histories.{since_is}
-use Rattle.receiver_engines.specs.Processing.{SaysText}
 
 -- no SDP is given
 pub said_none : {S : Type 0} (gave : S → List ℕ) (ended : S → Type 0) (sdp later : Option S)

@@ -1,6 +1,6 @@
 use Rattle.std.proofs.Common.{◌≡◌, List, ℕ, [], rules}
-use Rattle.capture_engines.proofs.Sendings.{said_none, said_some}
-use Rattle.capture_engines.proofs.sending.read_said.Goals as goal
+use Rattle.run_outcome.proofs.SaidTexts.{said_none, said_some}
+use Rattle.run_outcome.proofs.text.read_if_given.Goals as goal
 
 pub returns-in-None-clause-says : goal.returns-in-None-clause-says
 returns-in-None-clause-says g c =
