@@ -17,7 +17,6 @@ mod sending;
 mod typed;
 mod way;
 
-pub use datagram_link::DatagramLink;
 pub use looping::{Looping, loop_back};
 pub use memory_link::MemoryLink;
 pub use migrating::migrate;

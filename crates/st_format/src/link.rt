@@ -1,12 +1,10 @@
 //! Links: sinks of datagrams that are their sources too.
-#![tactic(auto)]
-
 ghost use Rattle.std.specs.Prelude.{◌≡◌, ◌≤◌, ◌++◌, ◌∷◌, ◌↔◌, [], IfErr, IfOk, MatchResult, OnErr};
 ghost use Rattle.std.specs.Prelude.{OnOk, Some, length};
 ghost use Rattle.st_format.specs.Device.{CountsFaults, KeepsAll, TakesOne};
 ghost use Rattle.st_format.specs.Turns.{CountsTurn, IsEnd, IsWithin, TakesTurn, arrived};
 
-use st_format::{DatagramSink, DatagramSource, SinkFault, SourceFault, Turn};
+use crate::device::{DatagramSink, DatagramSource, SinkFault, SourceFault, Turn};
 
 /// A link. What is put into it may come out of it or not, in any order and any number of times.
 pub trait DatagramLink: DatagramSink + DatagramSource {
