@@ -26,7 +26,7 @@ use command_end::{Command, Devices, Hints, Ran};
 use command_line::InspectWords;
 use devices::OutputSink;
 use inspect_engine::Form as FlowForm;
-use recording_engines::Importing;
+use recording_engines::FlowWords;
 use run_outcome::{Fault, LineFault};
 use st_format::FormatFault;
 use std::io::Stdout;
@@ -41,7 +41,7 @@ pub struct InspectAsked<'a> {
     /// The SDP's file, where one is named.
     pub sdp: Option<&'a str>,
     /// The flows of recordings of other tools.
-    pub flows: Importing<'a>,
+    pub flows: FlowWords<'a>,
     /// The files of captures and recordings.
     pub recordings: &'a [&'a str],
     /// Whether it is told as objects of JSON.
@@ -82,7 +82,7 @@ impl<'a> InspectCommand<'a> {
         let asked = InspectAsked {
             target,
             sdp: words.sdp,
-            flows: Importing {
+            flows: FlowWords {
                 a: octets(words.a),
                 b: octets(words.b),
             },

@@ -20,7 +20,7 @@ use capture_engines::{Seen, Wanted};
 use command_end::find_output;
 use devices::{FileOutput, FileSource, Identity, Reading};
 use flow::Flows;
-use recording_engines::{Importing, ways_each};
+use recording_engines::{FlowWords, ways_each};
 use run_outcome::{Fault, MOST_TEXT, Refusal, Writer, read_text};
 use window_finding::Sought;
 
@@ -49,7 +49,7 @@ pub struct Files<'a> {
 pub struct Asked<'a> {
     pub wanted: Wanted<'a>,
     /// The flows of recordings of other tools.
-    pub flows: Importing<'a>,
+    pub flows: FlowWords<'a>,
     /// The SDP's file, where one is named.
     pub sdp: Option<&'a str>,
     /// The files of captures and recordings.
@@ -145,7 +145,7 @@ impl<'a> Files<'a> {
     pub(crate) fn find_ways(
         &mut self,
         rt: &HostRuntime,
-        flows: Importing<'_>,
+        flows: FlowWords<'_>,
         count: usize,
     ) -> Result<(), Fault>
         requires { AreUnread self.old }

@@ -28,7 +28,7 @@ use capture_engines::{Reception, Wanted, receive_files};
 use command_end::{Command, Devices, Hints, Ran};
 use command_line::ReceiveWords;
 use devices::{FileOutput, FileSink, OutputSink, Rest, Stream};
-use recording_engines::Importing;
+use recording_engines::FlowWords;
 use run_outcome::Fault;
 
 /// Takes the datagrams of captures and recordings into one receiver.
@@ -179,7 +179,7 @@ fn asked<'a>(words: &'a ReceiveWords<'a>) -> Asked<'a> {
             ssrc: words.ssrc.as_bytes(),
             tells_refusals: words.refusals,
         },
-        flows: Importing {
+        flows: FlowWords {
             a: octets(words.a),
             b: octets(words.b),
         },
