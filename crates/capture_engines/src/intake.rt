@@ -53,7 +53,6 @@ impl<A: Allocator + Copy> Intake<A> {
 }
 
 impl<A: Allocator> Intake<A> {
-    /// Takes a datagram.
     fn take(&mut self, path: Path, octets: &[u8])
         ensures { TakesDatagrams (octets.now ∷ []) self.old self.new }
     {
@@ -62,7 +61,6 @@ impl<A: Allocator> Intake<A> {
         self.delivered = self.delivered.saturating_add(1);
     }
 
-    /// Takes the datagram that a reader has at hand, where it has one.
     fn take_at_hand<B: Allocator, S: ByteSource>(&mut self, reader: &DatagramReader<B, S>)
         ensures { TakesDatagrams (octets_of (option_to_list reader.now.at_hand)) self.old
             self.new }

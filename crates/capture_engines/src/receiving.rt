@@ -135,7 +135,6 @@ where
     )
 }
 
-/// Reads the SDP's text, where a source of it is given.
 fn read_said<A: Allocator, S: ByteSource>(
     alloc: A,
     sdp: &mut Option<S>,
@@ -157,7 +156,6 @@ fn read_said<A: Allocator, S: ByteSource>(
     }
 }
 
-/// Reads the SDP's text.
 fn read_given<A: Allocator, S: ByteSource>(alloc: A, source: &mut S) -> Result<Vec<u8, A>, Fault>
     ensures said { IfOk result (λ text. (octets : List ℕ)
         → IsRead (S.gave source.old) (S.gave source.new) (S.ended source.new) octets
@@ -173,7 +171,6 @@ fn read_given<A: Allocator, S: ByteSource>(alloc: A, source: &mut S) -> Result<V
     }
 }
 
-/// The octets of a text, where there is one.
 fn octets_of<A: Allocator>(said: &Option<Vec<u8, A>>) -> Option<&[u8]>
     ensures { option_copied result ≡ option_map (λ text. text.items) said.now }
 {
@@ -203,7 +200,6 @@ pub(crate) fn read_opening<A: Allocator + Copy>(
     Ok(Asked { window, ssrc })
 }
 
-/// Opens a receiver by the SDP text, where one is given.
 pub(crate) fn begin<A: Allocator + Copy>(
     alloc: A,
     opening: &Asked<A>,
@@ -224,7 +220,6 @@ pub(crate) fn begin<A: Allocator + Copy>(
     }
 }
 
-/// Opens a receiver by an SDP text.
 fn open_by<A: Allocator + Copy>(
     alloc: A,
     opening: &Asked<A>,
@@ -268,7 +263,7 @@ pub(crate) fn take_all<A: Allocator + Copy, S: ByteSource>(
     Ok(())
 }
 
-/// Takes the file of a place.
+/// Takes the file of a place. It alone is lent, so what is known of the others stays.
 fn take_at<A: Allocator + Copy, S: ByteSource>(
     alloc: A,
     opening: &Asked<A>,
@@ -382,7 +377,6 @@ fn take_opened<A: Allocator + Copy, S: ByteSource>(
     taken
 }
 
-/// Opens a receiver by a file's text.
 fn open_by_text<A: Allocator + Copy>(
     alloc: A,
     opening: &Asked<A>,

@@ -107,7 +107,6 @@ impl<'a> InspectCommand<'a> {
     }
 }
 
-/// Where nothing is read.
 fn nothing_read<'a>(rt: &HostRuntime) -> Inspected<'a>
     ensures { AreFresh result }
 {
@@ -216,7 +215,6 @@ fn open_streams<'a>(
     Ok(())
 }
 
-/// The form of flows that is asked for.
 fn form_of_flows(is_json: bool) -> FlowForm
     ensures { result ≡ flow_form is_json }
 {
@@ -227,7 +225,6 @@ fn form_of_flows(is_json: bool) -> FlowForm
     }
 }
 
-/// The form of streams that is asked for.
 fn form_of_streams(is_json: bool) -> StreamForm
     ensures { result ≡ stream_form is_json }
 {
@@ -238,7 +235,6 @@ fn form_of_streams(is_json: bool) -> StreamForm
     }
 }
 
-/// Tells the flows of recordings.
 fn tell_flows(
     rt: &HostRuntime,
     is_json: bool,
@@ -256,7 +252,6 @@ fn tell_flows(
     inspect_engine::inspect(rt.alloc(), recordings.as_mut_slice(), form, output)
 }
 
-/// Tells what came of a stream.
 fn tell_stream(
     rt: &HostRuntime,
     wanted: Wanted,

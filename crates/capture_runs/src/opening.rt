@@ -111,7 +111,6 @@ impl<'a> Files<'a> {
         }
     }
 
-    /// Reads the SDP, where one is named.
     pub(crate) fn read_sdp(
         &mut self,
         rt: &'a HostRuntime,
@@ -217,7 +216,6 @@ impl<'a> Files<'a> {
         }
     }
 
-    /// The text of the SDP, where one was read.
     pub(crate) fn said(&self) -> Option<&[u8]> {
         text_of(&self.said)
     }
@@ -264,7 +262,6 @@ fn is_recording(rt: &HostRuntime, names: &[&str], file: Option<Identity>) -> boo
     false
 }
 
-/// Reads an SDP's file.
 fn read_said(rt: &HostRuntime, file: &mut Replayed<'_>) -> Result<Vec<u8>, Fault>
     requires { replayed_gave file.old ≡ [] }
     ensures said { IfOk result (λ said. GivesText 16777216 [] (replayed_gave file.new)
@@ -277,7 +274,6 @@ fn read_said(rt: &HostRuntime, file: &mut Replayed<'_>) -> Result<Vec<u8>, Fault
     }
 }
 
-/// The octets of a text, where there is one.
 pub(crate) fn text_of(said: &Option<Vec<u8>>) -> Option<&[u8]>
     ensures { option_copied result ≡ said_text said.now }
 {

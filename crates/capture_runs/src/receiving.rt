@@ -47,7 +47,6 @@ pub struct ReceiveCommand<'a> {
     pub is_sound: bool,
     /// What the receiver was given, once it is written.
     pub reception: Option<Reception>,
-    /// Whether memory was wanted.
     pub wants_memory: bool,
 }
 
@@ -104,7 +103,6 @@ impl ReceiveCommand<'_> {
     }
 }
 
-/// Receives.
 fn take(
     rt: &HostRuntime,
     wanted: Wanted<'_>,
@@ -163,7 +161,6 @@ fn take(
     )
 }
 
-/// Whether memory was wanted.
 fn is_memory(outcome: Result<(), Fault>) -> bool {
     match outcome {
         Err(Fault::Memory) => true,
@@ -171,7 +168,6 @@ fn is_memory(outcome: Result<(), Fault>) -> bool {
     }
 }
 
-/// What `receive` is asked for.
 fn asked<'a>(words: &'a ReceiveWords<'a>) -> Asked<'a> {
     Asked {
         wanted: Wanted {
@@ -188,7 +184,6 @@ fn asked<'a>(words: &'a ReceiveWords<'a>) -> Asked<'a> {
     }
 }
 
-/// The octets of a text, where there is one.
 pub(crate) fn octets(text: Option<&str>) -> Option<&[u8]> {
     match text {
         Some(text) => Some(text.as_bytes()),

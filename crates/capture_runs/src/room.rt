@@ -40,7 +40,6 @@ fn frame_octets(alloc: Global, said: &[u8]) -> Option<u64> {
     Some(octets_of(&format))
 }
 
-/// How many octets a frame of a format takes.
 fn octets_of(format: &Format) -> u64 {
     let row = format.row_octets() as u64 + 2 * u64::from(format.row_groups());
     row.saturating_mul(u64::from(format.height()))

@@ -196,7 +196,6 @@ pub fn open_recording<S: ByteSource>(
     lay_behind(source, &four, buf)
 }
 
-/// Reads the next record of the classic layout.
 fn pcap_step<S: ByteSource>(
     source: &mut S,
     file: &PcapHead,
@@ -227,7 +226,6 @@ fn pcap_step<S: ByteSource>(
     }
 }
 
-/// Reads the next block.
 fn block_step<S: ByteSource>(
     source: &mut S,
     section: &mut Section,
@@ -254,7 +252,6 @@ fn block_step<S: ByteSource>(
     next_block(source, section, buf)
 }
 
-/// Reads the next record or block.
 fn step<S: ByteSource>(
     source: &mut S,
     layout: &mut Layout,

@@ -60,7 +60,6 @@ impl<A: Allocator, S: ByteSource> ImportFile<A, S> {
         }
     }
 
-    /// Its moment.
     pub(crate) fn next_moment(&self) -> Option<u64>
         ensures { result ≡ option_map (λ e. e.moment) (next_of self.now) }
     {

@@ -199,7 +199,6 @@ fn said_flows(said: &[u8]) -> Result<Flows, Fault>
     })
 }
 
-/// The flow of a place, where there is one.
 fn flow_at(flows: &[Flow], place: usize) -> Option<Flow>
     ensures { result ≡ slice_get flows.now place }
 {

@@ -24,7 +24,6 @@ pub(crate) struct Written {
 }
 
 impl Written {
-    /// One more.
     fn add(&mut self, path: Path)
         requires { self.old.a + self.old.b < 16777216 }
         ensures { CountsPath path self.old self.new }
@@ -36,7 +35,6 @@ impl Written {
     }
 }
 
-/// Writes the record that comes next of a file.
 fn write_next<A: Allocator, S: ByteSource, K: ByteSink>(
     file: &ImportFile<A, S>,
     capture: &mut K,

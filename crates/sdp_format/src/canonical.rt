@@ -35,7 +35,6 @@ fn range_text(range: Range) -> &'static [u8]
     }
 }
 
-/// Puts a piece behind a text.
 fn add<A: Allocator + Copy>(text: &mut Vec<u8, A>, piece: &[u8]) -> Result<(), SdpFault>
     ensures { MatchResult result (λ _. text.new.items ≡ text.old.items ++ piece.now)
         (λ e. e ≡ NoMemory) }
@@ -44,7 +43,6 @@ fn add<A: Allocator + Copy>(text: &mut Vec<u8, A>, piece: &[u8]) -> Result<(), S
     Ok(())
 }
 
-/// Puts an item of this value behind a text.
 fn add_item<A: Allocator + Copy>(
     text: &mut Vec<u8, A>,
     name: &[u8],
@@ -89,7 +87,6 @@ fn add_divisor<A: Allocator + Copy>(
     add(text, digits.as_bytes())
 }
 
-/// Puts the items of a format behind a text.
 fn add_format<A: Allocator + Copy>(
     alloc: A,
     text: &mut Vec<u8, A>,

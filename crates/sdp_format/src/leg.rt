@@ -11,7 +11,6 @@ use crate::parameters::{Parameters, is_interlaced, text_of};
 use st_format::{Depth, Format, Sampling, read_number};
 use std::alloc::Allocator;
 
-/// The format that the items give.
 #[tactic(auto, unfolding(crate::specs::Reading::format_of))]
 pub(crate) fn format_of<A: Allocator>(list: &Parameters<'_, A>) -> Result<Format, SdpFault>
     ensures { result_map fields_of result ≡ format_of (items_in list.now) }

@@ -91,7 +91,6 @@ fn find_timestamps<A: Allocator + Copy, S: ByteSource>(
     }
 }
 
-/// Begins by the SDP text, where one is given.
 fn begin<A: Allocator + Copy>(
     alloc: A,
     sought: Sought,
@@ -111,7 +110,6 @@ fn begin<A: Allocator + Copy>(
     }
 }
 
-/// Begins by an SDP text.
 fn open_by<A: Allocator + Copy>(alloc: A, sought: Sought, sdp: &[u8]) -> Result<Finder<A>, Fault>
     ensures opened { IfOk result (λ s. FindsBy sought sdp.now s []) }
     ensures refusal { IfErr result (λ f. OfRefusal f (IsOpeningRefusal (0 ∷ []) sdp.now)) }
@@ -146,7 +144,8 @@ fn find_all<A: Allocator + Copy, S: ByteSource>(
     Ok(())
 }
 
-/// Takes the timestamps of the file of a place.
+/// Takes the timestamps of the file of a place. It alone is lent, so what is known of the others
+/// stays.
 fn find_at<A: Allocator + Copy, S: ByteSource>(
     alloc: A,
     sought: Sought,
@@ -216,7 +215,6 @@ fn find_one<A: Allocator + Copy, S: ByteSource>(
     found
 }
 
-/// Whether as many timestamps were found as are sought.
 fn has_all<A: Allocator>(begun: &Option<Finder<A>>) -> bool
     ensures { IsTrue result
         → MatchOption begun.now ⊥ (λ s. s.sought.count ≤ length s.window.items) }
@@ -259,7 +257,6 @@ fn find_opened<A: Allocator + Copy, S: ByteSource>(
     found
 }
 
-/// Begins by a file's text.
 fn open_by_text<A: Allocator + Copy>(
     alloc: A,
     sought: Sought,

@@ -43,7 +43,6 @@ pub fn spell_timestamps<A: Allocator>(alloc: A, window: &[u32]) -> Result<Vec<u8
     Ok(text)
 }
 
-/// Puts the digits of a number behind a text.
 fn put_number<A: Allocator>(text: &mut Vec<u8, A>, number: u32) -> Result<(), AllocError>
     ensures { OnOk result (text.new.items ≡ text.old.items ++ decimal number) }
 {
