@@ -32,6 +32,7 @@ pub use datagram::{DatagramView, NoDatagram, packet_datagram, read_datagram};
 pub use fault::RecordingFault;
 pub use ip::{PacketView, read_packet};
 pub use link::{IpVersion, Link, LinkView, read_link};
+pub use numbers::number_16;
 pub use order::ByteOrder;
 pub use pcap::{PCAP_HEAD, PacketHead, PcapHead, RECORD_HEAD, read_pcap_head, read_record_head};
 pub use pcap_reading::{next_record, read_pcap, record_begins, record_rest};
