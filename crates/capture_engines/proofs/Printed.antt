@@ -4,7 +4,7 @@ use Rattle.std.proofs.Common.{Option, ap, subst, sym, ◌∙◌, ◌≢◌, zero
 use Rattle.std.proofs.Common.{append-nil, refl, slice_index}
 use Rattle.std.specs.List.{flat_map}
 use Rattle.path_receiver.specs.Frames.{State}
-use Rattle.st_format.specs.Device.{GrowsPart}
+use Rattle.st_format.specs.Device.{GrowsPart, capped}
 use Rattle.path_receiver.specs.Answers.{refusal_number, taken_at}
 use Rattle.path_receiver.specs.declared.answer.Refusal.{Refusal}
 use Rattle.path_receiver.specs.declared.answer.Refusal.TheVariants.{Header, WrongPayloadType}
@@ -16,7 +16,7 @@ use Rattle.rtp_header.specs.declared.header.RtpFault.TheVariants as rtp
 use Rattle.run_outcome.specs.Line.{line_text}
 use Rattle.capture_engines.specs.Printed.{counted_line, refusal_line, answers_text, received_text}
 use Rattle.capture_engines.specs.Printed.{refusals, taken_text, tally_text}
-use Rattle.path_receiver.specs.Tallied.{Tallies, fitting, is_refusal, slot_of}
+use Rattle.path_receiver.specs.Tallied.{Tallies, is_refusal, slot_of}
 use Rattle.run_outcome.specs.declared.line.Line.{Line}
 use Rattle.run_outcome.specs.declared.line.Line.TheVariants.{OutsideCount, RefusedCount}
 use Rattle.path_receiver.specs.declared.tally.Tally.{Tally}
@@ -109,19 +109,19 @@ tally_text_is : (t : Tally) (answers : List (Result Taken Refusal)) → Tallies 
 tally_text_is t answers tallied =
     ap (λ (lines : List ℕ). lines ++ counted_line t.outside (OutsideCount t.outside))
     (flat_same (refusal_line t.refused)
-    (λ e. counted_line (fitting (count_by (is_refusal e) answers))
-    (RefusedCount e (fitting (count_by (is_refusal e) answers))))
+    (λ e. counted_line (capped (count_by (is_refusal e) answers))
+    (RefusedCount e (capped (count_by (is_refusal e) answers))))
     (λ e. ap (λ (n : ℕ). counted_line n (RefusedCount e n)) (tallied.refused e)) refusals)
     ∙ ap (λ (n : ℕ). flat_map
-    (λ e. counted_line (fitting (count_by (is_refusal e) answers))
-    (RefusedCount e (fitting (count_by (is_refusal e) answers)))) refusals
+    (λ e. counted_line (capped (count_by (is_refusal e) answers))
+    (RefusedCount e (capped (count_by (is_refusal e) answers)))) refusals
     ++ counted_line n (OutsideCount n)) tallied.outside
 
 pub received_text_is : (wanted : Bool) (delivered : ℕ) (t : Tally) (s : State)
-    (datagrams : List (List ℕ)) → delivered ≡ fitting (length datagrams)
+    (datagrams : List (List ℕ)) → delivered ≡ capped (length datagrams)
     → Tallies t (map (taken_at s.opening) datagrams)
     → received_text wanted delivered (tally_text t) s ≡ taken_text wanted s datagrams
 received_text_is wanted delivered t s datagrams count tallied =
     ap (λ (n : ℕ). received_text wanted n (tally_text t) s) count
-    ∙ ap (λ (lines : List ℕ). received_text wanted (fitting (length datagrams)) lines s)
+    ∙ ap (λ (lines : List ℕ). received_text wanted (capped (length datagrams)) lines s)
     (tally_text_is t (map (taken_at s.opening) datagrams) tallied)

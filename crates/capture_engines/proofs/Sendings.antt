@@ -9,7 +9,7 @@ use Rattle.std.proofs.lemmas.List.{drop-append-le, length-take-le, take_all}
 use Rattle.std.specs.Borrow.{GName}
 use Rattle.std.specs.List.{zip}
 use Rattle.std.specs.Prelude.{IfOk, OnOk}
-use Rattle.st_format.specs.Device.{CountsOne, Failed}
+use Rattle.st_format.specs.Device.{CountsOne, Failed, capped}
 use Rattle.st_format.specs.Picture.{Values}
 use Rattle.st_format.specs.declared.device.ByteSink.{Ghosts}
 use Rattle.st_format.specs.declared.format.Format.{Format}
@@ -31,7 +31,6 @@ use Rattle.packet_plan.specs.Sender.{IsNext, SendsFrom, Sender, stamp_of}
 use Rattle.packet_plan.specs.Sent.{AreSent, IsSentPicture}
 use Rattle.packet_plan.specs.declared.run.PacketRun.{PacketRun}
 use Rattle.packet_plan.specs.declared.stamp.Stamp.{Stamp}
-use Rattle.recording_counts.specs.Numbering.{capped}
 use Rattle.capture_engines.specs.Sent.{FirstIs}
 use Rattle.run_outcome.specs.Pictures.{SaysPicture}
 use Rattle.capture_engines.specs.Sending.{HasSent, SayPictures, SendsFirstAndRest, SendsMore}

@@ -2,6 +2,7 @@
 use Rattle.std.specs.Prelude.{ℕ, zero, suc, List, [], ◌∷◌, ◌++◌, Bool, true, false, Result, length}
 use Rattle.std.specs.Prelude.{map, slice_index}
 use Rattle.std.specs.List.{count_by, flat_map}
+use Rattle.st_format.specs.Device.{capped}
 use Rattle.path_receiver.specs.Answers.{taken_at}
 use Rattle.path_receiver.specs.Frames.{State}
 use Rattle.path_receiver.specs.declared.answer.Refusal.{Refusal}
@@ -11,7 +12,7 @@ use Rattle.path_receiver.specs.declared.answer.Taken.{Taken}
 use Rattle.payload_header.specs.declared.payload.PayloadFault.TheVariants as payload
 use Rattle.rtp_header.specs.declared.header.RtpFault.TheVariants as rtp
 use Rattle.run_outcome.specs.Line.{line_text}
-use Rattle.path_receiver.specs.Tallied.{fitting, is_outside, is_refusal, slot_of}
+use Rattle.path_receiver.specs.Tallied.{is_outside, is_refusal, slot_of}
 use Rattle.run_outcome.specs.declared.line.Line.{Line}
 use Rattle.run_outcome.specs.declared.line.Line.TheVariants.{Delivered, OutsideCount, RefusedCount}
 use Rattle.path_receiver.specs.declared.tally.Tally.{Tally}
@@ -54,8 +55,8 @@ tally_text t = flat_map (refusal_line t.refused) refusals ++ counted_line t.outs
 -- those of answers
 abbrev pub answers_text : List (Result Taken Refusal) → List ℕ
 answers_text answers =
-    refusals_text (λ e. fitting (count_by (is_refusal e) answers))
-    (fitting (count_by is_outside answers))
+    refusals_text (λ e. capped (count_by (is_refusal e) answers))
+    (capped (count_by is_outside answers))
 
 -- ---- what `receive` prints
 
@@ -74,5 +75,5 @@ received_text wanted delivered counts receiver =
 -- those of a receiver that was given these datagrams
 abbrev pub taken_text : Bool → State → List (List ℕ) → List ℕ
 taken_text wanted receiver datagrams =
-    received_text wanted (fitting (length datagrams))
+    received_text wanted (capped (length datagrams))
     (answers_text (map (taken_at receiver.opening) datagrams)) receiver

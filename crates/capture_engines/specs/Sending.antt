@@ -5,10 +5,10 @@ use Rattle.run_outcome.specs.Moments.{WasRead}
 use Rattle.st_format.specs.Picture.{Values}
 use Rattle.st_format.specs.declared.device.ByteSink.{Ghosts}
 use Rattle.st_format.specs.declared.format.Format.{Format}
+use Rattle.st_format.specs.Device.{capped}
 use Rattle.media_file.specs.Writer.{moment_after, written_text}
 use Rattle.packet_plan.specs.Plan.{RasterPlan}
 use Rattle.packet_plan.specs.Sender.{IsNext, IsSenderList, Sender, stamp_of}
-use Rattle.recording_counts.specs.Numbering.{capped}
 use Rattle.run_outcome.specs.Line.{line_text}
 use Rattle.run_outcome.specs.Pictures.{SaysPicture}
 use Rattle.run_outcome.specs.TextRefusals.{SaysText}

@@ -12,6 +12,7 @@ use Rattle.std.specs.FinSet.{nat_cmp-IsAntisymmetric, same_set}
 use Rattle.std.specs.List.{filter}
 use Rattle.std.specs.Option.{option_map_or}
 use Rattle.std.specs.Ordering.{nat_cmp}
+use Rattle.st_format.specs.Device.{capped}
 use Rattle.recording_counts.specs.declared.packet.Packet.{Packet}
 use Rattle.recording_counts.specs.declared.packet.StreamKey.{StreamKey}
 use Rattle.recording_counts.specs.declared.path_count.PathCount.{PathCount}
@@ -19,7 +20,7 @@ use Rattle.recording_counts.specs.declared.stream.StreamCount.{StreamCount}
 use Rattle.recording_counts.specs.declared.path_count.Came.{Came}
 use Rattle.recording_counts.specs.declared.path_count.Came.TheVariants.{Late, New}
 use Rattle.recording_counts.specs.PathCounts.{came, came_after, count_of, is_repeated, one_more}
-use Rattle.recording_counts.specs.Numbering.{Numbered, capped, highest_of, number_after, numbered}
+use Rattle.recording_counts.specs.Numbering.{Numbered, highest_of, number_after, numbered}
 use Rattle.recording_counts.specs.Numbering.{numbered_after, numbered_behind}
 use Rattle.recording_counts.specs.Streams.{is_a, numbers_by_a, numbers_by_b, stream_counted}
 use Rattle.recording_counts.specs.Streams.{stream_of}

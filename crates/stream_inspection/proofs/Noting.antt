@@ -14,7 +14,7 @@ use Rattle.path_receiver.specs.declared.tally.Tally.{Tally}
 use Rattle.path_receiver.specs.declared.answer.Refusal.{Refusal}
 use Rattle.path_receiver.specs.declared.answer.Taken.{Taken}
 use Rattle.rtp_header.specs.Reading.{rtp_walk}
-use Rattle.recording_counts.specs.Numbering.{capped}
+use Rattle.st_format.specs.Device.{capped}
 use Rattle.recording_counts.specs.Timestamps.{timestamps_of}
 use Rattle.recording_counts.specs.declared.packet.Packet.{Packet}
 use Rattle.recording_counts.specs.FlowCounts.{is_rtcp}

@@ -3,8 +3,8 @@ use Rattle.std.specs.Prelude.{◌≡◌, ℕ, List, ◌∷◌, [], ◌++◌}
 use Rattle.std.specs.List.{count_by}
 use Rattle.media_file.specs.Records.{Entry}
 use Rattle.path_receiver.specs.Tallied.{Tallies}
+use Rattle.st_format.specs.Device.{capped}
 use Rattle.recording_counts.specs.FlowCounts.{is_rtcp}
-use Rattle.recording_counts.specs.Numbering.{capped}
 use Rattle.recording_counts.specs.Timestamps.{timestamps_of}
 use Rattle.recording_counts.specs.declared.packet.Packet.{Packet}
 use Rattle.stream_inspection.specs.Arrivals.{Arrival, answers_of, arrivals_of}

@@ -5,7 +5,7 @@ use Rattle.std.specs.Fmt.{decimal}
 use Rattle.st_format.specs.declared.path.Path.{Path}
 use Rattle.st_format.specs.declared.path.Path.TheVariants as path
 use Rattle.st_format.specs.Forms.{path_text}
-use Rattle.recording_counts.specs.Numbering.{capped}
+use Rattle.st_format.specs.Device.{capped}
 use Rattle.recording_counts.specs.declared.packet.StreamKey.{StreamKey}
 use Rattle.recording_counts.specs.declared.path_count.PathCount.{PathCount}
 use Rattle.recording_counts.specs.declared.stream.StreamCount.{StreamCount}
