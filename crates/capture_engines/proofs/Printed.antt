@@ -45,13 +45,13 @@ at_payload payload.RowOutside = refl
 at_payload payload.ColumnsOutside = refl
 at_payload payload.ShortData = refl
 
-at_place : (e : Refusal) → e ≡ get_or refusals (slot_of e) e
+pub at_place : (e : Refusal) → e ≡ get_or refusals (slot_of e) e
 at_place (Header f) = at_header f
 at_place WrongPayloadType = refl
 at_place WrongSource = refl
 at_place (Payload f) = at_payload f
 
-place_is : (e : Refusal) (i : ℕ) → refusal_number e ≡ i + 1 → slot_of e ≡ i
+pub place_is : (e : Refusal) (i : ℕ) → refusal_number e ≡ i + 1 → slot_of e ≡ i
 place_is e i is = omega (arith, is)
 
 -- the line of the refusal of a number, by its count

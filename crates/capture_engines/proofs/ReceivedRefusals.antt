@@ -126,7 +126,7 @@ capture_many octets text records count has = inr (
 )
 
 -- a recording has no text
-no_text : (octets text : List ℕ) → is_recording octets ≡ true → text_of_file octets ≡ text
+pub no_text : (octets text : List ℕ) → is_recording octets ≡ true → text_of_file octets ≡ text
     → text ≡ []
 no_text octets text kind same =
     sym same ∙ ap (λ (b : Bool). cond b [] (text_before (front_at octets))) kind

@@ -27,7 +27,7 @@ use Rattle.recording_counts.specs.Streams.{stream_of}
 use Rattle.recording_counts.proofs.BothLaws.{both_more, both_more_second}
 use Rattle.recording_counts.proofs.CountLaws.{capped_one, highest_more}
 
-numbered_more : (before : List Numbered) (own : List Packet) (p : Packet)
+pub numbered_more : (before : List Numbered) (own : List Packet) (p : Packet)
     → numbered_after before (own ++ p ∷ [])
     ≡ numbered_after before own ++ numbered_behind (numbered_after before own) p ∷ []
 numbered_more before [] p = refl

@@ -5,3 +5,4 @@ pub mod Printed
 pub mod Refusals
 pub mod SetSums
 pub mod SaidTexts
+pub mod Blaming

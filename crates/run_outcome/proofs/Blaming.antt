@@ -17,7 +17,7 @@ failed_one old new is = elim (cases_lt old (2 ^ 64 - 1)) [
   | inr most ↦ inr (omega (arith, most))
 ]
 
-reading_blames : (f : ReadingFault) (old new : ℕ) → CountsReadingFault f old new
+pub reading_blames : (f : ReadingFault) (old new : ℕ) → CountsReadingFault f old new
     → Blames (counts old new ∷ []) (reading_fault f)
 reading_blames (Capture file.NoMemory) old new is = is
 reading_blames (Capture file.Device) old new is = failed_one old new is
