@@ -1,9 +1,8 @@
 -- The lines of refusals.
 use Rattle.std.proofs.Common.{◌≡◌, ℕ, ◌+◌, ◌<◌, List, ◌++◌, get_or, slice_index, ap, sym, subst}
-use Rattle.capture_engines.specs.Printed.{refusals}
-use Rattle.capture_engines.proofs.Printed.{at_place, place_is}
-use Rattle.path_receiver.specs.Answers.{refusal_number}
+use Rattle.path_receiver.specs.Answers.{refusal_number, all_refusals}
 use Rattle.path_receiver.specs.declared.answer.Refusal.{Refusal}
+use Rattle.path_receiver.proofs.Slots.{at_place, place_is}
 use Rattle.run_outcome.proofs.Printed.{texts_before, texts_more}
 use Rattle.stream_inspection.specs.Lines.{counted_line}
 use Rattle.stream_inspection.specs.Told.{refused_line}
@@ -20,10 +19,10 @@ line_at form counts e i is =
 
 pub refusals_more : (form : Form) (counts : List ℕ) (e : Refusal) (i : ℕ) (old mid new : List ℕ)
     → refusal_number e ≡ i + 1 → i < 14
-    → mid ≡ old ++ texts_before (refused_line form counts) refusals i
+    → mid ≡ old ++ texts_before (refused_line form counts) all_refusals i
     → new ≡ mid ++ counted_line form (Refused e (slice_index counts i)) (slice_index counts i)
-    → new ≡ old ++ texts_before (refused_line form counts) refusals (i + 1)
+    → new ≡ old ++ texts_before (refused_line form counts) all_refusals (i + 1)
 refusals_more form counts e i old mid new is lt p q =
-    texts_more (refused_line form counts) refusals i e e old mid new lt
-    (subst (λ (j : ℕ). e ≡ get_or refusals j e) (place_is e i is) (at_place e)) p
+    texts_more (refused_line form counts) all_refusals i e e old mid new lt
+    (subst (λ (j : ℕ). e ≡ get_or all_refusals j e) (place_is e i is) (at_place e)) p
     (subst (λ (t : List ℕ). new ≡ mid ++ t) (line_at form counts e i is) q)

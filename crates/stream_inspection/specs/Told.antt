@@ -2,13 +2,13 @@
 use Rattle.std.specs.Prelude.{◌≡◌, ℕ, ◌⊎◌, List, [], ◌∷◌, ◌++◌, slice_index, take, Option, None, Some}
 use Rattle.std.specs.Prelude.{Result}
 use Rattle.std.specs.List.{AllZip, flat_map}
-use Rattle.capture_engines.specs.Printed.{refusals}
 use Rattle.capture_engines.specs.Received.{IsFilesRefusal}
 use Rattle.path_receiver.specs.Tallied.{Tallies, slot_of}
 use Rattle.path_receiver.specs.declared.tally.Tally.{Tally}
 use Rattle.flow.specs.declared.flows.Flows.{Flows}
 use Rattle.media_file.specs.Records.{Entry}
 use Rattle.path_receiver.specs.declared.answer.Refusal.{Refusal as Reason}
+use Rattle.path_receiver.specs.Answers.{all_refusals}
 use Rattle.recording_reader.specs.declared.fault.ReadingFault.{ReadingFault}
 use Rattle.run_outcome.specs.declared.fault.Fault.TheVariants as outcome
 use Rattle.run_outcome.specs.declared.refusal.Refusal.{Refusal}
@@ -42,7 +42,7 @@ refused_line form counts e =
     (slice_index counts (slot_of e))
 
 abbrev pub refusals_text : Form → List ℕ → List ℕ
-refusals_text form counts = flat_map (refused_line form counts) refusals
+refusals_text form counts = flat_map (refused_line form counts) all_refusals
 
 -- the line of a window, or that there is none
 abbrev pub window_line : Form → ℕ → List ℕ → List ℕ
