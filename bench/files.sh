@@ -1,7 +1,8 @@
 #!/bin/sh
 # Measures `receive` and `send` on real files, as ratios to `cat` of the same capture into a null device, `inspect`, `import`
-# and `receive` of it as a recording, and the memory of `receive` at two lengths of a capture. Wants about 1.6 GB below TMPDIR (/tmp), best a folder in memory, as
-# TMPDIR=/dev/shm. Words: how many rounds (5); the best one counts.
+# and `receive` of it as a recording, and the memory of `receive` at two lengths of a capture. Wants about 1.6 GB below TMPDIR
+# (/tmp), best a folder in memory, as TMPDIR=/dev/shm. Words: how many rounds (5), the best one counts; how many frames a
+# capture has (60), of which 195 are a gigabyte.
 root=$(CDPATH='' cd -- "$(dirname -- "$0")/.." && pwd) || exit 1
 rounds=${1:-5}
 folder=$(mktemp -d "${TMPDIR:-/tmp}/st2110-bench.XXXXXX") || exit 1
@@ -11,7 +12,7 @@ program=$root/st2110
 "$program" --version >/dev/null || exit 1
 program=$root/crates/st2110/out/st2110
 sdp=$root/examples/camera.sdp
-frames=60
+frames=${2:-60}
 # The timestamps of frames 0 to 15 at 60000/1001.
 window=0,1501,3003,4504,6006,7507,9009,10510,12012,13513,15015,16516,18018,19519,21021,22522
 

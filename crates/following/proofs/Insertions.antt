@@ -50,7 +50,7 @@ there_at u v vs false e all (inr m) rest =
     let le : u ≤ v = ltb-false v u e in
     let gt : v < u = all_member (λ x. v < x) u vs all m in absurd (omega (arith, le, gt))
 
-there : (u : ℕ) (vs : List ℕ) → Rises vs → IsMember u vs
+pub there : (u : ℕ) (vs : List ℕ) → Rises vs → IsMember u vs
     → slice_get (map wrapped vs) (count_older u vs) ≡ Some (wrapped u)
 there u [] h m = absurd m
 there u (v ∷ vs) h m = there_at u v vs (nat_lt v u) refl h.0 m (there u vs h.1)

@@ -25,3 +25,5 @@ pub mod Lacking
 pub mod Made
 pub mod Complete
 pub mod Handing
+pub mod LostSince
+pub mod Needed

@@ -13,3 +13,5 @@ pub mod Turned
 pub mod Stream
 pub mod Tally
 pub mod Memory
+pub mod Restarts
+pub mod Need

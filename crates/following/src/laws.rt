@@ -14,7 +14,10 @@
 //! - A frame that goes early is complete: `early`.
 //! - Turn by turn is as at once: `in_turns`.
 //! - What is handed out rises, whatever comes: `rising`.
-ghost use Rattle.std.specs.Prelude.{◌≡◌, ◌↔◌, ◌⊎◌, ◌++◌, ◌^◌, ◌<◌, ℕ, Bool, IsTrue, List, None};
+//! - Which window holds a stream of which datagrams came late: `needed_window`.
+//! - Since when only late datagrams came, where a stream is to be followed anew: `lost_since`.
+ghost use Rattle.std.specs.Prelude.{◌≡◌, ◌↔◌, ◌⊎◌, ◌++◌, ◌^◌, ◌<◌, ◌≤◌, ℕ, Bool, IsTrue, List};
+ghost use Rattle.std.specs.Prelude.{None, Some};
 ghost use Rattle.std.specs.Prelude.{false, map};
 ghost use Rattle.st_format.specs.declared.cell.Cell.TheVariants.{Contested};
 ghost use Rattle.st_format.specs.Position.{IsPosition, Position};
@@ -28,12 +31,14 @@ ghost use Rattle.packet_plan.specs.Sender.{Sender};
 ghost use Rattle.following.specs.Pictures.{BroughtAll, BroughtSome, IsOfSome, IsSendersSample};
 ghost use Rattle.following.specs.Pictures.{ShowsSender, pictures_from, times_from};
 ghost use Rattle.following.specs.Acts.{Act, AreNearby, NoneLost, handed_by, taken_of};
-ghost use Rattle.following.specs.Serial.{ahead_of};
+ghost use Rattle.following.specs.Serial.{ahead_of, wrapped};
 ghost use Rattle.following.specs.Follower.{Following, opened};
 ghost use Rattle.following.specs.Following.{Handed, RiseFrom, handed_out, stamps_of};
 ghost use Rattle.following.specs.Times.{AreInHalf, AreInRound, AreInTime, AreOfTimes, AreSteady};
 ghost use Rattle.following.specs.Times.{AreTimed, AreWithin, HasTime, IsOrderly, Timed, handed_at};
 ghost use Rattle.following.specs.Times.{frame_of, handed_of, in_order, octets_of, times_of};
+ghost use Rattle.following.specs.Need.{none_noted, noted_behind};
+ghost use Rattle.following.specs.Restarts.{AreLostSince, Told, lost_behind};
 ghost use Rattle.following.specs.Turned.{answers_in, goes_early, handed_all, handed_early};
 ghost use Rattle.following.specs.Turned.{handed_while, is_complete, kept_of, state_behind};
 
@@ -203,4 +208,20 @@ pub fn rising()
         IsMember timestamp (stamps_of (handed_out (opened o size ahead) datagrams)) →
         ahead_of timestamp base < 2 ^ 31) →
         AreDifferent (stamps_of (handed_out (opened o size ahead) datagrams)) }
+{}
+
+/// What [`Restarts`](crate::Restarts) notes says which answers came: where a timestamp stands, a
+/// datagram of it was late or too far ahead, and none was kept since.
+pub fn lost_since()
+    ensures { (told : List Told) (since : ℕ) → lost_behind None told ≡ Some since →
+        AreLostSince told since }
+{}
+
+/// Where all that came of a stream is noted, each near the newest before it and none too far
+/// ahead, a follower of as many frames as [`WindowNeed`](crate::WindowNeed) says, or more, would
+/// have had none come too late: times in such an order are all handed out, by `whole_stream`.
+pub fn needed_window()
+    ensures { (size ahead : ℕ) (times : List ℕ) →
+        AreNearby 16 times → AreWithin ahead times → size ≤ 16 →
+        (noted_behind none_noted (map wrapped times)).need ≤ size → IsOrderly size ahead times }
 {}

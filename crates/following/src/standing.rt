@@ -55,7 +55,7 @@ fn newest(window: &[u32], gone: Option<u32>) -> Option<u32>
 }
 
 /// Whether a timestamp is newer than the newest, by more ticks than it may be.
-fn beyond(newest: Option<u32>, most_ahead: u32, timestamp: u32) -> bool
+pub fn beyond(newest: Option<u32>, most_ahead: u32, timestamp: u32) -> bool
     ensures { result ≡ is_beyond newest most_ahead timestamp }
 {
     match newest {
@@ -92,7 +92,7 @@ fn entry(count: usize, size: usize, place: usize) -> Standing
 }
 
 /// How many timestamps from the first one on are older.
-fn place_of(window: &[u32], timestamp: u32) -> usize
+pub fn place_of(window: &[u32], timestamp: u32) -> usize
     ensures place { result ≡ place_in timestamp window.now }
     ensures within { result ≤ length window.now }
 {
@@ -113,7 +113,7 @@ pub fn place_there(window: &[u32], timestamp: u32) -> Option<usize>
 }
 
 /// Whether the timestamp stands at a place.
-fn has_at(window: &[u32], place: usize, timestamp: u32) -> bool
+pub fn has_at(window: &[u32], place: usize, timestamp: u32) -> bool
     ensures { result ≡ is_there window.now place timestamp }
 {
     place < window.len() && window[place] == timestamp
@@ -136,9 +136,9 @@ fn precedes(later: &[u32], timestamp: u32) -> bool
     later.iter().all(|other| newer(*other, timestamp))
 }
 
-/// Whether the one is newer than the other: it is ahead, by less than half of the round (RFC 1982,
-/// 3.2).
-fn newer(left: u32, right: u32) -> bool
+/// Whether the one timestamp is newer than the other: it is ahead, by less than half of the round
+/// (RFC 1982, 3.2).
+pub fn newer(left: u32, right: u32) -> bool
     ensures { result ≡ is_newer left right }
 {
     let ahead = ahead(left, right);

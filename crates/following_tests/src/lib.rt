@@ -14,6 +14,8 @@ mod growths;
 #[cfg(test)]
 mod long_stream;
 #[cfg(test)]
+mod needs;
+#[cfg(test)]
 mod plain_model;
 #[cfg(test)]
 mod random_streams;

@@ -8,3 +8,8 @@ pub mod Merging
 pub mod ScriptLines
 pub mod ScriptFrames
 pub mod Uncontested
+pub mod Captures
+pub mod SentAgain
+pub mod Looped
+pub mod NoRefusals
+pub mod NoTextFault

@@ -1,6 +1,6 @@
 -- A script without a slide ends with the frame lines of a receiver of its datagrams.
 use Rattle.std.proofs.Common.{◌≡◌, ℕ, Bool, true, false, List, [], ◌∷◌, ◌++◌, append_assoc, append-nil}
-use Rattle.std.proofs.Common.{Option, None, Some, Ok, codes, length, drop, take}
+use Rattle.std.proofs.Common.{Option, None, Ok, codes, length, drop, take}
 use Rattle.std.proofs.Common.{refl, sym, ap, ◌∙◌, subst, arith, inl, inr}
 use Rattle.std.specs.Prelude.{bytes_eq}
 use Rattle.std.specs.List.{flat_map}
@@ -8,7 +8,7 @@ use Rattle.std.proofs.lemmas.Slice.Eq.{bytes_eq-Decides}
 use Rattle.hex.specs.Hex.{decode_of}
 use Rattle.hex.proofs.HexLemmas.{decode_of-ok}
 use Rattle.st_format.specs.declared.path.Path.{Path}
-use Rattle.st_format.specs.Member.{IsMember, SameDatagrams}
+use Rattle.st_format.specs.Member.{SameDatagrams}
 use Rattle.st_format.specs.Raster.{Raster}
 use Rattle.path_receiver.specs.Frames.{Holds, State, frame_at, frames_of, joined_frames}
 use Rattle.path_receiver.specs.Numbers.{Numbers}

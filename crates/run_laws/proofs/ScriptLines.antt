@@ -9,7 +9,7 @@ use Rattle.path_receiver.specs.Opening.{Opening}
 use Rattle.run_outcome.specs.Sources.{IsSourceText}
 use Rattle.run_outcome.specs.Timestamps.{AreTimestamps}
 use Rattle.script_engines.specs.FirstLines.{ReadsOpening}
-use Rattle.script_engines.specs.Forms.{AreOpening, IsOpenLine, IsWindowText}
+use Rattle.script_engines.specs.Forms.{IsWindowText}
 use Rattle.run_laws.proofs.Opened.{one_number, one_source, one_window}
 
 same_rest : (w a b : List ℕ) → w ++ a ≡ w ++ b → a ≡ b

@@ -1,6 +1,6 @@
 -- In a rehearsal no sample is contested.
-use Rattle.std.proofs.Common.{◌≡◌, ℕ, zero, suc, ◌+◌, Bool, true, false, cond, List, [], ◌∷◌, Some}
-use Rattle.std.proofs.Common.{refl, sym, ap, ◌∙◌, subst, arith, inl, inr, length}
+use Rattle.std.proofs.Common.{◌≡◌, ℕ, suc, ◌+◌, Bool, false, cond, List, [], ◌∷◌, Some}
+use Rattle.std.proofs.Common.{refl, sym, ap, ◌∙◌, subst, inl, inr}
 use Rattle.std.specs.Prelude.{count_by, slice_get}
 use Rattle.std.specs.List.{AllZip, flat_map}
 use Rattle.std.proofs.lemmas.List.Sums.{sum_by-cons}
@@ -10,9 +10,9 @@ use Rattle.st_format.specs.Cell.{is_contested}
 use Rattle.st_format.specs.Member.{IsMember}
 use Rattle.st_format.specs.Picture.{Values}
 use Rattle.st_format.specs.Position.{Position, places}
-use Rattle.st_format.specs.Raster.{IsWhole, Raster, cell_at, raster_of}
+use Rattle.st_format.specs.Raster.{IsWhole, Raster, cell_at}
 use Rattle.st_format.proofs.Rasters.{length-cells_of}
-use Rattle.frame_assembly.specs.Kinds.{counts_of, positions_of}
+use Rattle.frame_assembly.specs.Kinds.{counts_of}
 use Rattle.frame_assembly.proofs.Positions.{counts_of_positions}
 use Rattle.packet_plan.specs.Sender.{Sender}
 use Rattle.path_receiver.specs.Frames.{State}
@@ -34,7 +34,7 @@ use Rattle.script_engines.specs.Rehearsed.{PlaysSaid, scene_by}
 abbrev IsUncontested : Raster → Type 0
 IsUncontested r = (counts_of r).contested ≡ 0
 
-none_counted : (kind : Position → Bool) (ps : List Position) → ((p : Position) → kind p ≡ false)
+pub none_counted : (kind : Position → Bool) (ps : List Position) → ((p : Position) → kind p ≡ false)
     → count_by kind ps ≡ 0
 none_counted kind [] none = refl
 none_counted kind (p ∷ ps) none =
@@ -42,7 +42,7 @@ none_counted kind (p ∷ ps) none =
     ∙ ap (λ (b : Bool). cond b 1 0 + count_by kind ps) (none p)
     ∙ ap (λ (n : ℕ). 0 + n) (none_counted kind ps none)
 
-senders_cell : (c : Cell) (s : Sender) (ps : List Values) (ts : ℕ) (at : Position)
+pub senders_cell : (c : Cell) (s : Sender) (ps : List Values) (ts : ℕ) (at : Position)
     → IsSendersCell c s ps ts at → is_contested c ≡ false
 senders_cell Missing s ps ts at is = refl
 senders_cell (Value v) s ps ts at is = refl

@@ -1,3 +1,4 @@
 pub mod Received
 pub mod Merged
 pub mod Scripts
+pub mod Sent

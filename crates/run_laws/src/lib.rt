@@ -1,11 +1,22 @@
-//! Laws on whole runs: what `receive` and `merge` write, octet for octet, and what `trace` and
-//! `rehearse` print.
+//! Laws on whole runs: what `receive` and `merge` write, octet for octet; what is received of what
+//! `send`, `process`, `migrate` and `loop` send; what `trace` and `rehearse` print; and that no
+//! refusal speaks against a run that ended well.
 #![tactic(auto)]
 
 mod laws;
 mod scripts;
+mod sent;
+mod unrefused;
 
 pub use laws::{
-    merged_file, merged_files, one_file, received_file, received_in_pieces, received_in_trees,
+    merged_file, merged_files, one_file, received_file, received_files, received_in_pieces,
+    received_in_trees,
 };
 pub use scripts::{never_contested, traced_frames, traced_in_any_order};
+pub use sent::{
+    looped_picture, migrated_again, migrated_and_received, processed_and_received,
+    sent_and_received, sent_file, written_again,
+};
+pub use unrefused::{
+    export_unrefused, loop_unrefused, merge_unrefused, report_unrefused, sdp_unrefused,
+};

@@ -81,7 +81,9 @@ pub use Rattle.following.specs.Follower
 pub use Rattle.following.specs.Following
 pub use Rattle.following.specs.Memory as FollowingMemory
 pub use Rattle.following.specs.Names
+pub use Rattle.following.specs.Need as FollowingNeed
 pub use Rattle.following.specs.Pictures
+pub use Rattle.following.specs.Restarts as FollowingRestarts
 pub use Rattle.following.specs.Serial
 pub use Rattle.following.specs.Since
 pub use Rattle.following.specs.Spare
@@ -128,6 +130,17 @@ pub use Rattle.pcap_file.specs.RecordingFaults
 pub use Rattle.pcap_file.specs.Udp as RecordingUdp
 pub use Rattle.pcap_file.specs.Views as RecordingViews
 pub use Rattle.pcap_file.specs.Writing as RecordingWriting
+pub use Rattle.picture_forms.specs.Faults as PictureFormFaults
+pub use Rattle.picture_forms.specs.Frames as FormFrames
+pub use Rattle.picture_forms.specs.Heads as FormHeads
+pub use Rattle.picture_forms.specs.Layouts as FormLayouts
+pub use Rattle.picture_forms.specs.Numbers as FormNumbers
+pub use Rattle.picture_forms.specs.Pixmaps as FormPixmaps
+pub use Rattle.picture_forms.specs.Planes as FormPlanes
+pub use Rattle.picture_forms.specs.Streams as FormStreams
+pub use Rattle.picture_forms.specs.Walks as FormReading
+pub use Rattle.marked_view.specs.Marked as MarkedView
+pub use Rattle.settled_forms.specs.Settled as SettledForms
 pub use Rattle.recording_counts.specs.LeftOut
 pub use Rattle.recording_reader.specs.FileReader
 pub use Rattle.recording_reader.specs.Files as DatagramFiles

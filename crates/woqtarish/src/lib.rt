@@ -74,8 +74,8 @@ pub mod receive {
 pub mod follow {
     pub use following::{
         FollowFault, FollowObserver, FollowTally, Followed, Follower, FrameFault, FrameSink,
-        FrameSinkFault, MOST_FRAMES, MemoryFrames, Shown, StreamFault, TEN_SECONDS, TurnTaken,
-        Unobserved, finish, follow, follow_eagerly, hand_out, take_turn,
+        FrameSinkFault, MOST_FRAMES, MemoryFrames, Restarts, Shown, StreamFault, TEN_SECONDS,
+        TurnTaken, Unobserved, WindowNeed, finish, follow, follow_eagerly, hand_out, take_turn,
     };
 }
 
@@ -112,6 +112,18 @@ pub mod files {
         Version, load_receiver, migrate_capture, read_capture, read_packed_picture, read_picture,
         save_receiver, write_capture, write_picture, write_record,
     };
+}
+
+/// Pictures in forms that other tools read and write: YUV4MPEG2 streams of YCbCr, portable pixmaps
+/// of RGB; frames in these, settled, or as a picture that marks what is missing and contested.
+pub mod forms {
+    pub use marked_view::marked_picture;
+    pub use picture_forms::{
+        FormFault, Standing, StreamReader, format_of_head, read_pixmap_head, read_pixmap_raster,
+        read_y4m_frame, read_y4m_head, write_pixmap, write_pixmap_samples, write_y4m_frame,
+        write_y4m_head, write_y4m_samples,
+    };
+    pub use settled_forms::write_settled;
 }
 
 /// Recordings of other tools, as pcap and pcapng: their packets, as datagrams of UDP, and the flows
@@ -166,6 +178,7 @@ pub mod laws {
     pub use packet_plan::laws as send;
     pub use path_merge::{laws as receive, number_laws as numbers};
     pub use pcap_file::laws as recordings;
+    pub use picture_forms::laws as forms;
     pub use sdp_format::laws as describe;
     pub use st_format::laws as formats;
 }

@@ -1,0 +1,13 @@
+pub mod Parts
+pub mod Without
+pub mod Tells
+pub mod Leaving
+pub mod Turns
+pub mod Restarted
+pub mod Whole
+pub mod Outcome
+pub mod Stopped
+pub mod Blamed
+pub mod Beginnings
+pub mod Noting
+pub mod Openings

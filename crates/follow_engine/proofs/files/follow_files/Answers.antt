@@ -1,0 +1,130 @@
+use Rattle.std.proofs.Common.{◌∙◌, inl, inr}
+use Rattle.std.proofs.lemmas.Result.{err_from_is_err_and}
+use Rattle.std.specs.Option.{option_copied}
+use Rattle.std.specs.Prelude.{take}
+use Rattle.run_outcome.proofs.Refusals.{none_refused, of_refusal_map}
+use Rattle.side_by_side.specs.Sides.{failures_each}
+use Rattle.follow_engine.proofs.Beginnings.{opened_begun}
+use Rattle.follow_engine.proofs.Blamed.{blames_end, blames_files, blames_from, blames_none}
+use Rattle.follow_engine.proofs.Outcome.{follows_whole}
+use Rattle.follow_engine.proofs.Stopped.{first_by, stops_files}
+use Rattle.follow_engine.proofs.files.follow_files.Goals as goal
+
+pub returns-in_err-ssrc-clause-refusal : goal.returns-in_err-ssrc-clause-refusal
+returns-in_err-ssrc-clause-refusal g c =
+    let p = err_from_is_err_and c.from_residual.result c.from_residual.ensures.1 in
+    rw (p.1, p.2)
+    (of_refusal_map c.in_err-ssrc.field-0.0 (λ r is. inl is) c.in_err-ssrc.ensures.refusal)
+
+pub returns-in_err-given-clause-refusal : goal.returns-in_err-given-clause-refusal
+returns-in_err-given-clause-refusal g c =
+    let p = err_from_is_err_and c.from_residual-in_err-given.result
+    c.from_residual-in_err-given.ensures.1 in
+    rw (p.1, p.2)
+    (of_refusal_map c.in_err-given.field-0.0 (λ r is. inr (inl is)) c.in_err-given.ensures.refusal)
+
+pub returns-in_err-count-clause-refusal : goal.returns-in_err-count-clause-refusal
+returns-in_err-count-clause-refusal g c =
+    let p = err_from_is_err_and c.from_residual-in_err-count.result
+    c.from_residual-in_err-count.ensures.1 in
+    rw (p.1, p.2)
+    (of_refusal_map c.in_err-count.field-0.0 (λ r is. inr (inr (inl is)))
+    c.in_err-count.ensures.refusal)
+
+pub returns-in_err-count-clause-failures : goal.returns-in_err-count-clause-failures
+returns-in_err-count-clause-failures g c =
+    let failed = failures_each g.S.ByteSource.failures in
+    let p = err_from_is_err_and c.from_residual-in_err-count.result
+    c.from_residual-in_err-count.ensures.1 in
+    rw (p.1, p.2)
+    (blames_files c.in_err-count.field-0.0 (failed c.args.sides.now.items)
+    (failed c.open_files.new.sides.items) (g.P.PictureSink.failures c.args.pictures.now)
+    (g.O.ByteSink.failures c.args.output.now) c.in_err-count.ensures.failures)
+
+pub returns-in_err-run-clause-refusal : goal.returns-in_err-run-clause-refusal
+returns-in_err-run-clause-refusal g c =
+    let p = err_from_is_err_and c.from_residual-in_err-run.result
+    c.from_residual-in_err-run.ensures.1 in
+    rw (p.1, p.2)
+    (of_refusal_map c.in_err-run.field-0.0
+    (λ r is. inr (inr (inr (inl (first_by g.S.ByteSource.gave g.S.ByteSource.ended c.args.ways.now
+    (option_copied c.args.sdp) (take c.in_ok-count.count c.open_files.new.text) c.args.sides.now.items
+    c.open_files.new.sides.items r c.in_ok-count.ensures.opened c.in_ok-count.ensures.first
+    is))))) c.in_err-run.ensures.refusal)
+
+pub returns-in_err-run-clause-failures : goal.returns-in_err-run-clause-failures
+returns-in_err-run-clause-failures g c =
+    let failed = failures_each g.S.ByteSource.failures in
+    let p = err_from_is_err_and c.from_residual-in_err-run.result
+    c.from_residual-in_err-run.ensures.1 in
+    rw (p.1, p.2)
+    (blames_none c.in_err-run.field-0.0 (failed c.args.sides.now.items)
+    (failed c.open_files.new.sides.items) (g.P.PictureSink.failures c.args.pictures.now)
+    (g.O.ByteSink.failures c.args.output.now) c.in_ok-count.ensures.failures
+    c.in_err-run.ensures.failures)
+
+pub follow_opened-requires-clause-begun : goal.follow_opened-requires-clause-begun
+follow_opened-requires-clause-begun g c =
+    opened_begun g.S.ByteSource.gave g.S.ByteSource.ended c.args.ways.now c.args.sides.now.items
+    c.open_files.new.sides.items c.in_ok-count.ensures.opened
+
+pub returns-in_err-follow_opened-clause-refusal : goal.returns-in_err-follow_opened-clause-refusal
+returns-in_err-follow_opened-clause-refusal g c =
+    let p = err_from_is_err_and c.from_residual-in_err-follow_opened.result
+    c.from_residual-in_err-follow_opened.ensures.1 in
+    rw (p.1, p.2)
+    (of_refusal_map c.in_err-follow_opened.field-0.0
+    (λ r is. inr (inr (inr (inr (stops_files g.S.ByteSource.gave g.S.ByteSource.ended
+    c.args.ways.now c.args.sides.now.items c.open_files.new.sides.items
+    c.follow_opened.new.sides.items r c.in_ok-count.ensures.opened c.follow_opened.ensures.begun
+    c.follow_opened.ensures.known is))))) c.in_err-follow_opened.ensures.stopped)
+
+pub returns-in_err-follow_opened-clause-failures : goal.returns-in_err-follow_opened-clause-failures
+returns-in_err-follow_opened-clause-failures g c =
+    let failed = failures_each g.S.ByteSource.failures in
+    let shown = g.P.PictureSink.failures in
+    let told = g.O.ByteSink.failures in
+    let p = err_from_is_err_and c.from_residual-in_err-follow_opened.result
+    c.from_residual-in_err-follow_opened.ensures.1 in
+    rw (p.1, p.2)
+    (blames_from c.in_err-follow_opened.field-0.0 (failed c.args.sides.now.items)
+    (failed c.open_files.new.sides.items) (failed c.follow_opened.new.sides.items)
+    (shown c.args.pictures.now) (shown c.follow_opened.new.pictures) (told c.args.output.now)
+    (told c.follow_opened.new.output) c.in_ok-count.ensures.failures
+    c.in_err-follow_opened.ensures.failures)
+
+pub returns-in_err-totals-clause-refusal : goal.returns-in_err-totals-clause-refusal
+returns-in_err-totals-clause-refusal g c =
+    let p = err_from_is_err_and c.from_residual-in_err-totals.result
+    c.from_residual-in_err-totals.ensures.1 in
+    rw (p.1, p.2) (none_refused _ c.in_err-totals.field-0.0 c.in_err-totals.ensures.unrefused)
+
+pub returns-in_err-totals-clause-failures : goal.returns-in_err-totals-clause-failures
+returns-in_err-totals-clause-failures g c =
+    let failed = failures_each g.S.ByteSource.failures in
+    let shown = g.P.PictureSink.failures in
+    let told = g.O.ByteSink.failures in
+    let so = c.in_ok-follow_opened.ensures.failures in
+    let p = err_from_is_err_and c.from_residual-in_err-totals.result
+    c.from_residual-in_err-totals.ensures.1 in
+    rw (p.1, p.2)
+    (blames_end c.in_err-totals.field-0.0 (failed c.args.sides.now.items)
+    (failed c.follow_opened.new.sides.items) (shown c.args.pictures.now)
+    (shown c.follow_opened.new.pictures) (shown c.end_stream.new.pictures)
+    (told c.args.output.now) (told c.follow_opened.new.output)
+    (told c.end_stream.new.output) (so.0 ∙ c.in_ok-count.ensures.failures) so.1.0 so.1.1
+    c.in_err-totals.ensures.failures)
+
+pub returns-clause-followed : goal.returns-clause-followed
+returns-clause-followed g c =
+    let took = g.O.ByteSink.took in
+    let begun = c.in_ok-follow_opened.ensures in
+    follows_whole g.S.ByteSource.gave g.S.ByteSource.ended g.P.PictureSink.takes c.args.asked
+    c.in_ok-ssrc.ssrc (option_copied c.args.sdp) c.args.ways.now
+    (take c.in_ok-count.count c.open_files.new.text) c.args.sides.now.items
+    c.open_files.new.sides.items c.follow_opened.new.sides.items c.in_ok-run.run'
+    c.follow_opened.new.run c.args.pictures.now
+    c.follow_opened.new.pictures c.end_stream.new.pictures (took c.args.output.now)
+    (took c.follow_opened.new.output) (took c.end_stream.new.output) c.in_ok-totals.totals
+    c.in_ok-ssrc.ensures.source c.in_ok-run.ensures.begun c.in_ok-count.ensures.opened
+    c.in_ok-count.ensures.first begun.begun begun.known begun.followed c.in_ok-totals.ensures.ended

@@ -1,0 +1,48 @@
+use Rattle.std.proofs.Common.{◌≡◌, ◌++◌, ◌∙◌, ap, refl, sym}
+use Rattle.run_outcome.proofs.Printed.{on_ok}
+use Rattle.following.specs.Follower.{Following}
+use Rattle.follow_engine.specs.Line.{ended_line}
+use Rattle.follow_engine.specs.Running.{BeginsAnew, steering_of}
+use Rattle.follow_engine.specs.declared.line.FollowLine.TheVariants as line
+use Rattle.follow_engine.specs.declared.running.Run.{Run}
+use Rattle.follow_engine.proofs.Blamed.{accounts_later}
+use Rattle.follow_engine.proofs.Leaving.{begins_anew}
+use Rattle.follow_engine.proofs.Tells.{told_anew}
+use Rattle.follow_engine.proofs.running.Run.begin_anew.Goals as goal
+
+pub restart-requires : goal.restart-requires
+restart-requires g c = c.in_ok-finish.ensures.finished.none
+
+pub returns-clause-begun : goal.returns-clause-begun
+returns-clause-begun g c =
+    let took = g.O.ByteSink.took in
+    let takes = g.P.PictureSink.takes in
+    let mid = c.finish.new.self in
+    let done = c.in_ok-finish.ensures.finished in
+    let now : Run _ = record mid { follower = c.restart.new.self; need = c.restart-2.new.self } in
+    let shown = c.finish.new.pictures in
+    let told = took c.finish.new.output in
+    let last = took c.print.new.output in
+    let is = c.restart.ensures.opened in
+    on_ok c.print.result (last ≡ told ++ ended_line (line.Anew c.args.timestamp))
+    (BeginsAnew takes c.args.timestamp c.args.self.now now c.args.pictures.now shown
+    (took c.args.output.now) last)
+    (λ printed. begins_anew takes c.args.timestamp c.args.self.now mid now c.args.pictures.now
+    shown (took c.args.output.now) told last done
+    (record {
+      follower = c.restart.ensures.follower;
+      format = done.run.format ∙ sym c.restart.ensures.format;
+      bound = done.run.bound ∙ sym (ap (λ (f : Following). f.most_ahead) is);
+      steering = done.run.steering ∙ sym (ap (λ (f : Following). steering_of f.opening) is);
+    })
+    is c.restart-2.ensures refl (told_anew takes shown told last c.args.timestamp printed))
+    c.print.ensures.printed
+
+pub returns-clause-failures : goal.returns-clause-failures
+returns-clause-failures g c =
+    let shown = g.P.PictureSink.failures in
+    let told = g.O.ByteSink.failures in
+    let so = c.in_ok-finish.ensures.failures in
+    accounts_later c.print.result (shown c.args.pictures.now) (shown c.finish.new.pictures)
+    (told c.args.output.now) (told c.finish.new.output) (told c.print.new.output) so.0 so.1
+    c.print.ensures.failures

@@ -1,0 +1,33 @@
+use Rattle.std.proofs.Common.{◌≡◌, ◌++◌, ◌∷◌, []}
+use Rattle.run_outcome.proofs.Printed.{are_counts, on_ok}
+use Rattle.following.specs.Following.{Handed}
+use Rattle.follow_engine.specs.Events.{Left}
+use Rattle.follow_engine.specs.Line.{ended_line}
+use Rattle.follow_engine.specs.Running.{Told}
+use Rattle.follow_engine.specs.declared.line.FollowLine.TheVariants as line
+use Rattle.follow_engine.proofs.Blamed.{accounts_output}
+use Rattle.follow_engine.proofs.Tells.{told_left}
+use Rattle.follow_engine.proofs.showing.show_frame.Goals as goal
+
+pub returns-clause-told : goal.returns-clause-told
+returns-clause-told g c =
+    let took = g.O.ByteSink.took in
+    let takes = g.P.PictureSink.takes in
+    let h : Handed = record { timestamp = c.args.timestamp; frame = c.args.frame.now } in
+    let counts = c.counts-counts.result in
+    let is = c.counts-counts.ensures in
+    let old = took c.args.output.now in
+    let new = took c.print.new.output in
+    on_ok c.print.result (new ≡ old ++ ended_line (line.Left c.args.timestamp counts c.args.late))
+    (Told takes c.args.pictures.now c.show.new.self old new (Left h c.args.late ∷ []))
+    (told_left takes c.args.pictures.now c.show.new.self old new h counts c.args.late
+    (are_counts counts c.args.frame.now is.present is.missing is.contested)
+    c.in_ok-show.ensures.taken) c.print.ensures.printed
+
+pub returns-clause-failures : goal.returns-clause-failures
+returns-clause-failures g c =
+    let shown = g.P.PictureSink.failures in
+    let told = g.O.ByteSink.failures in
+    accounts_output c.print.result (shown c.args.pictures.now) (shown c.show.new.self)
+    (told c.args.output.now) (told c.print.new.output) c.in_ok-show.ensures.counted
+    c.print.ensures.failures

@@ -1,0 +1,160 @@
+use Rattle.std.proofs.Common.{◌≡◌, ◌∙◌, ◌++◌, ◌↔◌, Bool, inr, refl, subst, take}
+use Rattle.std.proofs.lemmas.Result.{err_from_is_err_and}
+use Rattle.run_outcome.proofs.Refusals.{none_refused}
+use Rattle.st_format.specs.Turns.{IsEnd, arrived}
+use Rattle.st_format.specs.declared.device.Turn.{Turn}
+use Rattle.side_by_side.specs.Sides.{AllOver, failures_each}
+use Rattle.follow_engine.specs.Running.{TakesTurn, running_of}
+use Rattle.follow_engine.proofs.Blamed.{blames_end, fails_by}
+use Rattle.follow_engine.proofs.Stopped.{stops_at}
+use Rattle.follow_engine.proofs.Turns.{so_begun, so_datagram, so_quiet}
+use Rattle.follow_engine.proofs.taking.follow_sides.Goals as goal
+
+pub loop-init : goal.loop-init
+loop-init g c = record {
+  room = refl;
+  run = c.requires.run;
+  eager = refl;
+  steering = refl;
+  begun = refl;
+  unfailed = c.requires.unfailed;
+  so =
+      so_begun g.P.PictureSink.takes c.args.run.now.is_eager c.args.source.now.came
+      (running_of c.args.run.now) c.args.pictures.now (g.O.ByteSink.took c.args.output.now);
+  source_failures = refl;
+  picture_failures = refl;
+  output_failures = refl;
+}
+
+-- a datagram came
+pub loop-preserved-in-Ok-Datagram : goal.loop-preserved-in-Ok-Datagram
+loop-preserved-in-Ok-Datagram g c =
+    let w = c.in-Ok-Datagram in
+    let i = c.loop.invariant in
+    let takes = g.P.PictureSink.takes in
+    let took = g.O.ByteSink.took in
+    let run = c.args.run.now in
+    let arrives =
+    subst (λ (t : Turn). c.next.new.self.came ≡ c.loop.source.came ++ arrived t c.next.new.buf)
+    w.field-0-is w.ensures.came in
+    let taken = c.in_ok-take-in-Ok-Datagram.ensures in
+    record {
+      room = w.ensures.room ∙ i.room;
+      run = taken.run;
+      eager = taken.eager ∙ i.eager;
+      steering = w.ensures.steering ∙ i.steering;
+      begun = w.ensures.begun ∙ i.begun;
+      unfailed = w.ensures.unfailed;
+      so =
+          so_datagram takes run.is_eager c.args.source.now.came c.loop.source.came
+          c.next.new.self.came (running_of run) (running_of c.loop.run)
+          (running_of c.take.new.self) c.args.pictures.now c.loop.pictures c.take.new.pictures
+          (took c.args.output.now) (took c.loop.output) (took c.take.new.output) w.field-0-0
+          (take w.count c.next.new.buf) i.so arrives
+          (subst (λ (b : Bool). TakesTurn takes b (running_of c.loop.run)
+          (running_of c.take.new.self) (take w.count c.next.new.buf) c.loop.pictures
+          c.take.new.pictures (took c.loop.output) (took c.take.new.output)) i.eager taken.took);
+      source_failures = w.ensures.device i.unfailed ∙ i.source_failures;
+      picture_failures = taken.failures.0 ∙ i.picture_failures;
+      output_failures = taken.failures.1 ∙ i.output_failures;
+    }
+
+-- none came
+pub loop-preserved : goal.loop-preserved
+loop-preserved g c =
+    let w = c.in-Ok-Quiet in
+    let i = c.loop.invariant in
+    let took = g.O.ByteSink.took in
+    let run = c.args.run.now in
+    let arrives =
+    subst (λ (t : Turn). c.next.new.self.came ≡ c.loop.source.came ++ arrived t c.next.new.buf)
+    w.field-0-is w.ensures.came in
+    record {
+      room = w.ensures.room ∙ i.room;
+      run = i.run;
+      eager = i.eager;
+      steering = w.ensures.steering ∙ i.steering;
+      begun = w.ensures.begun ∙ i.begun;
+      unfailed = w.ensures.unfailed;
+      so =
+          so_quiet g.P.PictureSink.takes run.is_eager c.args.source.now.came c.loop.source.came
+          c.next.new.self.came (running_of run) (running_of c.loop.run) c.args.pictures.now
+          c.loop.pictures (took c.args.output.now) (took c.loop.output) i.so arrives;
+      source_failures = w.ensures.device i.unfailed ∙ i.source_failures;
+      picture_failures = i.picture_failures;
+      output_failures = i.output_failures;
+    }
+
+-- the run failed
+pub returns-in_err-take-in-Ok-Datagram-clause-stopped : goal.returns-in_err-take-in-Ok-Datagram-clause-stopped
+returns-in_err-take-in-Ok-Datagram-clause-stopped g c =
+    let p = err_from_is_err_and c.from_residual.result c.from_residual.ensures.1 in
+    rw (p.1, p.2) (none_refused _ c.in_err-take-in-Ok-Datagram.field-0.0 c.in_err-take-in-Ok-Datagram.ensures.unrefused)
+
+pub returns-in_err-take-in-Ok-Datagram-clause-failures : goal.returns-in_err-take-in-Ok-Datagram-clause-failures
+returns-in_err-take-in-Ok-Datagram-clause-failures g c =
+    let w = c.in-Ok-Datagram in
+    let i = c.loop.invariant in
+    let failed = failures_each g.S.ByteSource.failures in
+    let shown = g.P.PictureSink.failures in
+    let told = g.O.ByteSink.failures in
+    let p = err_from_is_err_and c.from_residual.result c.from_residual.ensures.1 in
+    rw (p.1, p.2)
+    (blames_end c.in_err-take-in-Ok-Datagram.field-0.0 (failed c.args.source.now.sides)
+    (failed c.next.new.self.sides) (shown c.args.pictures.now) (shown c.loop.pictures)
+    (shown c.take.new.pictures) (told c.args.output.now) (told c.loop.output)
+    (told c.take.new.output) (w.ensures.device i.unfailed ∙ i.source_failures) i.picture_failures
+    i.output_failures c.in_err-take-in-Ok-Datagram.ensures.failures)
+
+-- the end
+pub returns-in-Ok-End-clause-followed : goal.returns-in-Ok-End-clause-followed
+returns-in-Ok-End-clause-followed g c =
+    let w = c.in-Ok-End in
+    let took = g.O.ByteSink.took in
+    let run = c.args.run.now in
+    let arrives =
+    subst (λ (t : Turn). c.next.new.self.came ≡ c.loop.source.came ++ arrived t c.next.new.buf)
+    w.field-0-is w.ensures.came in
+    let over =
+    subst (λ (t : Turn). AllOver c.next.new.self.sides ↔ IsEnd t) w.field-0-is w.ensures.ended in
+    let so =
+    so_quiet g.P.PictureSink.takes run.is_eager c.args.source.now.came c.loop.source.came
+    c.next.new.self.came (running_of run) (running_of c.loop.run) c.args.pictures.now
+    c.loop.pictures (took c.args.output.now) (took c.loop.output) c.loop.invariant.so arrives in
+    record { over = over.1 tt; running = so.running; told = so.told }
+
+pub returns-in-Ok-End-clause-failures : goal.returns-in-Ok-End-clause-failures
+returns-in-Ok-End-clause-failures g c =
+    let i = c.loop.invariant in (
+      c.in-Ok-End.ensures.device i.unfailed ∙ i.source_failures,
+      (i.picture_failures, i.output_failures),
+    )
+
+-- a file is at fault
+pub returns-in-Err-clause-stopped : goal.returns-in-Err-clause-stopped
+returns-in-Err-clause-stopped g c =
+    let e = c.in-Err.ensures.fault in
+    stops_at c.fault_of.result c.next.new.self.fault e.reading c.next.new.self.sides
+    c.fault_of.ensures.fault e.stays c.fault_of.ensures.stopped
+
+pub returns-in-Err-clause-failures : goal.returns-in-Err-clause-failures
+returns-in-Err-clause-failures g c =
+    let e = c.in-Err.ensures.fault in
+    let i = c.loop.invariant in
+    let failed = failures_each g.S.ByteSource.failures in
+    let shown = g.P.PictureSink.failures in
+    let told = g.O.ByteSink.failures in
+    fails_by c.fault_of.result c.next.new.self.fault e.reading (failed c.args.source.now.sides)
+    (failed c.loop.source.sides) (failed c.next.new.self.sides) (shown c.args.pictures.now)
+    (shown c.loop.pictures) (told c.args.output.now) (told c.loop.output)
+    c.fault_of.ensures.fault e.stays i.source_failures i.picture_failures i.output_failures
+    (e.device i.unfailed)
+
+-- there are too many
+pub returns-clause-stopped : goal.returns-clause-stopped
+returns-clause-stopped g c = rw c.of_capture.ensures (inr refl)
+
+pub returns-clause-failures : goal.returns-clause-failures
+returns-clause-failures g c =
+    let i = c.loop.invariant in
+    rw c.of_capture.ensures (i.source_failures, (i.picture_failures, i.output_failures))

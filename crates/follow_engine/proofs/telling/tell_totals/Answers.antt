@@ -1,0 +1,19 @@
+use Rattle.st_format.proofs.Gave.{grew_twice}
+use Rattle.follow_engine.specs.Line.{ended_in, ended_line}
+use Rattle.follow_engine.specs.Running.{running_of}
+use Rattle.follow_engine.specs.Telling.{totals_of, wanted}
+use Rattle.follow_engine.specs.declared.line.FollowLine.TheVariants as line
+use Rattle.follow_engine.proofs.Noting.{wanted_by}
+use Rattle.follow_engine.proofs.telling.tell_totals.Goals as goal
+
+pub returns-clause-printed : goal.returns-clause-printed
+returns-clause-printed g c =
+    let took = g.O.ByteSink.took in
+    let run = c.args.run.now in
+    let r = running_of run in
+    grew_twice (took c.args.output.now) (took c.print.new.output) (took c.tell.new.output)
+    (ended_line (line.Totals (totals_of r)))
+    (ended_in (wanted r.follower.size r.tally.late r.need.need)) c.in_ok-print.ensures.printed
+    (wanted_by (took c.print.new.output) (took c.tell.new.output) c.wanted-last.result c.size.result
+    run.follower.size run.tally.late c.frames.result run.need.need c.in_ok-tell.ensures.printed
+    c.wanted-last.ensures c.size.ensures.size c.frames.ensures.need)

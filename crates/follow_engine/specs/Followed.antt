@@ -1,0 +1,50 @@
+-- What `follow` makes of what was read (own). What was read is told by a predicate: it holds of any
+-- octets that begin with it, and of no others where the source has ended.
+use Rattle.std.specs.Prelude.{◌≡◌, ℕ, List, [], ◌++◌, Option, Some, Result}
+use Rattle.std.specs.List.{AllZip}
+use Rattle.flow.specs.declared.flows.Flows.{Flows}
+use Rattle.media_file.specs.Records.{Entry}
+use Rattle.following.specs.Follower.{opened}
+use Rattle.path_receiver.specs.Opening.{Opening}
+use Rattle.run_outcome.specs.Sources.{IsSourceText}
+use Rattle.run_outcome.specs.declared.refusal.Refusal.{Refusal}
+use Rattle.capture_engines.specs.Taking.{AnnouncesStream, said_behind}
+use Rattle.side_by_side.specs.Strands.{GoesWhole}
+use Rattle.following.specs.Following.{Handed}
+use Rattle.follow_engine.specs.Events.{Event, Running, events_of, frames_of_events, run_end}
+use Rattle.follow_engine.specs.Events.{running_from}
+use Rattle.follow_engine.specs.Order.{datagrams_in, strands_by}
+use Rattle.follow_engine.specs.Running.{steering_of}
+use Rattle.follow_engine.specs.Shown.{TakesAll}
+use Rattle.follow_engine.specs.Telling.{events_text, totals_of, totals_text}
+use Rattle.follow_engine.specs.declared.opening.FollowAsked.{FollowAsked}
+use Rattle.follow_engine.specs.declared.telling.FollowTotals.{FollowTotals}
+
+-- what happens to the stream of records, of a follower that is opened so; and what is noted then
+abbrev pub followed_events : FollowAsked → Opening → List Entry → List Event
+followed_events w o entries =
+    events_of w.is_eager (running_from (opened o w.frames 900000)) (datagrams_in entries)
+
+abbrev pub followed_run : FollowAsked → Opening → List Entry → Running
+followed_run w o entries =
+    run_end w.is_eager (running_from (opened o w.frames 900000)) (datagrams_in entries)
+
+-- So the stream that files have was followed: what was printed, and what was shown. It is that of
+-- the frames that leave a follower which is opened with what the SDP text says, of all records of
+-- the files as they go side by side, up to their ends.
+pub record FollowsWhole {S K : Type 0} (w : FollowAsked) (sdp : Option (List ℕ))
+    (ways : List (Result Flows Refusal)) (told : S → List ℕ → Type 0) (files : List S)
+    (takes : K → Handed → K → Type 0) (old new : K) (took took' : List ℕ)
+    (totals : FollowTotals) : Type 0 where
+  pub opening : Opening
+  pub entries : List Entry
+  pub no_window : opening.window ≡ []
+  pub source_is : IsSourceText w.ssrc.now opening.ssrc
+  pub announced : (octets : List (List ℕ)) (text : List ℕ) → AllZip told files octets
+      → said_behind sdp octets ≡ Some text → AnnouncesStream text opening
+  pub goes : (octets : List (List ℕ)) → AllZip told files octets
+      → GoesWhole (steering_of opening) (strands_by ways octets) entries
+  pub printed : took' ≡ took ++ (events_text (followed_events w opening entries)
+      ++ totals_text (followed_run w opening entries))
+  pub shown : TakesAll takes old (frames_of_events (followed_events w opening entries)) new
+  pub told_totals : totals ≡ totals_of (followed_run w opening entries)

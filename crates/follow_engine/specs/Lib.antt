@@ -1,0 +1,11 @@
+pub mod Events
+pub mod Plain
+pub mod Line
+pub mod Shown
+pub mod Telling
+pub mod Running
+pub mod Opened
+pub mod Refused
+pub mod Order
+pub mod Sides
+pub mod Followed

@@ -1,0 +1,18 @@
+-- The order in which the records of files go into a stream (own).
+use Rattle.std.specs.Prelude.{ℕ, List, [], ◌∷◌, map, Result}
+use Rattle.flow.specs.declared.flows.Flows.{Flows}
+use Rattle.media_file.specs.Records.{Entry}
+use Rattle.capture_engines.specs.Files.{first_way, flows_in, other_ways}
+use Rattle.recording_engines.specs.Joining.{Strand}
+use Rattle.recording_engines.specs.Strands.{strand_in}
+use Rattle.run_outcome.specs.declared.refusal.Refusal.{Refusal}
+
+-- the records of files, each taken so
+abbrev pub strands_by : List (Result Flows Refusal) → List (List ℕ) → List Strand
+strands_by ways [] = []
+strands_by ways (octets ∷ files) =
+    strand_in (flows_in (first_way ways)) octets ∷ strands_by (other_ways ways) files
+
+-- the datagrams of records
+abbrev pub datagrams_in : List Entry → List (List ℕ)
+datagrams_in entries = map (λ e. e.octets) entries

@@ -1,0 +1,76 @@
+-- Which refusal ends a run of `follow` (own).
+use Rattle.std.specs.Prelude.{◌≡◌, ℕ, ◌⊎◌, List, [], ◌∷◌, Option, None, Some, MatchOption, Result}
+use Rattle.flow.specs.declared.flows.Flows.{Flows}
+use Rattle.capture_engines.specs.Files.{fault_by}
+use Rattle.capture_engines.specs.Received.{OneFileIs, StopsFile}
+use Rattle.media_file.specs.declared.fault.FileFault.TheVariants.{TooManyRecords}
+use Rattle.path_receiver.specs.Opening.{IsWindowSize}
+use Rattle.path_receiver.specs.declared.fault.OpenFault.TheVariants as open_fault
+use Rattle.recording_reader.specs.Files.{IsFileFault, text_of_file}
+use Rattle.recording_reader.specs.declared.fault.ReadingFault.{ReadingFault}
+use Rattle.run_outcome.specs.Sources.{IsSourceText}
+use Rattle.run_outcome.specs.declared.fault.Fault.{Fault}
+use Rattle.run_outcome.specs.declared.fault.Fault.TheVariants.{Device, Refused}
+use Rattle.run_outcome.specs.declared.refusal.Refusal.{Refusal}
+use Rattle.run_outcome.specs.declared.refusal.Refusal.TheVariants as refusal
+use Rattle.sdp_format.specs.Bytes.{lines}
+use Rattle.sdp_format.specs.Grammar.{IsTextFault}
+use Rattle.sdp_format.specs.Sections.{video_sections}
+use Rattle.side_by_side.specs.Sides.{OneSideAt}
+use Rattle.side_by_side.specs.declared.side.Side.{Side}
+
+-- ---- the words
+
+-- The refusals of the words: no frames, or more than 16; a source that is neither a number nor
+-- `any`.
+abbrev pub IsWordRefusal : ℕ → List ℕ → Refusal → Type 0
+IsWordRefusal frames ssrc (refusal.Open open_fault.BadWindow) = IsWindowSize frames → ⊥
+IsWordRefusal frames ssrc refusal.ReceiveSource = (pin : Option ℕ) → IsSourceText ssrc pin → ⊥
+IsWordRefusal frames ssrc r = ⊥
+
+-- ---- the SDP text
+
+-- the refusals of a text: of what it says
+abbrev pub IsOpeningRefusal : List ℕ → Refusal → Type 0
+IsOpeningRefusal text (refusal.Sdp at) = IsTextFault (video_sections (lines text)) at.fault
+IsOpeningRefusal text r = ⊥
+
+-- of the first file's, where none is given: that it has none, too
+abbrev pub IsFirstRefusal : List ℕ → Refusal → Type 0
+IsFirstRefusal text r = ((r ≡ refusal.ReceiveNoSdp) × (text ≡ []))
+    ⊎ ((text ≡ [] → ⊥) × IsOpeningRefusal text r)
+
+abbrev pub FirstRefuses : {S : Type 0} → (S → List ℕ → Type 0) → List S → Refusal → Type 0
+FirstRefuses told [] r = r ≡ refusal.ReceiveNoSdp
+FirstRefuses told (s ∷ ss) r =
+    (octets : List ℕ) → told s octets → IsFirstRefusal (text_of_file octets) r
+
+-- ---- files
+
+-- a fault of a file as what ends a run; where there is none, a device's
+abbrev pub fault_in : Option ReadingFault → Fault
+fault_in None = Device
+fault_in (Some f) = fault_by f
+
+-- what stops files that are read: one is at its fault; or there are more records than are counted
+abbrev pub StopsFollowing : {A S : Type 0} → List (Side A S) → Refusal → Type 0
+StopsFollowing sides r = ((f : ReadingFault) × (fault_by f ≡ Refused r) × OneSideAt f sides)
+    ⊎ (r ≡ refusal.Capture TooManyRecords)
+
+-- so of what was read: one file has this as its first fault
+abbrev pub IsFileRefusal : (List ℕ → Type 0) → Refusal → Type 0
+IsFileRefusal told r = (f : ReadingFault) × (fault_by f ≡ Refused r)
+    × ((octets : List ℕ) → told octets → IsFileFault f octets)
+
+-- ---- the run
+
+-- The refusals of `follow`, in their order: of the words; of the SDP text that is given; of a file
+-- before its records; of the first file's SDP text, where none is given; of a file's records.
+abbrev pub IsFollowRefusal : {S : Type 0} → ℕ → List ℕ → Option (List ℕ)
+    → List (Result Flows Refusal) → (S → List ℕ → Type 0) → List S → Refusal → Type 0
+IsFollowRefusal frames ssrc sdp ways told files r = IsWordRefusal frames ssrc r
+    ⊎ (MatchOption sdp ⊥ (λ text. IsOpeningRefusal text r)
+    ⊎ (OneFileIs (λ w s. StopsFile w (told s) r) ways files
+    ⊎ (MatchOption sdp (FirstRefuses told files r) (λ _. ⊥)
+    ⊎ (OneFileIs (λ w s. IsFileRefusal (told s) r) ways files
+    ⊎ (r ≡ refusal.Capture TooManyRecords)))))

@@ -1,0 +1,73 @@
+//! Following the datagrams of files that are read side by side.
+ghost use Rattle.std.specs.Prelude.{◌≡◌, ◌≤◌, ◌∷◌, [], IfErr, OnOk, length};
+ghost use Rattle.follow_engine.specs.Refused.{StopsFollowing, fault_in};
+ghost use Rattle.follow_engine.specs.Running.{IsRun};
+ghost use Rattle.follow_engine.specs.Sides.{FollowsSides};
+ghost use Rattle.run_outcome.specs.Fault.{Accounts, counts};
+ghost use Rattle.run_outcome.specs.Refusing.{OfRefusal};
+ghost use Rattle.side_by_side.specs.Sides.{AllUnfailed, IsStopped, begun_each};
+ghost use Rattle.side_by_side.specs.Sides.{failures_each};
+
+use crate::pictures::PictureSink;
+use crate::running::Run;
+use capture_engines::of_reading;
+use media_file::FileFault;
+use run_outcome::{Fault, of_capture};
+use side_by_side::SideBySide;
+use st_format::{ByteSink, ByteSource, DatagramSource, Turn};
+use std::alloc::Allocator;
+
+/// Takes all datagrams of files, in the order in which they go side by side: what leaves is shown
+/// and told. What is in at the end stays in. `buf` has room for any datagram.
+///
+/// # Errors
+///
+/// A refusal where a file is at fault, behind what happened before the fault; and else that a
+/// device failed.
+pub(crate) fn follow_sides<A: Allocator + Copy, S: ByteSource, P: PictureSink, O: ByteSink>(
+    source: &mut SideBySide<A, S>,
+    run: &mut Run<A>,
+    buf: &mut [u8],
+    pictures: &mut P,
+    output: &mut O,
+) -> Result<(), Fault>
+    requires room { 65535 ≤ length buf.old }
+    requires run { IsRun run.old }
+    requires unfailed { AllUnfailed source.old.sides }
+    ensures room { length buf.new ≡ length buf.old }
+    ensures eager { run.new.is_eager ≡ run.old.is_eager }
+    ensures steering { source.new.steering ≡ source.old.steering }
+    ensures begun { begun_each source.new.sides ≡ begun_each source.old.sides }
+    ensures run { OnOk result (IsRun run.new) }
+    ensures followed { OnOk result (FollowsSides P.takes source.old source.new run.old run.new
+        pictures.old pictures.new (O.took output.old) (O.took output.new)) }
+    ensures stopped { IfErr result (λ f. OfRefusal f (StopsFollowing source.new.sides)) }
+    ensures failures { Accounts result (counts (failures_each S.failures source.old.sides)
+        (failures_each S.failures source.new.sides)
+        ∷ counts (P.failures pictures.old) (P.failures pictures.new)
+        ∷ counts (O.failures output.old) (O.failures output.new) ∷ []) }
+{
+    for _ in 0..u64::MAX {
+        match source.next(buf) {
+            Ok(Turn::Datagram(_, count)) => {
+                run.take(&buf[..count], pictures, output)?;
+                continue;
+            }
+            Ok(Turn::Quiet) => continue,
+            Ok(Turn::End) => return Ok(()),
+            Err(_) => return Err(fault_of(source)),
+        }
+    }
+    Err(of_capture(FileFault::TooManyRecords))
+}
+
+/// The fault of a file at which a source stays; where there is none, a device's.
+fn fault_of<A: Allocator, S: ByteSource>(source: &SideBySide<A, S>) -> Fault
+    ensures fault { result ≡ fault_in source.now.fault }
+    ensures stopped { IsStopped source.now.fault source.now.sides }
+{
+    match source.fault() {
+        Some(fault) => of_reading(fault),
+        None => Fault::Device,
+    }
+}

@@ -1,0 +1,18 @@
+//! Pictures in forms of other tools, read and written: texts and values that are worked out by
+//! hand, failing devices and refused growths. Tests.
+#![tactic(auto)]
+
+#[cfg(test)]
+mod checks;
+#[cfg(test)]
+mod faults;
+#[cfg(test)]
+mod growths;
+#[cfg(test)]
+mod pixmaps;
+#[cfg(test)]
+mod stream_faults;
+#[cfg(test)]
+mod streams;
+#[cfg(test)]
+mod views;

@@ -1,0 +1,28 @@
+use Rattle.std.proofs.lemmas.Result.{err_from_is_err_and}
+use Rattle.picture_forms.proofs.y4m_writing.write_y4m_frame.Goals as goal
+
+pub returns-in_err-write_frame-clause-fault : goal.returns-in_err-write_frame-clause-fault
+returns-in_err-write_frame-clause-fault g c =
+    let p = err_from_is_err_and c.from_residual.result c.from_residual.ensures.1 in
+    let w = rw (c.format-format.ensures.value, c.samples.ensures.value)
+    at c.in_err-write_frame.ensures.fault in
+    rw (p.1, p.2) (tt, w.held)
+
+pub returns-in_err-write_frame-clause-part : goal.returns-in_err-write_frame-clause-part
+returns-in_err-write_frame-clause-part g c =
+    let p = err_from_is_err_and c.from_residual.result c.from_residual.ensures.1 in
+    let w = rw (c.format-format.ensures.value, c.samples.ensures.value)
+    at c.in_err-write_frame.ensures.fault in
+    rw (p.1) (w.took)
+
+pub returns-clause-ok : goal.returns-clause-ok
+returns-clause-ok g c =
+    let w = rw (c.format-format.ensures.value, c.samples.ensures.value)
+    at c.in_ok-write_frame.ensures.ok in
+    w.held
+
+pub returns-clause-took : goal.returns-clause-took
+returns-clause-took g c =
+    let w = rw (c.format-format.ensures.value, c.samples.ensures.value)
+    at c.in_ok-write_frame.ensures.ok in
+    w.took

@@ -1,0 +1,10 @@
+pub mod Faults
+pub mod Planes
+pub mod Layouts
+pub mod Writing
+pub mod Walks
+pub mod Heads
+pub mod Frames
+pub mod Numbers
+pub mod Pixmaps
+pub mod Streams

@@ -1,0 +1,66 @@
+//! Laws on refusals of whole runs, over the definitions alone: against what a run read that ended
+//! well no refusal speaks. So a run's status is a function of what it read, where no device failed
+//! and memory was there. Each is the contract of a function that does nothing; a caller has the
+//! first premise from the clause of the call. That octets are below 256 is wanted, as the
+//! conditions of faults are told of octets.
+ghost use Rattle.std.specs.Prelude.{◌∷◌, ℕ, List, Option};
+ghost use Rattle.st_format.specs.Device.{AreOctets};
+ghost use Rattle.st_format.specs.History.{IsRead, since};
+ghost use Rattle.st_format.specs.Member.{IsMember};
+ghost use Rattle.run_outcome.specs.Moments.{WasRead};
+ghost use Rattle.run_outcome.specs.declared.refusal.Refusal.{Refusal};
+ghost use Rattle.capture_engines.specs.Looped.{IsLoopRefusal};
+ghost use Rattle.capture_engines.specs.Looping.{Link, Loops};
+ghost use Rattle.receiver_engines.specs.MergeAllRefused.{IsMergeAllRefusal};
+ghost use Rattle.receiver_engines.specs.MergedAll.{MergesAll};
+ghost use Rattle.receiver_engines.specs.Reporting.{Reports};
+ghost use Rattle.receiver_engines.specs.States.{IsStateRefusal};
+ghost use Rattle.script_engines.specs.Described.{Describes, IsUndescribed};
+ghost use Rattle.script_engines.specs.Reading.{DoesScript, IsRefusedFor};
+ghost use Rattle.export_engine.specs.ExportRefused.{IsExportRefusal};
+ghost use Rattle.export_engine.specs.Exported.{PrintsExported};
+ghost use Rattle.run_laws.specs.Received.{read_of};
+
+use st_format::ByteSource;
+
+/// Against what a run of `report` read that ended well (`reported` there) no refusal speaks.
+pub fn report_unrefused<S: ByteSource>()
+    ensures { (source later : S) (old new : List ℕ) (r : Refusal)
+        → Reports (IsRead (S.gave source) (S.gave later) (S.ended later)) old new
+        → AreOctets (since (S.gave source) (S.gave later))
+        → IsStateRefusal (IsRead (S.gave source) (S.gave later) (S.ended later)) r → ⊥ }
+{}
+
+/// The same of a run of `merge_all` (`merged` there).
+pub fn merge_unrefused<S: ByteSource>()
+    ensures { (first : S × S) (others : List (S × S)) (old new : List ℕ) (r : Refusal)
+        → MergesAll (WasRead S.gave S.ended first) (WasRead S.gave S.ended) others old new
+        → ((s : S × S) → IsMember s (first ∷ others) → AreOctets (read_of S.gave s))
+        → IsMergeAllRefusal (WasRead S.gave S.ended first) (WasRead S.gave S.ended) others r
+        → ⊥ }
+{}
+
+/// The same of a run of `loop` (`looped` there).
+pub fn loop_unrefused<S: ByteSource>()
+    ensures { (max limit : ℕ) (source later : S) (before after : Link) (old new : List ℕ)
+        (r : Refusal) → Loops max limit (IsRead (S.gave source) (S.gave later) (S.ended later))
+        before after old new
+        → AreOctets (since (S.gave source) (S.gave later))
+        → IsLoopRefusal max (IsRead (S.gave source) (S.gave later) (S.ended later)) r → ⊥ }
+{}
+
+/// The same of a run of `export` (`exported` there).
+pub fn export_unrefused<S: ByteSource>()
+    ensures { (a : List ℕ) (b : Option (List ℕ)) (source later : S)
+        (old new shown printed : List ℕ) (r : Refusal)
+        → PrintsExported a b (S.gave source) (S.gave later) (S.ended later) old new shown printed
+        → AreOctets (since (S.gave source) (S.gave later))
+        → IsExportRefusal a b (IsRead (S.gave source) (S.gave later) (S.ended later)) r → ⊥ }
+{}
+
+/// The same of a run of `sdp` (`printed` of `describe`).
+pub fn sdp_unrefused<S: ByteSource>()
+    ensures { (source later : S) (old new : List ℕ) (r : Refusal)
+        → DoesScript Describes (S.gave source) (S.gave later) (S.ended later) old new
+        → IsRefusedFor IsUndescribed (S.gave source) (S.gave later) (S.ended later) r → ⊥ }
+{}

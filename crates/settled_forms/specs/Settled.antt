@@ -1,0 +1,15 @@
+-- A picture in the form of its sampling (own).
+use Rattle.std.specs.Prelude.{ℕ, List}
+use Rattle.st_format.specs.declared.sampling.Sampling.{Sampling}
+use Rattle.st_format.specs.declared.sampling.Sampling.TheVariants.{Ycc422, Ycc444, Rgb}
+use Rattle.st_format.specs.Picture.{Values}
+use Rattle.picture_forms.specs.Layouts.{frame_text, pixmap_text}
+
+-- a frame of a YUV4MPEG2 stream, and of RGB a portable pixmap
+abbrev pub form_by : Sampling → Values → List ℕ
+form_by Ycc422 v = frame_text v
+form_by Ycc444 v = frame_text v
+form_by Rgb v = pixmap_text v
+
+unfoldable pub form_text : Values → List ℕ
+form_text v = form_by v.format.sampling v

@@ -1,0 +1,6 @@
+//! Frames that are settled, in forms that other tools read.
+#![tactic(auto)]
+
+mod settled;
+
+pub use settled::write_settled;
