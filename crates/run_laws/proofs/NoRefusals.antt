@@ -31,7 +31,7 @@ use Rattle.run_outcome.specs.declared.refusal.Refusal.{Refusal}
 use Rattle.run_outcome.specs.declared.refusal.Refusal.TheVariants as why
 use Rattle.capture_engines.specs.Looped.{IsLoopRefusal}
 use Rattle.capture_engines.specs.Looping.{Link, Loops}
-use Rattle.receiver_engines.specs.MergeAllRefused.{IsMergeAllRefusal, StopsAt, StopsBehind}
+use Rattle.receiver_engines.specs.MergeAllRefused.{IsMergeAllRefusal, StopsMerge, StopsMergeBehind}
 use Rattle.receiver_engines.specs.MergeRefused.{AreUnlike}
 use Rattle.receiver_engines.specs.MergedAll.{AreAlike, MergesAll}
 use Rattle.receiver_engines.specs.Merging.{GivesReceiver, SaysReceiver}
@@ -132,7 +132,7 @@ module _ {S : Type 0} (gave : S → List ℕ) (ended : S → Type 0) (first : S 
     (bytes : (s : S × S) → IsMember s (first ∷ others) → AreOctets (read_of gave s))
   where
     one : (s : State) (Is : (List ℕ → Type 0) → Type 0)
-        (stops : StopsAt s (WasRead gave ended) others Is)
+        (stops : StopsMerge s (WasRead gave ended) others Is)
         → OneOf (WasRead gave ended) stops.at merges.receiver
     one s Is stops =
         one_of (WasRead gave ended) stops.front stops.at stops.behind merges.receiver
@@ -141,7 +141,7 @@ module _ {S : Type 0} (gave : S → List ℕ) (ended : S → Type 0) (first : S 
         stops.parts merges.receivers_are)
         merges.taken.alike
 
-    of_file : (f : FileFault) → StopsBehind (WasRead gave ended first) (WasRead gave ended) others
+    of_file : (f : FileFault) → StopsMergeBehind (WasRead gave ended first) (WasRead gave ended) others
         (λ t. IsStateRefusal t (why.State f)) → ⊥
     of_file f behind =
         let stops = behind.2 in
@@ -152,7 +152,7 @@ module _ {S : Type 0} (gave : S → List ℕ) (ended : S → Type 0) (first : S 
         not_state (WasRead gave ended stops.at) (read_of gave stops.at) o.receiver (why.State f)
         (was_read gave ended stops.at) (bytes stops.at (inr there)) o.says stops.is
 
-    unlike : StopsBehind (WasRead gave ended first) (WasRead gave ended) others
+    unlike : StopsMergeBehind (WasRead gave ended first) (WasRead gave ended) others
         (AreUnlike (WasRead gave ended first)) → ⊥
     unlike behind =
         let stops = behind.2 in
