@@ -26,7 +26,7 @@ done
 for asked in --help -h help; do
     run $asked
     holds_words "$asked" 'Usage: st2110' trace sdp rehearse migrate send receive merge process report loop \
-        import inspect export --verbose --quiet --help --version
+        import inspect export follow --verbose --quiet --help --version
 done
 
 # Of each command the help has every option and file.
@@ -51,6 +51,7 @@ loop --max --limit 1400 100000 <PICTURE>
 import --sdp --a --b --out [ADDR:]PORT <RECORDING>...
 inspect --sdp --format --pt --a --b --json 96 [ADDR:]PORT <RECORDING>...
 export --a ADDR:PORT --b --out --paced --start SECONDS FILE <CAPTURE>
+follow --sdp --a --b --window --ssrc --eager any 8 [ADDR:]PORT <RECORDING>...
 END
 
 # Words that are refused, and nothing is written: rows are WORDS|TEXT|USAGE, as `misworded` has them.
@@ -190,6 +191,7 @@ loop|| <PICTURE>
 import| --sdp <FILE> --out <FILE>| <RECORDING>...
 inspect|| <RECORDING>...
 export| --a <ADDR:PORT> --out <FILE>| <CAPTURE>
+follow|| <RECORDING>...
 END
 run receive --version
 misworded 'refused: receive --version' \

@@ -3,6 +3,7 @@
 
 mod aim;
 mod differing;
+mod followed;
 mod inspecting;
 mod looking;
 mod looping;
@@ -17,6 +18,7 @@ mod window;
 
 pub use aim::{Aim, Inspected};
 pub use differing::{StreamFormat, said_otherwise};
+pub use followed::FollowCommand;
 pub use inspecting::{InspectAsked, InspectCommand};
 pub use looping::LoopCommand;
 pub use migrating::MigrateCommand;

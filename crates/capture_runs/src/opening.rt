@@ -1,4 +1,5 @@
-//! What `receive` and `inspect` read: the SDP, where one is named, and captures and recordings.
+//! What `receive`, `inspect` and `follow` read: the SDP, where one is named, and captures and
+//! recordings.
 ghost use Rattle.std.specs.Prelude.{◌≡◌, ◌⊎◌, [], All, IfErr, IfOk, IsFalse, None, OnOk, Some, length};
 ghost use Rattle.std.specs.Prelude.{vec_len};
 ghost use Rattle.std.specs.Option.{option_copied};

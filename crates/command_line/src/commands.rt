@@ -64,7 +64,7 @@ const U64: ValueParser<'static> = ValueParser::Unsigned(0, 18_446_744_073_709_55
 const PATHS: ValueParser<'static> = ValueParser::Names(&["a", "b", "both"]);
 
 /// How many commands there are.
-const COMMANDS: usize = 13;
+const COMMANDS: usize = 14;
 
 /// The command of a place in the order of the help; `trace` where there is none. (One table of all
 /// takes as long to prove as half of the rest of this crate; arm by arm it takes little.)
@@ -82,6 +82,7 @@ fn nth_command(place: usize) -> Said {
         10 => INSPECT,
         11 => EXPORT,
         12 => MIGRATE,
+        13 => FOLLOW,
         _ => TRACE,
     }
 }
@@ -330,6 +331,55 @@ const RECEIVED: &[Word] = &[
         usage: Usage::Files("RECORDING"),
         help: "Captures, and recordings of other tools, pcap or pcapng, taken one after the other; \
             - is standard input",
+    },
+];
+
+const FOLLOW: Said = Said {
+    name: "follow",
+    about: "Follows the stream that captures and recordings have, read side by side, and prints a \
+        line for every frame as it leaves",
+    words: &[FOLLOWED],
+};
+
+/// The words of `follow`.
+const FOLLOWED: &[Word] = &[
+    Word {
+        name: "sdp",
+        usage: Usage::Optional("FILE"),
+        help: "SDP text that says format and payload type, and where the datagrams of each path \
+            go; without it, the text of the first capture",
+    },
+    Word {
+        name: "a",
+        usage: Usage::Optional("[ADDR:]PORT"),
+        help: "Where the datagrams of path A go in recordings of other tools, in place of what the \
+            SDP says of both paths, as receive takes it",
+    },
+    Word {
+        name: "b",
+        usage: Usage::Optional("[ADDR:]PORT"),
+        help: "Where those of path B go, likewise",
+    },
+    Word {
+        name: "window",
+        usage: Usage::Default("N", U32, "8"),
+        help: "How many frames are waited for at once, 1 to 16",
+    },
+    Word {
+        name: "ssrc",
+        usage: Usage::Default("N", ValueParser::String, "any"),
+        help: "The one source to take datagrams of: a number, or any",
+    },
+    Word {
+        name: "eager",
+        usage: Usage::Flag,
+        help: "Let a frame leave as soon as it is the oldest and nothing of it is missing",
+    },
+    Word {
+        name: "recordings",
+        usage: Usage::Files("RECORDING"),
+        help: "Captures, and recordings of other tools, pcap or pcapng, read side by side by their \
+            timestamps; - is standard input",
     },
 ];
 

@@ -48,6 +48,8 @@ pub enum Words<'a> {
     Export(ExportWords<'a>),
     /// Tell which streams recordings of other tools have.
     Inspect(InspectWords<'a>),
+    /// Follow a stream, and tell every frame of it.
+    Follow(FollowWords<'a>),
 }
 
 /// The words behind `sdp`.
@@ -238,6 +240,24 @@ pub struct ExportWords<'a> {
     pub paced: Option<StartWords>,
 }
 
+/// The words behind `follow`.
+#[derive(Drop)]
+pub struct FollowWords<'a> {
+    /// The SDP's file, where one is named.
+    pub sdp: Option<&'a str>,
+    /// Where the datagrams of path A go in recordings of other tools, where that is said.
+    pub a: Option<&'a str>,
+    /// Where those of path B go, likewise.
+    pub b: Option<&'a str>,
+    /// How many frames the window has.
+    pub window: u32,
+    pub ssrc: &'a str,
+    /// Whether a frame leaves as soon as nothing of it is missing.
+    pub is_eager: bool,
+    /// The files of captures and recordings.
+    pub recordings: Vec<&'a str>,
+}
+
 /// When packets that are paced begin.
 #[derive(Clone, Copy)]
 pub struct StartWords {
@@ -285,6 +305,7 @@ fn command_words<'a>(
         "process" => Ok(Words::Process(process_words(alloc, given)?)),
         "import" => Ok(Words::Import(import_words(alloc, given)?)),
         "inspect" => Ok(Words::Inspect(inspect_words(alloc, given)?)),
+        "follow" => Ok(Words::Follow(follow_words(alloc, given)?)),
         _ => Ok(plain_words(name, given)),
     }
 }
@@ -426,6 +447,18 @@ fn inspect_words<'a>(
         a: given.get_str("a"),
         b: given.get_str("b"),
         is_json: given.get_flag("json"),
+        recordings: list(alloc, given, "recordings")?,
+    })
+}
+
+fn follow_words<'a>(alloc: Global, given: &ArgMatches<'a>) -> Result<FollowWords<'a>, AllocError> {
+    Ok(FollowWords {
+        sdp: given.get_str("sdp"),
+        a: given.get_str("a"),
+        b: given.get_str("b"),
+        window: number(given, "window"),
+        ssrc: word(given, "ssrc"),
+        is_eager: given.get_flag("eager"),
         recordings: list(alloc, given, "recordings")?,
     })
 }

@@ -10,7 +10,7 @@ mod inspecting;
 mod receiving;
 mod sending;
 
-use capture_runs::{LoopCommand, MigrateCommand};
+use capture_runs::{FollowCommand, LoopCommand, MigrateCommand};
 use command_end::{Command, end_without_memory, run_command};
 use command_line::{Given, Words, WordsFault, given_words, read_words};
 use describing::sdp;
@@ -71,6 +71,7 @@ fn follow(rt: &HostRuntime, given: &Given<'_>) -> u8 {
         Words::Import(words) => import(rt, words, explains, given.is_verbose),
         Words::Export(words) => export(rt, words, explains),
         Words::Inspect(words) => inspect(rt, words, explains, given.is_verbose),
+        Words::Follow(words) => run_made(rt, explains, FollowCommand::new(rt, words)),
     }
 }
 
