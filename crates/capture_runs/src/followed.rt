@@ -21,7 +21,7 @@ use command_end::{Command, Devices, Hints, Ran};
 use command_line::FollowWords;
 use devices::{OutputSink, Reading};
 use follow_engine::{FollowAsked, NoPictures, check_words, follow_files};
-use recording_engines::Importing;
+use recording_engines::FlowWords;
 use run_outcome::Fault;
 use side_by_side::Side;
 use std::alloc::{AllocError, Global};
@@ -35,7 +35,7 @@ type FollowFile<'a> = Side<Global, Replayed<'a>>;
 pub struct FollowCommand<'a> {
     rt: &'a HostRuntime,
     pub asked: FollowAsked<'a>,
-    pub flows: Importing<'a>,
+    pub flows: FlowWords<'a>,
     /// Whether the words are refused, or the SDP can't be read.
     pub opened: Result<(), Fault>,
     /// The SDP, and by which flows each file is taken that is a recording.
@@ -51,7 +51,7 @@ impl<'a> FollowCommand<'a> {
         ensures { IfOk result ⟦<FollowCommand<'a> as Command>⟧.is_new }
     {
         let asked = asked(words);
-        let flows = Importing {
+        let flows = FlowWords {
             a: octets(words.a),
             b: octets(words.b),
         };
@@ -98,7 +98,7 @@ fn closed_sides<'a>(
 fn open<'a>(
     rt: &'a HostRuntime,
     asked: FollowAsked<'_>,
-    flows: Importing<'_>,
+    flows: FlowWords<'_>,
     sdp: Option<&'a str>,
     count: usize,
     files: &mut Files<'a>,
