@@ -179,12 +179,12 @@ pub record StopsSides {A S : Type 0} (f : ReadingFault) (old new : Sides A S) : 
 -- What a source of datagrams says of a call that failed: by which fault, at which it stays; and
 -- where no file was at a fault before, whether a device failed.
 pub record FailsBy {A S : Type 0} (failures : S → ℕ) (e : SourceFault) (old new : Sides A S)
-  : Type 0 where
-    pub reading : ReadingFault
-    pub told : e ≡ source_fault reading
-    pub stays : new.fault ≡ Some reading
-    pub device : AllUnfailed old.sides → Blames (counts (failures_each failures old.sides)
-        (failures_each failures new.sides) ∷ []) (reading_fault reading)
+    : Type 0 where
+  pub reading : ReadingFault
+  pub told : e ≡ source_fault reading
+  pub stays : new.fault ≡ Some reading
+  pub device : AllUnfailed old.sides → Blames (counts (failures_each failures old.sides)
+      (failures_each failures new.sides) ∷ []) (reading_fault reading)
 
 -- ---- the octets of files
 
