@@ -8,15 +8,15 @@ use Rattle.picture_forms.specs.declared.fault.FormFault.TheVariants.{ValueTooLar
 use Rattle.picture_forms.specs.Faults.{IfContent}
 
 -- so does what follows from it
-pub content_map : {P Q : Type 0} (f : FormFault) → (P → Q) → IfContent f P → IfContent f Q
-content_map NoMemory then p = tt
-content_map Device then p = tt
-content_map BadMagic then p = then p
-content_map BadHeader then p = then p
-content_map UnsupportedForm then p = then p
-content_map BadFormat then p = then p
-content_map Truncated then p = then p
-content_map ValueTooLarge then p = then p
+pub content_map : (f : FormFault) (P Q : Type 0) → (P → Q) → IfContent f P → IfContent f Q
+content_map NoMemory P Q then p = tt
+content_map Device P Q then p = tt
+content_map BadMagic P Q then p = then p
+content_map BadHeader P Q then p = then p
+content_map UnsupportedForm P Q then p = then p
+content_map BadFormat P Q then p = then p
+content_map Truncated P Q then p = then p
+content_map ValueTooLarge P Q then p = then p
 
 -- and what holds of all octets that were read
 pub content_told : (f : FormFault) (read P : List ℕ → Type 0)

@@ -100,8 +100,10 @@ passes_fault f i n k a b c ended e is p g = record {
   part = p.part ++ g.part;
   grown = more a b c p.part g.part p.grown g.grown;
   says = λ behind all.
-      content_map e (λ x. both f i n k a b c g.part p behind is
-      ∙ frame_fault f k (g.part ++ behind) e x) (g.says behind all);
+      content_map e (frame_walk f (g.part ++ behind) ≡ Err e)
+      (frame_at_place f n ((p.part ++ g.part) ++ behind) ≡ Err e)
+      (λ x. both f i n k a b c g.part p behind is ∙ frame_fault f k (g.part ++ behind) e x)
+      (g.says behind all);
 }
 
 -- ---- the same of what a call answered

@@ -67,7 +67,8 @@ pub stream_head_fault : (place : ℕ) (e : FormFault) (a b : List ℕ) (ended : 
 stream_head_fault place e a b ended g =
     content_told e (IsRead a b ended) (λ octets. IsStreamFault place octets e)
     (λ octets q.
-    content_map e (λ x. inl (ap head_walk (one_part a b g.part octets ended g.grown q) ∙ x))
+    content_map e (head_walk (g.part ++ q.behind) ≡ Err e) (IsStreamFault place octets e)
+    (λ x. inl (ap head_walk (one_part a b g.part octets ended g.grown q) ∙ x))
     (g.says q.behind q.all))
 
 frame_wrong : (place : ℕ) (f : Format) (e : FormFault) (a b c : List ℕ) (ended : Type 0)
@@ -76,7 +77,8 @@ frame_wrong : (place : ℕ) (f : Format) (e : FormFault) (a b c : List ℕ) (end
 frame_wrong place f e a b c ended h g =
     content_told e (IsRead a c ended) (λ octets. IsStreamFault place octets e)
     (λ octets q.
-    content_map e (λ x. inr (record {
+    content_map e (frame_at_place f place (g.part ++ q.behind) ≡ Err e)
+    (IsStreamFault place octets e) (λ x. inr (record {
       format = f;
       rest = g.part ++ q.behind;
       head = heads.head_found octets (g.part ++ q.behind) (fields_of f)
@@ -127,7 +129,8 @@ pub pixmap_head_fault : (n d : ℕ) (e : FormFault) (a b : List ℕ) (ended : Ty
 pixmap_head_fault n d e a b ended g =
     content_told e (IsRead a b ended) (λ octets. IsPixmapFault n d octets e)
     (λ octets q.
-    content_map e
+    content_map e (pixmap_head_walk n d (g.part ++ q.behind) ≡ Err e)
+    (IsPixmapFault n d octets e)
     (λ x. inl (ap (pixmap_head_walk n d) (one_part a b g.part octets ended g.grown q) ∙ x))
     (g.says q.behind q.all))
 
@@ -137,7 +140,8 @@ pixels_wrong : (n d : ℕ) (f : Format) (e : FormFault) (a b c : List ℕ) (ende
 pixels_wrong n d f e a b c ended h g =
     content_told e (IsRead a c ended) (λ octets. IsPixmapFault n d octets e)
     (λ octets q.
-    content_map e (λ x. inr (record {
+    content_map e (pixels_walk f (g.part ++ q.behind) ≡ Err e)
+    (IsPixmapFault n d octets e) (λ x. inr (record {
       format = f;
       rest = g.part ++ q.behind;
       head = pixmaps.head_found n d octets (g.part ++ q.behind) (fields_of f)
