@@ -1,14 +1,17 @@
 -- A form's fault as one that ends a run.
-use Rattle.std.proofs.Common.{ℕ, List, [], ◌∷◌}
+use Rattle.std.proofs.Common.{ℕ, List, [], ◌∷◌, inl}
 use Rattle.st_format.specs.declared.rate.Rate.{Rate}
 use Rattle.picture_forms.specs.declared.fault.FormFault.{FormFault}
 use Rattle.picture_forms.specs.declared.fault.FormFault.TheVariants as form
 use Rattle.picture_forms.specs.Faults.{CountsFault, IfContent}
 use Rattle.run_outcome.specs.Fault.{Blames, counts}
 use Rattle.run_outcome.specs.Refusing.{OfRefusal}
+use Rattle.run_outcome.specs.declared.fault.Fault.{Fault}
+use Rattle.run_outcome.specs.declared.fault.Fault.TheVariants.{Refused, Device, Memory}
 use Rattle.run_outcome.proofs.Blaming.{failed_one}
+use Rattle.convert_engine.specs.declared.converting.Conversion.{Conversion}
 use Rattle.convert_engine.specs.declared.converting.InputForm.TheVariants.{Pixmap, Y4m}
-use Rattle.convert_engine.specs.Converting.{IsInputRefusal, form_fault}
+use Rattle.convert_engine.specs.Converting.{IsConvertRefusal, IsInputRefusal, form_fault}
 use Rattle.convert_engine.specs.Inputs.{IsPixmapFault, IsStreamFault}
 
 pub stream_refused : (place : ℕ) (read : List ℕ → Type 0) (f : FormFault)
@@ -46,3 +49,10 @@ form_blames form.UnsupportedForm old new is = is
 form_blames form.BadFormat old new is = is
 form_blames form.Truncated old new is = is
 form_blames form.ValueTooLarge old new is = is
+
+-- a refusal of what was read is one of the conversion
+pub input_refused : (asked : Conversion) (read : List ℕ → Type 0) (f : Fault)
+    → OfRefusal f (IsInputRefusal asked.input read) → OfRefusal f (IsConvertRefusal asked read)
+input_refused asked read (Refused r) is = inl is
+input_refused asked read Device is = tt
+input_refused asked read Memory is = tt
