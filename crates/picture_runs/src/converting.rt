@@ -8,7 +8,7 @@ ghost use Rattle.run_outcome.specs.Fault.{Accounts, IfRefused, counts};
 ghost use Rattle.run_outcome.specs.Refusing.{OfRefusal};
 ghost use Rattle.run_outcome.specs.declared.refusal.Refusal.TheVariants.{OutputIsInput};
 ghost use Rattle.run_outcome.specs.declared.refusal.Writer.TheVariants.{Convert};
-ghost use Rattle.picture_runs.specs.Conversions.{IsConversionOf, form_asked};
+ghost use Rattle.picture_runs.specs.Conversions.{IsConversionOf, form_asked, read_by};
 
 use command_end::{Command, Devices, Hints, Ran, find_output};
 use command_line::ConvertWords;
@@ -54,15 +54,23 @@ impl<'a> ConvertCommand<'a> {
 fn conversion(words: &ConvertWords<'_>, rate: Rate) -> Conversion
     ensures { IsConversionOf words.now rate result }
 {
-    let input = match form_of(words.from, words.input) {
-        Form::Y4m => InputForm::Y4m(words.place),
-        Form::Pixmap => InputForm::Pixmap(rate),
-        // (packed pgroups alone say no format)
-        Form::Picture | Form::Raw => InputForm::Picture,
-    };
+    let read = form_of(words.from, words.input);
+    let form = form_of(words.form, words.out);
     Conversion {
-        input,
-        form: form_of(words.form, words.out),
+        input: input_form(read, words.place, rate),
+        form,
+    }
+}
+
+/// How a file of a form is read: of a stream the picture of this place, of a pixmap one of this
+/// rate. Packed pgroups alone say no format, so a file of them is read as a picture's own.
+fn input_form(form: Form, place: u64, rate: Rate) -> InputForm
+    ensures { result ≡ read_by form place rate }
+{
+    match form {
+        Form::Picture | Form::Raw => InputForm::Picture,
+        Form::Y4m => InputForm::Y4m(place),
+        Form::Pixmap => InputForm::Pixmap(rate),
     }
 }
 
