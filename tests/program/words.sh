@@ -26,7 +26,7 @@ done
 for asked in --help -h help; do
     run $asked
     holds_words "$asked" 'Usage: st2110' trace sdp rehearse migrate send receive merge process report loop \
-        import inspect export follow --verbose --quiet --help --version
+        import inspect export follow convert --verbose --quiet --help --version
 done
 
 # Of each command the help has every option and file.
@@ -52,6 +52,7 @@ import --sdp --a --b --out [ADDR:]PORT <RECORDING>...
 inspect --sdp --format --pt --a --b --json 96 [ADDR:]PORT <RECORDING>...
 export --a ADDR:PORT --b --out --paced --start SECONDS FILE <CAPTURE>
 follow --sdp --a --b --window --ssrc --eager any 8 [ADDR:]PORT <RECORDING>...
+convert --from --as --nth --rate FORM 25/1 <IN> <OUT>
 END
 
 # Words that are refused, and nothing is written: rows are WORDS|TEXT|USAGE, as `misworded` has them.
@@ -60,6 +61,7 @@ no_value='but none was supplied'
 digit='invalid digit found in string'
 start='invalid value'
 seconds="for '--start <SECONDS>': it isn't seconds below 4294967296, with up to nine digits behind a point"
+rate='a rate from 1 to 300 pictures a second, as 60 or 60000/1001'
 process='process --job <JOB> --ts <TS> --fill <A,B,C> --out <FILE>'
 while IFS='|' read -r words text usage; do
     # shellcheck disable=SC2086
@@ -169,6 +171,15 @@ export --a 239.1.1.1:5004 old.cap|$missing\n  --out <FILE>|export --a <ADDR:PORT
 export --out no-words.pcap old.cap|$missing\n  --a <ADDR:PORT>|export --a <ADDR:PORT> --out <FILE> <CAPTURE>
 export --a 239.1.1.1:5004 --out no-words.pcap|$missing\n  <CAPTURE>|export --a <ADDR:PORT> --out <FILE> <CAPTURE>
 export --a 239.1.1.1:5004 --out no-words.pcap old.cap old.cap|unexpected argument 'old.cap' found|export [OPTIONS] --a <ADDR:PORT> --out <FILE> <CAPTURE>
+convert|$missing\n  <IN>\n  <OUT>|convert <IN> <OUT>
+convert p.pic|$missing\n  <OUT>|convert <IN> <OUT>
+convert p.pic no-words.cap p.pic|unexpected argument 'p.pic' found|convert [OPTIONS] <IN> <OUT>
+convert --from raw p.pic no-words.cap|invalid value 'raw' for '--from <FORM>'\n  [possible values: picture, y4m, ppm]|-
+convert --as y4 p.pic no-words.cap|invalid value 'y4' for '--as <FORM>'\n  [possible values: picture, y4m, ppm, raw]\n\n  tip: a similar value exists: 'y4m'|-
+convert --nth x p.pic no-words.cap|invalid value 'x' for '--nth <N>': $digit|-
+convert --rate 25:1 no-such-file no-words.cap|invalid value '25:1' for '--rate <N/D>': $rate|-
+convert --rate 0 p.pic p.pic|invalid value '0' for '--rate <N/D>': $rate|-
+convert --rate 301 p.pic no-words.cap|invalid value '301' for '--rate <N/D>': $rate|-
 END
 
 # No command has a version of its own. The usage has what is always needed, and the option that the
@@ -192,6 +203,7 @@ import| --sdp <FILE> --out <FILE>| <RECORDING>...
 inspect|| <RECORDING>...
 export| --a <ADDR:PORT> --out <FILE>| <CAPTURE>
 follow|| <RECORDING>...
+convert|| <IN> <OUT>
 END
 run receive --version
 misworded 'refused: receive --version' \

@@ -212,6 +212,7 @@ fn blamed_by(refusal: Refusal) -> Blamed {
         Refusal::ExportFlow | Refusal::ImportFlow => Blamed::Word("--a or --b"),
         Refusal::ImportPlaces => Blamed::Word("the recordings"),
         Refusal::OutputIsInput(Writer::Receive) => Blamed::Word("--state"),
+        Refusal::OutputIsInput(Writer::Convert) => Blamed::Word("OUT"),
         Refusal::OutputIsInput(_) => Blamed::Word("--out"),
         Refusal::SendSdp
         | Refusal::MigrateSdp

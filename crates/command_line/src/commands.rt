@@ -28,6 +28,8 @@ enum Usage {
     Flag,
     /// An option with a value.
     Optional(&'static str),
+    /// An option with a value of a kind.
+    OptionalOf(&'static str, ValueParser<'static>),
     /// An option with a value, beside which the word of this name may not be given.
     OptionalUnless(&'static str, &'static str),
     /// An option with a value that has to be given.
@@ -63,8 +65,13 @@ const U64: ValueParser<'static> = ValueParser::Unsigned(0, 18_446_744_073_709_55
 /// The words for the paths of a capture.
 const PATHS: ValueParser<'static> = ValueParser::Names(&["a", "b", "both"]);
 
+/// The words for the forms in which a picture is read, and in which one is written.
+const READ_FORMS: ValueParser<'static> = ValueParser::Names(&["picture", "y4m", "ppm"]);
+
+const FORMS: ValueParser<'static> = ValueParser::Names(&["picture", "y4m", "ppm", "raw"]);
+
 /// How many commands there are.
-const COMMANDS: usize = 14;
+const COMMANDS: usize = 15;
 
 /// The command of a place in the order of the help; `trace` where there is none. (One table of all
 /// takes as long to prove as half of the rest of this crate; arm by arm it takes little.)
@@ -83,6 +90,7 @@ fn nth_command(place: usize) -> Said {
         11 => EXPORT,
         12 => MIGRATE,
         13 => FOLLOW,
+        14 => CONVERT,
         _ => TRACE,
     }
 }
@@ -176,6 +184,12 @@ const MIGRATE: Said = Said {
     about: "Writes a capture of version 01 as one of version 02, with an SDP text, and prints \
         how many records it has",
     words: &[MIGRATED],
+};
+
+const CONVERT: Said = Said {
+    name: "convert",
+    about: "Writes a picture in another form: a picture's file, or a file for other tools",
+    words: &[CONVERTED],
 };
 
 /// The words of `sdp`.
@@ -608,6 +622,42 @@ const EXPORTED: &[Word] = &[
     },
 ];
 
+/// The words of `convert`.
+const CONVERTED: &[Word] = &[
+    Word {
+        name: "from",
+        usage: Usage::OptionalOf("FORM", READ_FORMS),
+        help: "The form of IN: a picture's own file, a YUV4MPEG2 stream or a portable pixmap; \
+            without it, that of its ending .y4m or .ppm, and else a picture's own",
+    },
+    Word {
+        name: "as",
+        usage: Usage::OptionalOf("FORM", FORMS),
+        help: "The form of OUT: one of these, or packed pgroups alone; without it, that of its \
+            ending, which may also be .raw",
+    },
+    Word {
+        name: "nth",
+        usage: Usage::Default("N", U64, "0"),
+        help: "Which picture of a stream is taken, 0 for the first",
+    },
+    Word {
+        name: "rate",
+        usage: Usage::Default("N/D", ValueParser::String, "25/1"),
+        help: "The pictures a second of which a pixmap's is one, which it doesn't say",
+    },
+    Word {
+        name: "input",
+        usage: Usage::File("IN"),
+        help: "The file that is read; - is standard input",
+    },
+    Word {
+        name: "out",
+        usage: Usage::File("OUT"),
+        help: "The file that is written; - is standard output",
+    },
+];
+
 /// The recordings that are read.
 const RECORDINGS: Word = Word {
     name: "recordings",
@@ -697,6 +747,7 @@ fn formed<'a>(word: Arg<'a>, name: &'static str, form: Usage) -> Arg<'a> {
     match form {
         Usage::Flag => word.long(name).action(ArgAction::SetTrue),
         Usage::Optional(value) => option(word, name, value),
+        Usage::OptionalOf(value, kind) => option(word, name, value).value_parser(kind),
         Usage::Beside(value, _) | Usage::OptionalUnless(value, _) => option(word, name, value),
         Usage::Required(value) => option(word, name, value).required(true),
         Usage::Number(value, kind) => option(word, name, value).required(true).value_parser(kind),

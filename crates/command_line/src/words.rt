@@ -50,6 +50,8 @@ pub enum Words<'a> {
     Inspect(InspectWords<'a>),
     /// Follow a stream, and tell every frame of it.
     Follow(FollowWords<'a>),
+    /// Write a picture in another form.
+    Convert(ConvertWords<'a>),
 }
 
 /// The words behind `sdp`.
@@ -258,6 +260,23 @@ pub struct FollowWords<'a> {
     pub recordings: Vec<&'a str>,
 }
 
+/// The words behind `convert`.
+#[derive(Clone, Copy)]
+pub struct ConvertWords<'a> {
+    /// The form of the file that is read, where that is said.
+    pub from: Option<&'a str>,
+    /// The form of the file that is written, where that is said.
+    pub form: Option<&'a str>,
+    /// Which picture of a stream counts: 0 is the first.
+    pub place: u64,
+    /// The rate of a pixmap's picture.
+    pub rate: &'a str,
+    /// The file that is read.
+    pub input: &'a str,
+    /// The file that is written.
+    pub out: &'a str,
+}
+
 /// When packets that are paced begin.
 #[derive(Clone, Copy)]
 pub struct StartWords {
@@ -318,6 +337,7 @@ fn plain_words<'a>(name: &str, given: &ArgMatches<'a>) -> Words<'a> {
         "migrate" => Words::Migrate(migrate_words(given)),
         "report" => Words::Report(word(given, "state")),
         "loop" => Words::Loop(loop_words(given)),
+        "convert" => Words::Convert(convert_words(given)),
         // clap lets `trace` through, and nothing else.
         _ => Words::Trace,
     }
@@ -494,6 +514,17 @@ fn loop_words<'a>(given: &ArgMatches<'a>) -> LoopWords<'a> {
         picture: word(given, "picture"),
         max_octets: number(given, "max"),
         limit: given.get_one::<u64>("limit").unwrap_or(0),
+    }
+}
+
+fn convert_words<'a>(given: &ArgMatches<'a>) -> ConvertWords<'a> {
+    ConvertWords {
+        from: given.get_str("from"),
+        form: given.get_str("as"),
+        place: given.get_one::<u64>("nth").unwrap_or(0),
+        rate: word(given, "rate"),
+        input: word(given, "input"),
+        out: word(given, "out"),
     }
 }
 

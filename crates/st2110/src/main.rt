@@ -3,6 +3,7 @@
 
 ghost use Rattle.std.specs.Result.{ForOk};
 
+mod converting;
 mod describing;
 mod exporting;
 mod importing;
@@ -13,6 +14,7 @@ mod sending;
 use capture_runs::{FollowCommand, LoopCommand, MigrateCommand};
 use command_end::{Command, end_without_memory, run_command};
 use command_line::{Given, Words, WordsFault, given_words, read_words};
+use converting::convert;
 use describing::sdp;
 use exporting::export;
 use importing::import;
@@ -72,6 +74,7 @@ fn follow(rt: &HostRuntime, given: &Given<'_>) -> u8 {
         Words::Export(words) => export(rt, words, explains),
         Words::Inspect(words) => inspect(rt, words, explains, given.is_verbose),
         Words::Follow(words) => run_made(rt, explains, FollowCommand::new(rt, words)),
+        Words::Convert(words) => convert(rt, words, explains),
     }
 }
 

@@ -1,0 +1,7 @@
+use Rattle.command_end.proofs.Quiet.{refused_both}
+use Rattle.picture_runs.proofs.converting.ConvertCommandCommand.run.Goals as goal
+
+pub returns-clause-refusal : goal.returns-clause-refusal
+returns-clause-refusal c =
+    refused_both _ _ c.convert-outcome.result c.convert-outcome.ensures.refusal
+    c.convert-outcome.ensures.quiet
