@@ -32,6 +32,8 @@ enum Usage {
     OptionalUnless(&'static str, &'static str),
     /// An option with a value that has to be given.
     Required(&'static str),
+    /// An option with a value of a kind.
+    Kind(&'static str, ValueParser<'static>),
     /// An option with a value of a kind that has to be given.
     Number(&'static str, ValueParser<'static>),
     /// An option with a value of a kind, and the value where it isn't given.
@@ -63,8 +65,11 @@ const U64: ValueParser<'static> = ValueParser::Unsigned(0, 18_446_744_073_709_55
 /// The words for the paths of a capture.
 const PATHS: ValueParser<'static> = ValueParser::Names(&["a", "b", "both"]);
 
+/// The words for the forms of a picture's file.
+const FORMS: ValueParser<'static> = ValueParser::Names(&["picture", "y4m", "ppm", "raw"]);
+
 /// How many commands there are.
-const COMMANDS: usize = 14;
+const COMMANDS: usize = 15;
 
 /// The command of a place in the order of the help; `trace` where there is none. (One table of all
 /// takes as long to prove as half of the rest of this crate; arm by arm it takes little.)
@@ -83,6 +88,7 @@ fn nth_command(place: usize) -> Said {
         11 => EXPORT,
         12 => MIGRATE,
         13 => FOLLOW,
+        14 => PICTURE,
         _ => TRACE,
     }
 }
@@ -453,6 +459,56 @@ const PROCESSED: &[Word] = &[
     },
 ];
 
+const PICTURE: Said = Said {
+    name: "picture",
+    about: "Writes a frame of a receiver as a picture's file, for other tools and to look at",
+    words: &[PICTURED],
+};
+
+/// The words of `picture`.
+const PICTURED: &[Word] = &[
+    Word {
+        name: "ts",
+        usage: Usage::Number("TS", U32),
+        help: "The timestamp of the frame, in ticks of 90 kHz",
+    },
+    Word {
+        name: "fill",
+        usage: Usage::Optional("A,B,C"),
+        help: "For a sample that is missing or contested, a value of each component: Y, Cb and Cr, \
+            or R, G and B of RGB; without it, black",
+    },
+    Word {
+        name: "hold",
+        usage: Usage::Optional("FILE"),
+        help: "Picture whose values such samples take in place of the fill's",
+    },
+    Word {
+        name: "mark",
+        usage: Usage::Flag,
+        help: "Show a pixel with a missing sample magenta, one with a contested sample red, and \
+            the others as grey by their luma, or as they are of RGB: a picture of RGB, for which \
+            --fill and --hold say nothing",
+    },
+    Word {
+        name: "as",
+        usage: Usage::Kind("FORM", FORMS),
+        help: "The form of what is written: picture, as send reads it; y4m, YUV4MPEG2; ppm, a \
+            portable pixmap; or raw, packed pgroups alone; without it that of FILE's ending, .y4m, \
+            .ppm or .raw, or else picture",
+    },
+    Word {
+        name: "out",
+        usage: Usage::Required("FILE"),
+        help: "Where the picture is written; - is standard output",
+    },
+    Word {
+        name: "state",
+        usage: Usage::File("STATE"),
+        help: "Receiver's file, as receive writes it; - is standard input",
+    },
+];
+
 /// The file of `report`.
 const REPORTED: &[Word] = &[Word {
     name: "state",
@@ -698,6 +754,7 @@ fn formed<'a>(word: Arg<'a>, name: &'static str, form: Usage) -> Arg<'a> {
         Usage::Flag => word.long(name).action(ArgAction::SetTrue),
         Usage::Optional(value) => option(word, name, value),
         Usage::Beside(value, _) | Usage::OptionalUnless(value, _) => option(word, name, value),
+        Usage::Kind(value, kind) => option(word, name, value).value_parser(kind),
         Usage::Required(value) => option(word, name, value).required(true),
         Usage::Number(value, kind) => option(word, name, value).required(true).value_parser(kind),
         Usage::Default(value, kind, text) => with_default(option(word, name, value), kind, text),
