@@ -26,7 +26,7 @@ done
 for asked in --help -h help; do
     run $asked
     holds_words "$asked" 'Usage: st2110' trace sdp rehearse migrate send receive merge process report loop \
-        import inspect export follow --verbose --quiet --help --version
+        import inspect export follow picture --verbose --quiet --help --version
 done
 
 # Of each command the help has every option and file.
@@ -52,6 +52,7 @@ import --sdp --a --b --out [ADDR:]PORT <RECORDING>...
 inspect --sdp --format --pt --a --b --json 96 [ADDR:]PORT <RECORDING>...
 export --a ADDR:PORT --b --out --paced --start SECONDS FILE <CAPTURE>
 follow --sdp --a --b --window --ssrc --eager any 8 [ADDR:]PORT <RECORDING>...
+picture --ts --fill --hold --mark --as FORM y4m ppm raw --out <STATE>
 END
 
 # Words that are refused, and nothing is written: rows are WORDS|TEXT|USAGE, as `misworded` has them.
@@ -169,6 +170,13 @@ export --a 239.1.1.1:5004 old.cap|$missing\n  --out <FILE>|export --a <ADDR:PORT
 export --out no-words.pcap old.cap|$missing\n  --a <ADDR:PORT>|export --a <ADDR:PORT> --out <FILE> <CAPTURE>
 export --a 239.1.1.1:5004 --out no-words.pcap|$missing\n  <CAPTURE>|export --a <ADDR:PORT> --out <FILE> <CAPTURE>
 export --a 239.1.1.1:5004 --out no-words.pcap old.cap old.cap|unexpected argument 'old.cap' found|export [OPTIONS] --a <ADDR:PORT> --out <FILE> <CAPTURE>
+picture|$missing\n  --ts <TS>\n  --out <FILE>\n  <STATE>|picture --ts <TS> --out <FILE> <STATE>
+picture --ts 900 --out no-words.pic|$missing\n  <STATE>|picture --ts <TS> --out <FILE> <STATE>
+picture --ts 900 g.rcv|$missing\n  --out <FILE>|picture --ts <TS> --out <FILE> <STATE>
+picture --out no-words.pic g.rcv|$missing\n  --ts <TS>|picture --ts <TS> --out <FILE> <STATE>
+picture --ts x --out no-words.pic g.rcv|invalid value 'x' for '--ts <TS>': $digit|-
+picture --ts 900 --as Y4M --out no-words.pic g.rcv|invalid value 'Y4M' for '--as <FORM>'\n  [possible values: picture, y4m, ppm, raw]|-
+picture --ts 900 --out no-words.pic g.rcv g.rcv|unexpected argument 'g.rcv' found|picture [OPTIONS] --ts <TS> --out <FILE> <STATE>
 END
 
 # No command has a version of its own. The usage has what is always needed, and the option that the
@@ -192,6 +200,7 @@ import| --sdp <FILE> --out <FILE>| <RECORDING>...
 inspect|| <RECORDING>...
 export| --a <ADDR:PORT> --out <FILE>| <CAPTURE>
 follow|| <RECORDING>...
+picture| --ts <TS> --out <FILE>| <STATE>
 END
 run receive --version
 misworded 'refused: receive --version' \
@@ -203,3 +212,4 @@ says 'a word that is no text' 2 '' 'error: the command line is no UTF-8 text'
 none 'refused words write no capture' no-words.cap
 none 'refused words write no receiver' no-words.rcv
 none 'refused words write no recording' no-words.pcap
+none 'refused words write no picture' no-words.pic

@@ -28,12 +28,12 @@ enum Usage {
     Flag,
     /// An option with a value.
     Optional(&'static str),
+    /// An option with a value of a kind.
+    OptionalOf(&'static str, ValueParser<'static>),
     /// An option with a value, beside which the word of this name may not be given.
     OptionalUnless(&'static str, &'static str),
     /// An option with a value that has to be given.
     Required(&'static str),
-    /// An option with a value of a kind.
-    Kind(&'static str, ValueParser<'static>),
     /// An option with a value of a kind that has to be given.
     Number(&'static str, ValueParser<'static>),
     /// An option with a value of a kind, and the value where it isn't given.
@@ -65,7 +65,7 @@ const U64: ValueParser<'static> = ValueParser::Unsigned(0, 18_446_744_073_709_55
 /// The words for the paths of a capture.
 const PATHS: ValueParser<'static> = ValueParser::Names(&["a", "b", "both"]);
 
-/// The words for the forms of a picture's file.
+/// The words for the forms in which a picture is written.
 const FORMS: ValueParser<'static> = ValueParser::Names(&["picture", "y4m", "ppm", "raw"]);
 
 /// How many commands there are.
@@ -492,7 +492,7 @@ const PICTURED: &[Word] = &[
     },
     Word {
         name: "as",
-        usage: Usage::Kind("FORM", FORMS),
+        usage: Usage::OptionalOf("FORM", FORMS),
         help: "The form of what is written: picture, as send reads it; y4m, YUV4MPEG2; ppm, a \
             portable pixmap; or raw, packed pgroups alone; without it that of FILE's ending, .y4m, \
             .ppm or .raw, or else picture",
@@ -753,8 +753,8 @@ fn formed<'a>(word: Arg<'a>, name: &'static str, form: Usage) -> Arg<'a> {
     match form {
         Usage::Flag => word.long(name).action(ArgAction::SetTrue),
         Usage::Optional(value) => option(word, name, value),
+        Usage::OptionalOf(value, kind) => option(word, name, value).value_parser(kind),
         Usage::Beside(value, _) | Usage::OptionalUnless(value, _) => option(word, name, value),
-        Usage::Kind(value, kind) => option(word, name, value).value_parser(kind),
         Usage::Required(value) => option(word, name, value).required(true),
         Usage::Number(value, kind) => option(word, name, value).required(true).value_parser(kind),
         Usage::Default(value, kind, text) => with_default(option(word, name, value), kind, text),

@@ -10,11 +10,11 @@ use Rattle.run_outcome.specs.declared.refusal.Refusal.TheVariants.{FrameFill, Fr
 use Rattle.st_format.specs.Picture.{Values}
 use Rattle.st_format.specs.Raster.{Raster}
 use Rattle.picture_engine.specs.Refused.{IsSettlingRefusal}
-use Rattle.picture_engine.specs.Views.{IsFillOf, LacksFill, settled_frame}
+use Rattle.picture_engine.specs.Views.{IsFillOf, LacksFill, settled_with}
 
 -- it has the frame's format
 pub settled_format : (held : Option Values) (fill : List ℕ) (q : Raster)
-    → (settled_frame held fill q).format ≡ q.format
+    → (settled_with held fill q).format ≡ q.format
 settled_format None fill q = refl
 settled_format (Some p) fill q = refl
 

@@ -14,16 +14,15 @@ use Rattle.st_format.specs.Raster.{Raster}
 use Rattle.picture_engine.specs.declared.asked.View.{View}
 use Rattle.picture_engine.specs.declared.asked.View.TheVariants.{Settled, Marked}
 
--- black where 1 of 8 bits is so many: of YCbCr the least nominal luma without colour, of RGB the
--- least nominal values
-abbrev pub black_times : Sampling → ℕ → List ℕ
-black_times Ycc422 scale = (16 * scale) ∷ (128 * scale) ∷ (128 * scale) ∷ []
-black_times Ycc444 scale = (16 * scale) ∷ (128 * scale) ∷ (128 * scale) ∷ []
-black_times Rgb scale = (16 * scale) ∷ (16 * scale) ∷ (16 * scale) ∷ []
+-- Black of narrow range, where 1 of 8 bits is so much: Y at 16, Cb and Cr at 128, and R, G and B at
+-- 16 of 8 bits (SMPTE ST 2110-20, RANGE)
+abbrev pub black_by : Sampling → ℕ → List ℕ
+black_by Ycc422 one = 16 * one ∷ 128 * one ∷ 128 * one ∷ []
+black_by Ycc444 one = 16 * one ∷ 128 * one ∷ 128 * one ∷ []
+black_by Rgb one = 16 * one ∷ 16 * one ∷ 16 * one ∷ []
 
--- black of a format, a value for each component (ITU-R BT.709, quantization levels)
 abbrev pub black : Format → List ℕ
-black f = black_times f.sampling (2 ^ (bits_of f.depth - 8))
+black f = black_by f.sampling (2 ^ (bits_of f.depth - 8))
 
 -- a text, where there is one, says three values
 abbrev pub SaysFill : Option (Bor (List ℕ)) → Type 0
@@ -58,10 +57,10 @@ HasFill text q = (fill : List ℕ) × IsFillOf text fill q
 abbrev pub LacksFill : Option (Bor (List ℕ)) → Raster → Type 0
 LacksFill text q = (fill : List ℕ) → IsFillOf text fill q → ⊥
 
--- Settled, by what is held where something is, and else by a value for each component
-abbrev pub settled_frame : Option Values → List ℕ → Raster → Values
-settled_frame None fill q = settled_by_fill fill q
-settled_frame (Some p) fill q = settled_over (value_at p) q
+-- a frame settled over what is held, or else by a fill
+abbrev pub settled_with : Option Values → List ℕ → Raster → Values
+settled_with None fill q = settled_by_fill fill q
+settled_with (Some p) fill q = settled_over (value_at p) q
 
 -- a picture is a frame settled: what is held has its format
 pub record SettlesFrame (text : Option (Bor (List ℕ))) (held : Option Values) (q : Raster)
@@ -69,7 +68,7 @@ pub record SettlesFrame (text : Option (Bor (List ℕ))) (held : Option Values) 
   pub fill : List ℕ
   pub fill_is : IsFillOf text fill q
   pub held_is : IsHeldFor held (q ∷ [])
-  pub settled : v ≡ settled_frame held fill q
+  pub settled : v ≡ settled_with held fill q
 
 -- a picture is a frame with its marks
 pub record IsMarkedView (q : Raster) (v : Values) : Type 0 where

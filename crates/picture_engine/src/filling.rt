@@ -2,7 +2,7 @@
 ghost use Rattle.std.specs.Prelude.{◌≡◌, ◌↔◌, ◌∷◌, ◌*◌, ◌-◌, ◌^◌, ◌≤◌, ◌<◌, []};
 ghost use Rattle.std.specs.Prelude.{IfErr, IfOk, IsTrue, OnOk};
 ghost use Rattle.std.specs.List.{AllByRecursion};
-ghost use Rattle.picture_engine.specs.Views.{IsFillOf, LacksFill, black, settled_frame};
+ghost use Rattle.picture_engine.specs.Views.{IsFillOf, LacksFill, black, settled_with};
 ghost use Rattle.receiver_engines.specs.Inputs.{IsFill, IsHeldFor};
 ghost use Rattle.receiver_engines.specs.Refused.{HasNoFill};
 ghost use Rattle.run_outcome.specs.Fault.{Accounts};
@@ -17,7 +17,7 @@ use std::alloc::{AllocError, Allocator};
 
 /// The value of each component that stands for what a frame lacks: black's where there is no text.
 /// A text that says none is refused, and so is a value above the greatest of the frame's depth.
-pub(crate) fn fill_of<A: Allocator>(
+pub(crate) fn fitting_fill<A: Allocator>(
     text: Option<&[u8]>,
     frame: &Frame<A>,
 ) -> Result<[u16; 3], Fault>
@@ -115,7 +115,7 @@ pub(crate) fn settled<A: Allocator + Copy>(
 ) -> Result<Picture<A>, AllocError>
     requires fill { AllByRecursion (FitsDepth frame.now.format) fill }
     requires held { IsHeldFor held.now (frame.now ∷ []) }
-    ensures settled { IfOk result (λ p. p ≡ settled_frame held.now fill frame.now) }
+    ensures settled { IfOk result (λ p. p ≡ settled_with held.now fill frame.now) }
     ensures whole { IfOk result (λ p. IsPicture p) }
 {
     match held {

@@ -9,7 +9,7 @@ ghost use Rattle.run_outcome.specs.Fault.{Accounts, IfRefused, counts};
 ghost use Rattle.run_outcome.specs.Refusing.{OfRefusal};
 ghost use Rattle.st_format.specs.Device.{GrowsPart};
 
-use crate::filling::{check_held, fill_of, settled};
+use crate::filling::{check_held, fitting_fill, settled};
 use form_files::{Form, write_form};
 use frame_assembly::Frame;
 use marked_view::marked_picture;
@@ -71,7 +71,7 @@ pub(crate) fn show_settled<A: Allocator + Copy, K: ByteSink>(
         (λ r. IsSettlingRefusal text.entry form held.now r frame.now)) }
     ensures failures { Accounts result (counts (K.failures sink.old) (K.failures sink.new) ∷ []) }
 {
-    let fill = fill_of(text, frame)?;
+    let fill = fitting_fill(text, frame)?;
     check_held(held, frame)?;
     if !form.holds(frame.format().sampling) {
         return Err(Fault::Refused(Refusal::FrameForm));

@@ -12,15 +12,15 @@ use Rattle.picture_engine.specs.declared.asked.PictureAsked.{PictureAsked}
 use Rattle.picture_engine.specs.declared.asked.View.{View}
 use Rattle.picture_engine.specs.declared.asked.View.TheVariants.{Settled, Marked}
 
--- a form that is named, or else that of a name's ending
-abbrev pub form_or : Option Form → List ℕ → Form
-form_or None name = form_by_ending name
-form_or (Some form) name = form
+-- a form that was named, or else that of a file's name
+abbrev pub form_or_ending : Option Form → List ℕ → Form
+form_or_ending None name = form_by_ending name
+form_or_ending (Some f) name = f
 
--- the form of a file of this name: what the word for it names, or else its ending
+-- the form of a word, where one is given
 abbrev pub form_asked : Option (List ℕ) → List ℕ → Form
 form_asked None name = form_by_ending name
-form_asked (Some word) name = form_or (form_named word) name
+form_asked (Some word) name = form_or_ending (form_named word) name
 
 -- a frame is shown as the words say: with marks, or settled by the values of their text
 abbrev pub IsViewAsked : PictureWords → View → Type 0

@@ -8,7 +8,7 @@ ghost use Rattle.form_files.specs.Form.{form_named};
 ghost use Rattle.picture_engine.specs.Refused.{IsShowRefusal};
 ghost use Rattle.picture_engine.specs.Shown.{ShowsFrame};
 ghost use Rattle.picture_runs.specs.Picturing.{IsAskedBy, IsPictureOf, IsViewAsked, form_asked};
-ghost use Rattle.picture_runs.specs.Picturing.{form_or};
+ghost use Rattle.picture_runs.specs.Picturing.{form_or_ending};
 ghost use Rattle.run_outcome.specs.Fault.{Accounts, IfRefused, counts, failures_in};
 ghost use Rattle.run_outcome.specs.Moments.{WasRead, pair};
 ghost use Rattle.run_outcome.specs.Refusing.{OfRefusal};
@@ -100,7 +100,7 @@ fn form(word: Option<&str>, name: &str) -> Form
 
 /// The form that a word names, or else that of a file's name.
 fn named_form(word: &str, name: &str) -> Form
-    ensures { result ≡ form_or (form_named word.now) name.now }
+    ensures { result ≡ form_or_ending (form_named word.now) name.now }
 {
     match Form::of_word(word.as_bytes()) {
         Some(form) => form,

@@ -27,3 +27,8 @@ returns-clause-is g c =
     fit_fill c.args.text.now fill c.args.frame.now c.in-Some.ensures.is c.in-Some.ensures.values
     (subst (λ (f : Format). AllByRecursion (FitsDepth f) fill) c.format.ensures.format
     (c.fits.ensures.0 c.if-not-fits.false))
+
+pub returns-clause-fits : goal.returns-clause-fits
+returns-clause-fits g c =
+    subst (λ (f : Format). AllByRecursion (FitsDepth f) c.in-Some.fill) c.format.ensures.format
+    (c.fits.ensures.0 c.if-not-fits.false)
