@@ -79,8 +79,8 @@ abbrev pub IsRefusalOfFiles : {S : Type 0} → (List ℕ → Type 0) → (S → 
 IsRefusalOfFiles read told hold text ts form r = OfFiles read told hold text
     (λ s held. IsFrameRefusal ts (IsSettlingRefusal text form held) s r)
 
--- The refusals of a run that settles, in their order: of the fill's text; of the receiver's file; of
--- the held picture's; of the receiver and its frame.
+-- The refusals of a run that settles, in their order: of the fill's text; of the receiver's file;
+-- of the held picture's; of the receiver and its frame.
 abbrev pub IsSettledRefusal : {S : Type 0} → (List ℕ → Type 0) → (S → List ℕ → Type 0) → Option S
     → Option (Bor (List ℕ)) → ℕ → Form → Refusal → Type 0
 IsSettledRefusal read told hold text ts form (refusal.State f) =

@@ -1,5 +1,5 @@
--- What `picture` writes (own). What was read of the receiver's file is told by a predicate, and what
--- was read of the held picture's by another: each holds of any octets that begin with it, and of no
+-- What `picture` writes (own). What was read of the receiver's file is told by a predicate, and so
+-- is what was read of the held picture's: it holds of any octets that begin with that, and of no
 -- others where the source has ended.
 use Rattle.std.specs.Prelude.{◌≡◌, ℕ, List, ◌++◌, ◌⊎◌, Option, Some}
 use Rattle.std.specs.Borrow.{Bor}
