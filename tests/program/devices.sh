@@ -177,3 +177,4 @@ lacking() {
 lacking 'want of memory: report' report one.rcv
 lacking 'want of memory: send' send --max 40 --out dev.cap "$files/four-by-two.pic"
 lacking 'want of memory: merge' merge --state dev.rcv one.rcv one.rcv
+lacking 'want of memory: picture' picture --ts 900 --mark --out dev.pic one.rcv
