@@ -26,7 +26,7 @@ done
 for asked in --help -h help; do
     run $asked
     holds_words "$asked" 'Usage: st2110' trace sdp rehearse migrate send receive merge process report loop \
-        import inspect export follow convert --verbose --quiet --help --version
+        import inspect export follow convert picture --verbose --quiet --help --version
 done
 
 # Of each command the help has every option and file.
@@ -53,6 +53,7 @@ inspect --sdp --format --pt --a --b --json 96 [ADDR:]PORT <RECORDING>...
 export --a ADDR:PORT --b --out --paced --start SECONDS FILE <CAPTURE>
 follow --sdp --a --b --window --ssrc --eager any 8 [ADDR:]PORT <RECORDING>...
 convert --from --as --nth --rate FORM 25/1 <IN> <OUT>
+picture --ts --fill --hold --mark --as FORM y4m ppm raw --out <STATE>
 END
 
 # Words that are refused, and nothing is written: rows are WORDS|TEXT|USAGE, as `misworded` has them.
@@ -180,6 +181,13 @@ convert --nth x p.pic no-words.cap|invalid value 'x' for '--nth <N>': $digit|-
 convert --rate 25:1 no-such-file no-words.cap|invalid value '25:1' for '--rate <N/D>': $rate|-
 convert --rate 0 p.pic p.pic|invalid value '0' for '--rate <N/D>': $rate|-
 convert --rate 301 p.pic no-words.cap|invalid value '301' for '--rate <N/D>': $rate|-
+picture|$missing\n  --ts <TS>\n  --out <FILE>\n  <STATE>|picture --ts <TS> --out <FILE> <STATE>
+picture --ts 900 --out no-words.pic|$missing\n  <STATE>|picture --ts <TS> --out <FILE> <STATE>
+picture --ts 900 g.rcv|$missing\n  --out <FILE>|picture --ts <TS> --out <FILE> <STATE>
+picture --out no-words.pic g.rcv|$missing\n  --ts <TS>|picture --ts <TS> --out <FILE> <STATE>
+picture --ts x --out no-words.pic g.rcv|invalid value 'x' for '--ts <TS>': $digit|-
+picture --ts 900 --as Y4M --out no-words.pic g.rcv|invalid value 'Y4M' for '--as <FORM>'\n  [possible values: picture, y4m, ppm, raw]|-
+picture --ts 900 --out no-words.pic g.rcv g.rcv|unexpected argument 'g.rcv' found|picture [OPTIONS] --ts <TS> --out <FILE> <STATE>
 END
 
 # No command has a version of its own. The usage has what is always needed, and the option that the
@@ -204,6 +212,7 @@ inspect|| <RECORDING>...
 export| --a <ADDR:PORT> --out <FILE>| <CAPTURE>
 follow|| <RECORDING>...
 convert|| <IN> <OUT>
+picture| --ts <TS> --out <FILE>| <STATE>
 END
 run receive --version
 misworded 'refused: receive --version' \
@@ -215,3 +224,4 @@ says 'a word that is no text' 2 '' 'error: the command line is no UTF-8 text'
 none 'refused words write no capture' no-words.cap
 none 'refused words write no receiver' no-words.rcv
 none 'refused words write no recording' no-words.pcap
+none 'refused words write no picture' no-words.pic

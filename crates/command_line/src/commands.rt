@@ -65,13 +65,14 @@ const U64: ValueParser<'static> = ValueParser::Unsigned(0, 18_446_744_073_709_55
 /// The words for the paths of a capture.
 const PATHS: ValueParser<'static> = ValueParser::Names(&["a", "b", "both"]);
 
-/// The words for the forms in which a picture is read, and in which one is written.
+/// The words for the forms in which a picture is read.
 const READ_FORMS: ValueParser<'static> = ValueParser::Names(&["picture", "y4m", "ppm"]);
 
+/// The words for the forms in which a picture is written.
 const FORMS: ValueParser<'static> = ValueParser::Names(&["picture", "y4m", "ppm", "raw"]);
 
 /// How many commands there are.
-const COMMANDS: usize = 15;
+const COMMANDS: usize = 16;
 
 /// The command of a place in the order of the help; `trace` where there is none. (One table of all
 /// takes as long to prove as half of the rest of this crate; arm by arm it takes little.)
@@ -91,6 +92,7 @@ fn nth_command(place: usize) -> Said {
         12 => MIGRATE,
         13 => FOLLOW,
         14 => CONVERT,
+        15 => PICTURE,
         _ => TRACE,
     }
 }
@@ -464,6 +466,56 @@ const PROCESSED: &[Word] = &[
         name: "states",
         usage: Usage::Files("STATE"),
         help: "Receivers' files, one for each picture that the job takes",
+    },
+];
+
+const PICTURE: Said = Said {
+    name: "picture",
+    about: "Writes a frame of a receiver as a picture's file, for other tools and to look at",
+    words: &[PICTURED],
+};
+
+/// The words of `picture`.
+const PICTURED: &[Word] = &[
+    Word {
+        name: "ts",
+        usage: Usage::Number("TS", U32),
+        help: "The timestamp of the frame, in ticks of 90 kHz",
+    },
+    Word {
+        name: "fill",
+        usage: Usage::Optional("A,B,C"),
+        help: "For a sample that is missing or contested, a value of each component: Y, Cb and Cr, \
+            or R, G and B of RGB; without it, black",
+    },
+    Word {
+        name: "hold",
+        usage: Usage::Optional("FILE"),
+        help: "Picture whose values such samples take in place of the fill's",
+    },
+    Word {
+        name: "mark",
+        usage: Usage::Flag,
+        help: "Show a pixel with a missing sample magenta, one with a contested sample red, and \
+            the others as grey by their luma, or as they are of RGB: a picture of RGB, for which \
+            --fill and --hold say nothing",
+    },
+    Word {
+        name: "as",
+        usage: Usage::OptionalOf("FORM", FORMS),
+        help: "The form of what is written: picture, as send reads it; y4m, YUV4MPEG2; ppm, a \
+            portable pixmap; or raw, packed pgroups alone; without it that of FILE's ending, .y4m, \
+            .ppm or .raw, or else picture",
+    },
+    Word {
+        name: "out",
+        usage: Usage::Required("FILE"),
+        help: "Where the picture is written; - is standard output",
+    },
+    Word {
+        name: "state",
+        usage: Usage::File("STATE"),
+        help: "Receiver's file, as receive writes it; - is standard input",
     },
 ];
 

@@ -10,6 +10,6 @@ mod words;
 pub use fault::{BadValue, WordsFault};
 pub use words::{
     ConvertWords, ExportWords, FollowWords, FormatWords, Given, ImportWords, InspectWords,
-    LoopWords, MergeWords, MigrateWords, NamedPaths, ProcessWords, ReceiveWords, SdpWords,
-    SendWords, StampWords, StartWords, Words, WriteWords, given_words, read_words,
+    LoopWords, MergeWords, MigrateWords, NamedPaths, PictureWords, ProcessWords, ReceiveWords,
+    SdpWords, SendWords, StampWords, StartWords, Words, WriteWords, given_words, read_words,
 };

@@ -52,6 +52,8 @@ pub enum Words<'a> {
     Follow(FollowWords<'a>),
     /// Write a picture in another form.
     Convert(ConvertWords<'a>),
+    /// Write a frame of a receiver as a picture's file.
+    Picture(PictureWords<'a>),
 }
 
 /// The words behind `sdp`.
@@ -277,6 +279,24 @@ pub struct ConvertWords<'a> {
     pub out: &'a str,
 }
 
+/// The words behind `picture`.
+#[derive(Clone, Copy)]
+pub struct PictureWords<'a> {
+    /// The timestamp of the frame.
+    pub timestamp: u32,
+    pub fill: Option<&'a str>,
+    /// The held picture's file, where one is named.
+    pub hold: Option<&'a str>,
+    /// Whether what is missing and what is contested is marked.
+    pub is_marked: bool,
+    /// The word for the form of what is written, where one is given.
+    pub form: Option<&'a str>,
+    /// The file that is written.
+    pub out: &'a str,
+    /// The receiver's file.
+    pub state: &'a str,
+}
+
 /// When packets that are paced begin.
 #[derive(Clone, Copy)]
 pub struct StartWords {
@@ -338,6 +358,7 @@ fn plain_words<'a>(name: &str, given: &ArgMatches<'a>) -> Words<'a> {
         "report" => Words::Report(word(given, "state")),
         "loop" => Words::Loop(loop_words(given)),
         "convert" => Words::Convert(convert_words(given)),
+        "picture" => Words::Picture(picture_words(given)),
         // clap lets `trace` through, and nothing else.
         _ => Words::Trace,
     }
@@ -525,6 +546,18 @@ fn convert_words<'a>(given: &ArgMatches<'a>) -> ConvertWords<'a> {
         rate: word(given, "rate"),
         input: word(given, "input"),
         out: word(given, "out"),
+    }
+}
+
+fn picture_words<'a>(given: &ArgMatches<'a>) -> PictureWords<'a> {
+    PictureWords {
+        timestamp: number(given, "ts"),
+        fill: given.get_str("fill"),
+        hold: given.get_str("hold"),
+        is_marked: given.get_flag("mark"),
+        form: given.get_str("as"),
+        out: word(given, "out"),
+        state: word(given, "state"),
     }
 }
 

@@ -2,5 +2,7 @@
 #![tactic(auto)]
 
 mod converting;
+mod picturing;
 
 pub use converting::ConvertCommand;
+pub use picturing::PictureCommand;

@@ -19,6 +19,7 @@ use describing::sdp;
 use exporting::export;
 use importing::import;
 use inspecting::inspect;
+use picture_runs::PictureCommand;
 use receiver_runs::{MergeCommand, ProcessCommand, ReportCommand};
 use receiving::receive;
 use run_outcome::Status;
@@ -75,6 +76,9 @@ fn follow(rt: &HostRuntime, given: &Given<'_>) -> u8 {
         Words::Inspect(words) => inspect(rt, words, explains, given.is_verbose),
         Words::Follow(words) => run_made(rt, explains, FollowCommand::new(rt, words)),
         Words::Convert(words) => convert(rt, words, explains),
+        Words::Picture(words) => {
+            run_command(rt, explains, PictureCommand::new(rt, words)).status
+        }
     }
 }
 
