@@ -14,6 +14,7 @@ mod reading;
 mod reporting;
 mod states;
 
+pub use fill_text::read_fill;
 pub use job_offers::offered_by_job;
 pub use merging::merge;
 pub use merging_all::merge_all;
