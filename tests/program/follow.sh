@@ -200,18 +200,14 @@ refuses_follow 'no SDP' 'receive 4 NoSdp' "$recordings/late-a.pcap"
 refuses_follow 'cut short' 'recording 2 Truncated' --sdp "$recordings/loopback.sdp" "$recordings/cut.pcap"
 # The fill's text is looked at behind the other words, and then the place of the file, before the SDP. Where a record is at
 # fault no file has the name.
-for fill in '' 1,2 1,2,3,4 1,2,x 65536,0,0; do
+for fill in 1,2 1,2,3,4 1,2,x 65536,0,0; do
     refuses_follow "the fill '$fill'" 'follow 1 BadFill' --sdp missing.sdp --fill "$fill" --out late.copy missing.pcap
 done
 refuses_follow 'the window before the fill' 'open 2 BadWindow' --window 0 --fill 1,2 missing.pcap
 cp "$recordings/late-a.pcap" late.copy
-ln -s late.copy late.link
-for out in late.copy late.link; do
-    refuses_follow "$out is read" 'follow 2 OutputIsInput' --sdp missing.sdp --out $out late.copy
-    alike "follow: $out is as it was" late.copy "$recordings/late-a.pcap"
-done
+refuses_follow 'the output before the SDP' 'follow 2 OutputIsInput' --sdp missing.sdp --out late.copy late.copy
 refuses_follow 'the fill before the output' 'follow 1 BadFill' --fill 1,2 --out late.copy late.copy
-rm late.copy late.link
+rm late.copy
 refuses_follow 'cut short, with pictures' 'recording 2 Truncated' --sdp "$recordings/loopback.sdp" --out cut.y4m \
     "$recordings/cut.pcap"
 none 'follow: no file of pictures has the name' cut.y4m

@@ -69,6 +69,8 @@ input 'process 5' p.pic process --job key --ts 900 --fill 16,128,128 --hold p.pi
 input 'import 5' alike.pcap import --sdp alike.sdp --out OUT alike.pcap
 input 'import 5' alike.sdp import --sdp alike.sdp --out OUT alike.pcap
 input 'import 5' a.cap import --sdp alike.sdp --out OUT alike.pcap a.cap
+input 'follow 2' alike.pcap follow --sdp alike.sdp --out OUT alike.pcap
+input 'follow 2' alike.sdp follow --sdp alike.sdp --out OUT alike.pcap
 input 'export 2' sent.cap export --a 239.1.1.1:5004 --out OUT sent.cap
 "$program" receive --window 900 --state a.cap - <a.cap >out 2>err
 status=$?
