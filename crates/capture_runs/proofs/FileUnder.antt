@@ -4,7 +4,7 @@ use Rattle.std.proofs.Common.{ap, append-nil, append_assoc, refl, subst, sym}
 use Rattle.capture_runs.specs.Followed.{FollowsFiles, IsListed}
 use Rattle.capture_runs.specs.Pictured.{IsSinkOver, SameFile, TakesPictures, file_under}
 use Rattle.capture_runs.specs.Replayed.{replayed_ended, replayed_gave}
-use Rattle.capture_runs.specs.declared.pictured.UnplacedOutput.{UnplacedOutput}
+use Rattle.capture_runs.specs.declared.unplaced.UnplacedOutput.{UnplacedOutput}
 use Rattle.capture_runs.specs.declared.replayed.Replayed.{Replayed}
 use Rattle.devices.specs.Passed.{file_took, writing_failures}
 use Rattle.devices.specs.declared.file_output.FileOutput.{FileOutput}

@@ -1,7 +1,7 @@
 -- The file that `follow` writes pictures to, where one is named (own).
 use Rattle.std.specs.Prelude.{◌≡◌, ℕ, ◌<◌, ⊤, slice_index, List, ◌++◌, Option, None, Some}
 use Rattle.std.specs.Prelude.{option_map}
-use Rattle.capture_runs.specs.declared.pictured.UnplacedOutput.{UnplacedOutput}
+use Rattle.capture_runs.specs.declared.unplaced.UnplacedOutput.{UnplacedOutput}
 use Rattle.devices.specs.Passed.{file_took, writing_failures}
 use Rattle.devices.specs.declared.file_output.FileOutput.{FileOutput}
 use Rattle.following.specs.Following.{Handed}

@@ -15,6 +15,7 @@ mod replayed;
 mod replaying;
 mod room;
 mod sending;
+mod unplaced;
 mod window;
 
 pub use aim::{Aim, Inspected};
@@ -24,8 +25,8 @@ pub use inspecting::{InspectAsked, InspectCommand};
 pub use looping::LoopCommand;
 pub use migrating::MigrateCommand;
 pub use opening::Files;
-pub use pictured::UnplacedOutput;
 pub use receiving::ReceiveCommand;
 pub use replayed::{Keeping, Replayed};
 pub use sending::SendCommand;
+pub use unplaced::UnplacedOutput;
 pub use window::Found;

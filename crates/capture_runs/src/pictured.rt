@@ -1,40 +1,19 @@
 //! The file that `follow` writes pictures to, where one is named.
-ghost use Rattle.std.specs.Prelude.{◌≡◌, ◌⊎◌, ◌∷◌, [], ⊤, IfErr, IfOk, IfSome, IsErr, IsFalse, IsTrue};
-ghost use Rattle.std.specs.Prelude.{OnOk, None, length, option_map};
+ghost use Rattle.std.specs.Prelude.{◌≡◌, [], IfErr, IfOk, IfSome, IsFalse, IsTrue, OnOk};
 ghost use Rattle.std.specs.Option.{option_copied};
 ghost use Rattle.capture_runs.specs.Pictured.{IsFillGiven, IsFillRefusal, IsSinkOver, SameFile};
 ghost use Rattle.capture_runs.specs.Pictured.{file_under};
-ghost use Rattle.devices.specs.Passed.{IsInPlace, IsUnplaced, file_took, writing_failures};
-ghost use Rattle.run_outcome.specs.Fault.{Accounts, counts, failures_in};
+ghost use Rattle.devices.specs.Passed.{IsInPlace, IsUnplaced, file_took};
 ghost use Rattle.run_outcome.specs.Refusing.{OfRefusal};
 ghost use Rattle.run_outcome.specs.declared.refusal.Refusal.TheVariants.{OutputIsInput};
 ghost use Rattle.run_outcome.specs.declared.refusal.Writer.TheVariants.{Follow};
 
+use crate::unplaced::UnplacedOutput;
 use command_end::find_output;
 use devices::{FileOutput, Rest, Writing};
 use frame_sinks::{Filling, FormSink};
 use receiver_engines::read_fill;
 use run_outcome::{Fault, Refusal, Writer};
-use st_format::{ByteSink, DeviceFault};
-
-/// A file that is written, and has not its name yet.
-#[derive(Drop)]
-pub struct UnplacedOutput<'a> {
-    pub file: FileOutput<'a>,
-    pub ghost unplaced: { IsUnplaced file },
-}
-
-impl ByteSink for UnplacedOutput<'_> {
-    ghost held = { λ _. None };
-
-    ghost took = { λ s. file_took s.file };
-
-    ghost failures = { λ s. writing_failures s.file };
-
-    fn write(&mut self, octets: &[u8]) -> Result<usize, DeviceFault> {
-        self.file.sink.write(octets)
-    }
-}
 
 /// The file of this name, where one is named, which isn't looked at yet. A part of it is of use, and
 /// stays.

@@ -1,5 +1,6 @@
 -- Values of a fill fit the depth.
-use Rattle.std.proofs.Common.{◌≡◌, ℕ, ◌-◌, ◌<◌, ◌≤◌, ◌∷◌, [], arith, min, slice_index, List}
+use Rattle.std.proofs.Common.{ℕ, ◌<◌, List, arith}
+use Rattle.std.specs.Prelude.{min, slice_index}
 use Rattle.std.proofs.Math.Nat.{min-le_right}
 use Rattle.std.specs.List.{AllByRecursion}
 use Rattle.frame_sinks.specs.Fills.{limited_fill}

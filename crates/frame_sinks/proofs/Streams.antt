@@ -21,7 +21,7 @@ use Rattle.st_format.specs.Fields.{fields_of, same_fields}
 use Rattle.st_format.specs.Picture.{Values}
 
 -- the stream of the pictures of frames, by all that they go by
-rest_of : List Handed → Option Format → Filling → Option (List ℕ) → Option Values → List ℕ
+abbrev rest_of : List Handed → Option Format → Filling → Option (List ℕ) → Option Values → List ℕ
 rest_of hs begun filling fill held = form_stream begun (pictures_of filling fill held hs)
 
 -- of a sink that took a frame
@@ -30,7 +30,6 @@ behind_one : {K A : Type 0} (took : K → List ℕ) (k m : FormSink K A) (h : Ha
     → rest_of hs m.format m.filling m.fill m.held
     ≡ rest_of hs (Some h.frame.format) k.filling k.fill
     (held_by k.filling (picture_of k.fill k.held h.frame))
-unfolding rest_of
 behind_one took k m h hs is =
     ap (λ (x : Option Format). rest_of hs x m.filling m.fill m.held) is.format
     ∙ ap (λ (x : Filling). rest_of hs (Some h.frame.format) x m.fill m.held) is.filling
@@ -41,7 +40,6 @@ pub all_written : {K A : Type 0} (took : K → List ℕ) (k l : FormSink K A) (h
     → TakesAll (TakesFrame took) k hs l
     → took l.sink ≡ took k.sink
     ++ form_stream k.format (pictures_of k.filling k.fill k.held hs)
-unfolding rest_of
 all_written took k l [] is =
     ap (λ (m : FormSink _ _). took m.sink) is ∙ sym (append-nil (took k.sink))
 all_written took k l (h ∷ hs) is =

@@ -1,5 +1,5 @@
 -- Frames as pictures, one behind the other, and the stream of these (own).
-use Rattle.std.specs.Prelude.{◌≡◌, ℕ, Bool, false, if◌then◌else◌, List, [], ◌∷◌, ◌++◌}
+use Rattle.std.specs.Prelude.{ℕ, Bool, false, if◌then◌else◌, List, [], ◌∷◌, ◌++◌}
 use Rattle.std.specs.Prelude.{Option, None, Some}
 use Rattle.following.specs.Following.{Handed}
 use Rattle.frame_sinks.specs.Fills.{fill_of}

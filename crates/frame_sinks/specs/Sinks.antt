@@ -1,5 +1,5 @@
 -- What a sink of pictures does with a frame.
-use Rattle.std.specs.Prelude.{◌≡◌, ℕ, List, ◌++◌, Option, Some}
+use Rattle.std.specs.Prelude.{◌≡◌, ℕ, List, ◌++◌, Some}
 use Rattle.following.specs.Following.{Handed}
 use Rattle.frame_sinks.specs.Pictures.{head_for, held_by, picture_of}
 use Rattle.frame_sinks.specs.declared.form_sink.FormSink.{FormSink}
