@@ -1,8 +1,11 @@
 -- The file below a sink of pictures.
-use Rattle.std.proofs.Common.{◌≡◌, ◌∙◌, ℕ, List, [], ◌∷◌, ◌++◌, Option, None, Some, Result}
+use Rattle.std.proofs.Common.{◌≡◌, ◌∙◌, ℕ, List, [], ◌∷◌, ◌++◌, Option, None, Some}
+use Rattle.std.proofs.Common.{Result, Ok, Err}
+use Rattle.std.specs.Prelude.{IfOk, MatchResult}
 use Rattle.std.proofs.Common.{ap, append-nil, append_assoc, refl, subst, sym}
 use Rattle.capture_runs.specs.Followed.{FollowsFiles, IsListed}
-use Rattle.capture_runs.specs.Pictured.{IsSinkOver, SameFile, TakesPictures, file_under}
+use Rattle.capture_runs.specs.Pictured.{IsSinkOver, SameFile, TakesPictures, failures_under}
+use Rattle.capture_runs.specs.Pictured.{file_under, octets_under}
 use Rattle.capture_runs.specs.Replayed.{replayed_ended, replayed_gave}
 use Rattle.capture_runs.specs.declared.unplaced.UnplacedOutput.{UnplacedOutput}
 use Rattle.capture_runs.specs.declared.replayed.Replayed.{Replayed}
@@ -21,7 +24,9 @@ use Rattle.frame_sinks.specs.Sinks.{TakesFrame}
 use Rattle.frame_sinks.specs.declared.filling.Filling.{Filling}
 use Rattle.frame_sinks.specs.declared.form_sink.FormSink.{FormSink}
 use Rattle.frame_sinks.proofs.Streams.{all_written}
-use Rattle.run_outcome.specs.Fault.{failures_in}
+use Rattle.run_outcome.specs.Fault.{Accounts, counts, failures_in}
+use Rattle.run_outcome.specs.declared.fault.Fault.{Fault}
+use Rattle.run_outcome.specs.declared.fault.Fault.TheVariants.{Refused}
 use Rattle.run_outcome.specs.declared.refusal.Refusal.{Refusal}
 use Rattle.side_by_side.specs.declared.side.Side.{Side}
 use Rattle.st_format.specs.declared.format.Format.{Format}
@@ -57,9 +62,6 @@ some_took takes k l (h ∷ hs) is =
     some_step takes k h l hs is.0 is.1 is.2 (λ m. some_took takes m l hs)
 
 -- ---- what the file took
-
-abbrev pub octets_under : UnplacedOutput → List ℕ
-octets_under s = file_took s.file
 
 sink_wrote : {A : Type 0} (filling : Filling) (fill : Option (List ℕ)) (f : FileOutput)
     (k m : FormSink UnplacedOutput A) (hs : List Handed)
@@ -133,9 +135,6 @@ follows_files w sdp ways files filling fill out k l took took' totals over is =
 
 -- ---- how often it failed
 
-abbrev pub failures_under : {A : Type 0} → FormSink UnplacedOutput A → ℕ
-failures_under k = writing_failures k.sink.file
-
 pub failed_before : {A : Type 0} (filling : Filling) (fill : Option (List ℕ))
     (out : Option FileOutput) (k : Option (FormSink UnplacedOutput A))
     → IsSinkOver filling fill out k
@@ -148,6 +147,14 @@ pub failed_after : {A : Type 0} (l : Option (FormSink UnplacedOutput A))
     → failures_in failures_under l ≡ failures_in writing_failures (file_under l)
 failed_after None = refl
 failed_after (Some l) = refl
+
+-- the same of what a run came to
+pub accounts_file : {V : Type 0} (r : Result V Fault) (a a' b b' m m' c c' : ℕ) → b ≡ m → b' ≡ m'
+    → Accounts r (counts a a' ∷ counts b b' ∷ counts c c' ∷ [])
+    → Accounts r (counts a a' ∷ counts m m' ∷ counts c c' ∷ [])
+accounts_file r a a' b b' m m' c c' before after is =
+    subst (λ (x : ℕ). Accounts r (counts a a' ∷ counts m x ∷ counts c c' ∷ [])) after
+    (subst (λ (x : ℕ). Accounts r (counts a a' ∷ counts x b' ∷ counts c c' ∷ [])) before is)
 
 -- ---- a file that is settled
 
@@ -177,3 +184,37 @@ settled_follows w sdp ways files filling fill out mid new took took' is same = r
   follows = is.follows;
   written = settled_pictures filling fill is.frames out mid new is.written same;
 }
+
+-- ---- a run that is settled
+
+pub done_settled : {A : Type 0} (opened : Result (Option (List ℕ)) Fault) (w : FollowAsked)
+    (sdp : Option (List ℕ)) (ways : List (Result Flows Refusal))
+    (files : List (Side A Replayed × Side A Replayed)) (filling : Filling)
+    (out mid new : Option FileOutput) (took took' : List ℕ) → SameFile mid new
+    → IfOk opened (λ fill. FollowsFiles w sdp ways files filling fill out mid took took')
+    → IfOk opened (λ fill. FollowsFiles w sdp ways files filling fill out new took took')
+done_settled (Ok fill) w sdp ways files filling out mid new took took' same is =
+    settled_follows w sdp ways files filling fill out mid new took took' is same
+done_settled (Err f) w sdp ways files filling out mid new took took' same is = tt
+
+pub refused_settled : {V : Type 0} (opened : Result V Fault) (P Q : Type 0) (r : Refusal)
+    (old mid new : Option FileOutput) → SameFile mid new
+    → MatchResult opened (λ _. P) (λ g. (g ≡ Refused r) × (mid ≡ old) × Q)
+    → MatchResult opened (λ _. P) (λ g. (g ≡ Refused r) × SameFile old new × Q)
+refused_settled (Ok v) P Q r old mid new same is = is
+refused_settled (Err g) P Q r old mid new same is =
+    (is.0, subst (λ (x : Option FileOutput). SameFile x new) is.1 same, is.2)
+
+pub owed_settled : {V W : Type 0} (opened : Result V Fault) (o : Result W Fault) (a a' c c' : ℕ)
+    (out mid new : Option FileOutput) → SameFile mid new
+    → MatchResult opened (λ _. Accounts o (counts a a'
+    ∷ counts (failures_in writing_failures out) (failures_in writing_failures mid)
+    ∷ counts c c' ∷ [])) (λ f. o ≡ Err f)
+    → MatchResult opened (λ _. Accounts o (counts a a'
+    ∷ counts (failures_in writing_failures out) (failures_in writing_failures new)
+    ∷ counts c c' ∷ [])) (λ f. o ≡ Err f)
+owed_settled (Ok v) o a a' c c' out mid new same is =
+    accounts_file o a a' (failures_in writing_failures out) (failures_in writing_failures mid)
+    (failures_in writing_failures out) (failures_in writing_failures new) c c' refl
+    (sym (settled_failures mid new same)) is
+owed_settled (Err f) o a a' c c' out mid new same is = is

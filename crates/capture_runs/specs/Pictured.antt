@@ -45,6 +45,13 @@ IsSinkOver filling fill (Some f) (Some k) = (k.sink.file ≡ f) × (k.filling �
 abbrev pub file_under : {A : Type 0} → Option (FormSink UnplacedOutput A) → Option FileOutput
 file_under pictures = option_map (λ k. k.sink.file) pictures
 
+-- what it took, and how often that failed
+abbrev pub octets_under : UnplacedOutput → List ℕ
+octets_under s = file_took s.file
+
+abbrev pub failures_under : {A : Type 0} → FormSink UnplacedOutput A → ℕ
+failures_under k = writing_failures k.sink.file
+
 -- a file took nothing more, and failed no more
 abbrev pub SameFile : Option FileOutput → Option FileOutput → Type 0
 SameFile None g = g ≡ None

@@ -5,12 +5,16 @@ ghost use Rattle.std.specs.List.{zip};
 ghost use Rattle.std.specs.Option.{option_copied};
 ghost use Rattle.capture_runs.specs.Followed.{AreNewSides, FollowsFiles, IsFollowOpening};
 ghost use Rattle.capture_runs.specs.Opened.{AreUnread, said_text};
-ghost use Rattle.capture_runs.specs.Pictured.{IsFillGiven, SameFile};
+ghost use Rattle.capture_runs.specs.Pictured.{IsFillGiven, SameFile, failures_under, octets_under};
 ghost use Rattle.capture_runs.specs.Replayed.{replayed_ended, replayed_failures, replayed_gave};
 ghost use Rattle.devices.specs.Passed.{IsInPlace, IsUnplaced, file_took, output_failures};
 ghost use Rattle.devices.specs.Passed.{output_took, writing_failures};
+ghost use Rattle.follow_engine.specs.Followed.{FollowsWhole};
 ghost use Rattle.follow_engine.specs.Refused.{IsFollowRefusal};
+ghost use Rattle.follow_engine.specs.Shown.{TakesIn};
 ghost use Rattle.follow_engine.specs.Sides.{SideRead};
+ghost use Rattle.follow_engine.specs.declared.telling.FollowTotals.{FollowTotals};
+ghost use Rattle.frame_sinks.specs.Sinks.{TakesFrame};
 ghost use Rattle.recording_engines.specs.Ways.{AreWaysBy};
 ghost use Rattle.run_outcome.specs.Fault.{Accounts, counts, failures_in};
 ghost use Rattle.run_outcome.specs.Refusing.{OfRefusal};
@@ -21,11 +25,12 @@ use crate::opening::{Files, is_read, text_of};
 use crate::pictured::{file_of, fill_said, find_place, named_output, settle, sink_over, writing};
 use crate::receiving::octets;
 use crate::replayed::Replayed;
+use crate::unplaced::UnplacedOutput;
 use command_end::{Command, Devices, Hints, Ran};
 use command_line::FollowWords;
 use devices::{FileOutput, OutputSink, Reading, Stream};
 use follow_engine::{FollowAsked, check_words, follow_files};
-use frame_sinks::Filling;
+use frame_sinks::{Filling, FormSink};
 use recording_engines::Importing;
 use run_outcome::Fault;
 use side_by_side::Side;
@@ -97,6 +102,48 @@ impl<'a> FollowCommand<'a> {
             is_input,
             output: OutputSink::beside(rt, words.out.unwrap_or("")),
         })
+    }
+}
+
+impl FollowCommand<'_> {
+    /// Follows, where nothing is refused yet.
+    fn follow_opened(&mut self) -> Result<(), Fault>
+        requires new { AreNewSides self.old.sides.items }
+        requires unplaced { IfSome self.old.out (λ f. IsUnplaced f) }
+        ensures done { OnOk result (IfOk self.old.opened (λ values. FollowsFiles self.old.asked
+            (said_text self.old.files.said) self.old.files.ways.items
+            (zip self.old.sides.items self.new.sides.items) self.old.filling values
+            self.old.out self.new.out
+            (output_took self.old.output) (output_took self.new.output))) }
+        ensures unplaced { IfSome self.new.out (λ f. IsUnplaced f) }
+        ensures refusal { IfErr result (λ f. OfRefusal f (λ r. MatchResult self.old.opened
+            (λ _. IsFollowRefusal self.old.asked.frames self.old.asked.ssrc.now
+            (said_text self.old.files.said) self.old.files.ways.items
+            (SideRead replayed_gave replayed_ended)
+            (zip self.old.sides.items self.new.sides.items) r)
+            (λ g. (g ≡ Refused r) × (self.new.out ≡ self.old.out)
+            × (output_took self.new.output ≡ output_took self.old.output)))) }
+        ensures owed { MatchResult self.old.opened (λ _. Accounts result
+            (counts (failures_each replayed_failures self.old.sides.items)
+            (failures_each replayed_failures self.new.sides.items)
+            ∷ counts (failures_in writing_failures self.old.out)
+            (failures_in writing_failures self.new.out)
+            ∷ counts (output_failures self.old.output) (output_failures self.new.output) ∷ []))
+            (λ f. result ≡ Err f) }
+    {
+        match self.opened {
+            Ok(values) => follow_into(
+                self.rt,
+                self.asked,
+                self.filling,
+                values,
+                &mut self.files,
+                &mut self.sides,
+                &mut self.out,
+                &mut self.output,
+            ),
+            Err(fault) => Err(fault),
+        }
     }
 }
 
@@ -175,7 +222,7 @@ fn open<'a>(
 }
 
 /// Follows, and writes the pictures where there is a file for them.
-fn follow<'a>(
+fn follow_into<'a>(
     rt: &HostRuntime,
     asked: FollowAsked<'_>,
     filling: Filling,
@@ -199,22 +246,47 @@ fn follow<'a>(
         ∷ counts (failures_in writing_failures out.old) (failures_in writing_failures out.new)
         ∷ counts (output_failures output.old) (output_failures output.new) ∷ []) }
 {
-    let mut pictures = sink_over(rt, filling, fill, mem::replace(out, None));
-    let followed = follow_files(
+    let file = mem::replace(out, None);
+    let mut pictures = sink_over(rt, filling, fill, file);
+    let followed = follow(rt, asked, files, sides, &mut pictures, output);
+    *out = file_of(pictures);
+    followed
+}
+
+/// Follows, and shows the frames to a sink of pictures, where there is one.
+fn follow(
+    rt: &HostRuntime,
+    asked: FollowAsked<'_>,
+    files: &mut Files<'_>,
+    sides: &mut Vec<FollowFile<'_>>,
+    pictures: &mut Option<FormSink<UnplacedOutput<'_>>>,
+    output: &mut OutputSink<Stream>,
+) -> Result<(), Fault>
+    requires { AreNewSides sides.old.items }
+    ensures followed { OnOk result ((totals : FollowTotals) × FollowsWhole asked.entry
+        (said_text files.old.said) files.old.ways.items (SideRead replayed_gave replayed_ended)
+        (zip sides.old.items sides.new.items) (TakesIn (TakesFrame octets_under))
+        pictures.old pictures.new (output_took output.old) (output_took output.new) totals) }
+    ensures refusal { IfErr result (λ f. OfRefusal f (IsFollowRefusal asked.entry.frames
+        asked.entry.ssrc.now (said_text files.old.said) files.old.ways.items
+        (SideRead replayed_gave replayed_ended) (zip sides.old.items sides.new.items))) }
+    ensures owed { Accounts result (counts (failures_each replayed_failures sides.old.items)
+        (failures_each replayed_failures sides.new.items)
+        ∷ counts (failures_in failures_under pictures.old)
+        (failures_in failures_under pictures.new)
+        ∷ counts (output_failures output.old) (output_failures output.new) ∷ []) }
+{
+    follow_files(
         rt.alloc(),
         asked,
         text_of(&files.said),
         sides,
         files.ways.as_slice(),
         files.seen.as_mut_slice(),
-        &mut pictures,
+        pictures,
         output,
-    );
-    *out = file_of(pictures);
-    match followed {
-        Ok(_) => Ok(()),
-        Err(fault) => Err(fault),
-    }
+    )?;
+    Ok(())
 }
 
 /// Where the reading of the last of these files stands that was begun, if one was.
@@ -274,19 +346,7 @@ impl<'a> Command for FollowCommand<'a> {
         (λ f. outcome ≡ Err f) };
 
     fn run(&mut self) -> Ran {
-        let outcome = match self.opened {
-            Ok(values) => follow(
-                self.rt,
-                self.asked,
-                self.filling,
-                values,
-                &mut self.files,
-                &mut self.sides,
-                &mut self.out,
-                &mut self.output,
-            ),
-            Err(fault) => Err(fault),
-        };
+        let outcome = self.follow_opened();
         Ran {
             outcome,
             is_whole: settle(&mut self.out, outcome.is_ok()),
