@@ -10,6 +10,7 @@ use Rattle.capture_runs.specs.Replayed.{replayed_ended, replayed_gave}
 use Rattle.capture_runs.specs.declared.unplaced.UnplacedOutput.{UnplacedOutput}
 use Rattle.capture_runs.specs.declared.replayed.Replayed.{Replayed}
 use Rattle.devices.specs.Passed.{file_took, writing_failures}
+use Rattle.devices.specs.Written.{took_in}
 use Rattle.devices.specs.declared.file_output.FileOutput.{FileOutput}
 use Rattle.flow.specs.declared.flows.Flows.{Flows}
 use Rattle.follow_engine.specs.Events.{frames_of_events}
@@ -63,13 +64,19 @@ some_took takes k l (h ∷ hs) is =
 
 -- ---- what the file took
 
+-- where it has not its name yet, that is what went to it
+took_unplaced : (s : UnplacedOutput) → file_took s.file ≡ octets_under s
+took_unplaced s = ap (λ (p : _). took_in p s.file.sink.progress) s.unplaced
+
 sink_wrote : {A : Type 0} (filling : Filling) (fill : Option (List ℕ)) (f : FileOutput)
     (k m : FormSink UnplacedOutput A) (hs : List Handed)
     → IsSinkOver filling fill (Some f) (Some k) → TakesAll (TakesFrame octets_under) k hs m
     → file_took m.sink.file
     ≡ file_took f ++ form_stream None (pictures_of filling fill None hs)
 sink_wrote filling fill f k m hs is all =
-    all_written octets_under k m hs all
+    took_unplaced m.sink ∙ all_written octets_under k m hs all
+    ∙ ap (λ (t : List ℕ). t ++ form_stream k.format (pictures_of k.filling k.fill k.held hs))
+    (sym (took_unplaced k.sink))
     ∙ ap (λ (x : FileOutput). file_took x
     ++ form_stream k.format (pictures_of k.filling k.fill k.held hs)) is.0
     ∙ ap (λ (x : Filling). file_took f ++ form_stream k.format (pictures_of x k.fill k.held hs))

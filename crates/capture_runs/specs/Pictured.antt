@@ -2,7 +2,7 @@
 use Rattle.std.specs.Prelude.{◌≡◌, ℕ, ◌<◌, ⊤, slice_index, List, ◌++◌, Option, None, Some}
 use Rattle.std.specs.Prelude.{option_map}
 use Rattle.capture_runs.specs.declared.unplaced.UnplacedOutput.{UnplacedOutput}
-use Rattle.devices.specs.Passed.{file_took, writing_failures}
+use Rattle.devices.specs.Passed.{file_took, sink_took, writing_failures}
 use Rattle.devices.specs.declared.file_output.FileOutput.{FileOutput}
 use Rattle.following.specs.Following.{Handed}
 use Rattle.frame_sinks.specs.Pictures.{form_stream, pictures_of}
@@ -47,7 +47,7 @@ file_under pictures = option_map (λ k. k.sink.file) pictures
 
 -- what it took, and how often that failed
 abbrev pub octets_under : UnplacedOutput → List ℕ
-octets_under s = file_took s.file
+octets_under s = sink_took s.file.sink
 
 abbrev pub failures_under : {A : Type 0} → FormSink UnplacedOutput A → ℕ
 failures_under k = writing_failures k.sink.file

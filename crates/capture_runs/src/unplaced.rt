@@ -1,6 +1,6 @@
 //! A file that is written under another name than its own.
 ghost use Rattle.std.specs.Prelude.{None};
-ghost use Rattle.devices.specs.Passed.{IsUnplaced, file_took, writing_failures};
+ghost use Rattle.devices.specs.Passed.{IsUnplaced, sink_took, writing_failures};
 
 use devices::FileOutput;
 use st_format::{ByteSink, DeviceFault};
@@ -15,7 +15,7 @@ pub struct UnplacedOutput<'a> {
 impl ByteSink for UnplacedOutput<'_> {
     ghost held = { λ _. None };
 
-    ghost took = { λ s. file_took s.file };
+    ghost took = { λ s. sink_took s.file.sink };
 
     ghost failures = { λ s. writing_failures s.file };
 

@@ -17,6 +17,9 @@ use Rattle.run_outcome.specs.Fault.{failures_in}
 use Rattle.side_by_side.specs.Sides.{failures_each}
 use Rattle.capture_runs.proofs.followed.follow_into.Goals as goal
 
+pub sink_over-pictures-requires : goal.sink_over-pictures-requires
+sink_over-pictures-requires c = rw c.replace-file.ensures.value c.requires.unplaced
+
 pub returns-clause-followed : goal.returns-clause-followed
 returns-clause-followed c =
     let w = c.args.asked in
