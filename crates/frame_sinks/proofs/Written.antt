@@ -11,7 +11,7 @@ use Rattle.frame_sinks.specs.declared.form_sink.FormSink.{FormSink}
 use Rattle.picture_forms.specs.Faults.{CountsFault, IsDevice}
 use Rattle.picture_forms.specs.declared.fault.FormFault.{FormFault}
 use Rattle.picture_forms.specs.declared.fault.FormFault.TheVariants as form
-use Rattle.receiver_engines.specs.Inputs.{settled_over}
+use Rattle.receiver_engines.specs.Inputs.{settled_by_fill, settled_over}
 use Rattle.run_outcome.proofs.Blaming.{failed_one}
 use Rattle.settled_forms.specs.Settled.{form_text}
 use Rattle.st_format.specs.declared.format.Format.{Format}
@@ -51,6 +51,12 @@ picture_unheld fill p q b is so =
     sym (ap (λ (h : Option Values). settled_with h (fill_of fill q.format) q)
     (cond-false (same_fields (fields_of p.format) (fields_of q.format)) (Some p) None
     (sym is ∙ so)))
+
+pub picture_filled : (fill : Option (List ℕ)) (values : List ℕ) (q : Raster) (f : Format)
+    → values ≡ fill_of fill f → f ≡ q.format → settled_by_fill values q ≡ picture_of fill None q
+unfolding picture_of
+picture_filled fill values q f is same =
+    ap (λ (v : List ℕ). settled_by_fill v q) (is ∙ ap (λ (g : Format). fill_of fill g) same)
 
 -- its format is the frame's
 settled_format : (held : Option Values) (fill : List ℕ) (q : Raster)

@@ -1,9 +1,11 @@
 //! Writing a frame as a picture of a stream.
-ghost use Rattle.std.specs.Prelude.{◌≡◌, ◌++◌, ◌∷◌, [], None, Some, IfErr, OnOk, length};
+ghost use Rattle.std.specs.Prelude.{◌≡◌, ◌++◌, ◌∷◌, [], None, Some, IfErr, IsTrue, OnOk, length};
 ghost use Rattle.frame_assembly.specs.Settled.{IsBaseOf, settled_picture};
 ghost use Rattle.frame_sinks.specs.Pictures.{form_head, head_for, is_of, picture_of};
+ghost use Rattle.picture_forms.specs.Layouts.{IsYcc, y4m_head};
 ghost use Rattle.run_outcome.specs.Fault.{Accounts, IfRefused, counts};
 ghost use Rattle.settled_forms.specs.Settled.{form_text};
+ghost use Rattle.st_format.specs.Fields.{fields_of, same_fields};
 ghost use Rattle.st_format.specs.Picture.{IsPicture};
 ghost use Rattle.st_format.specs.Position.{sample_count};
 
@@ -76,11 +78,21 @@ fn write_form_head<K: ByteSink>(sink: &mut K, format: &Format) -> Result<(), Fau
     ensures failures { Accounts result (counts (K.failures sink.old) (K.failures sink.new) ∷ []) }
 {
     match format.sampling() {
-        Sampling::Ycc422 | Sampling::Ycc444 => match write_y4m_head(sink, format) {
-            Ok(()) => Ok(()),
-            Err(_) => Err(Fault::Device),
-        },
+        Sampling::Ycc422 | Sampling::Ycc444 => write_line(sink, format),
         Sampling::Rgb => Ok(()),
+    }
+}
+
+/// Writes the line of a YUV4MPEG2 stream of this format, which is YCbCr.
+fn write_line<K: ByteSink>(sink: &mut K, format: &Format) -> Result<(), Fault>
+    requires { IsYcc format.now.sampling }
+    ensures written { OnOk result (K.took sink.new ≡ K.took sink.old ++ y4m_head format.now) }
+    ensures unrefused { IfErr result (λ f. IfRefused f ⊥) }
+    ensures failures { Accounts result (counts (K.failures sink.old) (K.failures sink.new) ∷ []) }
+{
+    match write_y4m_head(sink, format) {
+        Ok(()) => Ok(()),
+        Err(_) => Err(Fault::Device),
     }
 }
 
@@ -122,11 +134,19 @@ fn write_held<A: Allocator, B: Allocator, K: ByteSink>(
     ensures unrefused { IfErr result (λ f. IfRefused f ⊥) }
     ensures failures { Accounts result (counts (K.failures sink.old) (K.failures sink.new) ∷ []) }
 {
-    if picture.format().same(&frame.format()) {
+    if has_format(picture, frame) {
         write_over(sink, frame, Base::Hold(picture), samples)
     } else {
         write_filled(sink, frame, fill, samples)
     }
+}
+
+/// Whether a picture has the format of a frame.
+fn has_format<A: Allocator, B: Allocator>(picture: &Picture<B>, frame: &Frame<A>) -> bool
+    ensures is { result ≡ same_fields (fields_of picture.now.format) (fields_of frame.now.format) }
+    ensures same { IsTrue result → picture.now.format ≡ frame.now.format }
+{
+    picture.format().same(&frame.format())
 }
 
 /// The same by the fill.
