@@ -210,7 +210,8 @@ impl<'a> Command for ReceiveCommand<'a> {
     // recordings that were read, of these by their flows; what is printed counts those, and so does
     // what is kept. The window is that of the words, or, where they ask for the first timestamps,
     // of these, and the flows are those of the words or the SDP, as `is_new` says.
-    ghost does = { λ old new. ReceivesFiles (window_text old.files.found old.asked.wanted.window.now)
+    ghost does = { λ old new. ReceivesFiles
+        (window_text old.files.found old.asked.wanted.window.now)
         old.asked.wanted.ssrc.now (said_text old.files.said) old.files.ways.items ReplayedRead
         (zip old.files.recordings.items new.files.recordings.items)
         old.asked.wanted.tells_refusals (output_took old.output) (output_took new.output)

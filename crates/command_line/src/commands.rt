@@ -166,8 +166,8 @@ const INSPECT: Said = Said {
 
 const EXPORT: Said = Said {
     name: "export",
-    about: "Writes a capture's datagrams as a recording for other tools, a file of pcap, and prints \
-        how many",
+    about: "Writes a capture's datagrams as a recording for other tools, a file of pcap, and \
+        prints how many",
     words: &[EXPORTED],
 };
 

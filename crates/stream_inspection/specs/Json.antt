@@ -86,7 +86,8 @@ json_text (Skew r) = skew_json r
 json_text (Refused e count) =
     codes "{\"kind\":\"refused\"," ++ (reason_json e
     ++ (codes ",\"datagrams\":" ++ (decimal count ++ codes "}")))
-json_text (Control count) = codes "{\"kind\":\"rtcp\",\"datagrams\":" ++ (decimal count ++ codes "}")
+json_text (Control count) =
+    codes "{\"kind\":\"rtcp\",\"datagrams\":" ++ (decimal count ++ codes "}")
 json_text (Nothing payload_type) =
     codes "{\"kind\":\"nothing\",\"payload_type\":" ++ (decimal payload_type ++ codes "}")
 

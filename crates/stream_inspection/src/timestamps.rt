@@ -4,7 +4,8 @@ ghost use Rattle.recording_counts.specs.declared.timestamp.TimestampCount.{Times
 ghost use Rattle.stream_inspection.specs.Arrivals.{Arrival};
 ghost use Rattle.stream_inspection.specs.Skews.{AreProbes};
 ghost use Rattle.stream_inspection.specs.Timestamps.{AreLasts, heading_text, ticks_behind};
-ghost use Rattle.stream_inspection.specs.Timestamps.{timestamp_line, timestamps_behind, timestamps_text};
+ghost use Rattle.stream_inspection.specs.Timestamps.{timestamp_line, timestamps_behind};
+ghost use Rattle.stream_inspection.specs.Timestamps.{timestamps_text};
 ghost use Rattle.stream_inspection.specs.Timestamps.{window_of};
 ghost use Rattle.window_finding.specs.First.{distinct};
 

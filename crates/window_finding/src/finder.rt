@@ -89,7 +89,8 @@ impl<A: Allocator> Finder<A> {
         ensures payload_type { self.new.payload_type ≡ self.old.payload_type }
         ensures added { OnOk result ((ts : List ℕ)
             → self.old.window.items ≡ take self.old.sought.count (distinct ts)
-            → self.new.window.items ≡ take self.old.sought.count (distinct (ts ++ timestamp ∷ []))) }
+            → self.new.window.items
+            ≡ take self.old.sought.count (distinct (ts ++ timestamp ∷ []))) }
     {
         if self.is_full() || self.window.contains(&timestamp) {
             return Ok(());

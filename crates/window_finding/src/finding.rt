@@ -162,7 +162,8 @@ fn find_at<A: Allocator + Copy, S: ByteSource>(
     ensures front { take place files.new ≡ take place files.old }
     ensures behind { drop (place + 1) files.new ≡ drop (place + 1) files.old }
     ensures found { OnOk result (FirstIs
-        (λ s. FindsFile sought (way_at ways.now place) (WasRead S.gave S.ended s) begun.old begun.new)
+        (λ s. FindsFile sought (way_at ways.now place) (WasRead S.gave S.ended s)
+        begun.old begun.new)
         (zip (drop place files.old) (drop place files.new))) }
     ensures begun { OnOk result (begun.new ≢ None) }
     ensures refusal { IfErr result (λ f. OfRefusal f (λ r. FirstIs
