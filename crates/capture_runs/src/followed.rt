@@ -28,16 +28,10 @@ use crate::replayed::Replayed;
 use crate::unplaced::UnplacedOutput;
 use command_end::{Command, Devices, Hints, Ran};
 use command_line::FollowWords;
-<<<<<<< HEAD
 use devices::{FileOutput, OutputSink, Reading, Stream};
 use follow_engine::{FollowAsked, check_words, follow_files};
 use frame_sinks::{Filling, FormSink};
-use recording_engines::Importing;
-=======
-use devices::{OutputSink, Reading};
-use follow_engine::{FollowAsked, NoPictures, check_words, follow_files};
 use recording_engines::FlowWords;
->>>>>>> origin/next
 use run_outcome::Fault;
 use side_by_side::Side;
 use std::alloc::{AllocError, Global};
@@ -51,19 +45,13 @@ type FollowFile<'a> = Side<Global, Replayed<'a>>;
 pub struct FollowCommand<'a> {
     rt: &'a HostRuntime,
     pub asked: FollowAsked<'a>,
-<<<<<<< HEAD
-    pub flows: Importing<'a>,
+    pub flows: FlowWords<'a>,
     /// How samples without a value are filled, and the text of the fill, where one is given.
     pub filling: Filling,
     pub fill: Option<&'a [u8]>,
     /// The values of the fill, where its text is given; or that the words are refused, the file
     /// can't be written, or the SDP not be read.
     pub opened: Result<Option<[u16; 3]>, Fault>,
-=======
-    pub flows: FlowWords<'a>,
-    /// Whether the words are refused, or the SDP can't be read.
-    pub opened: Result<(), Fault>,
->>>>>>> origin/next
     /// The SDP, and by which flows each file is taken that is a recording.
     pub files: Files<'a>,
     pub sides: Vec<FollowFile<'a>>,
@@ -205,14 +193,10 @@ fn closed_sides<'a>(
 fn open<'a>(
     rt: &'a HostRuntime,
     asked: FollowAsked<'_>,
-<<<<<<< HEAD
     fill: Option<&[u8]>,
     out: &mut Option<FileOutput<'_>>,
     is_input: bool,
-    flows: Importing<'_>,
-=======
     flows: FlowWords<'_>,
->>>>>>> origin/next
     sdp: Option<&'a str>,
     count: usize,
     files: &mut Files<'a>,
