@@ -6,8 +6,8 @@ use Rattle.frame_sinks.proofs.form_sink.FormSinkPictureSink.show.Goals as goal
 
 pub returns-clause-taken : goal.returns-clause-taken
 returns-clause-taken g c =
-    let room = c.take_room-samples.new.self in
-    let same = c.take_room-samples.ensures in
+    let room = c.take_room.new.self in
+    let same = c.in_ok-samples.ensures in
     let kept = c.keep.ensures in
     let format = c.format-format.ensures.format in
     let made = c.from_samples.ensures.value in
