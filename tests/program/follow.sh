@@ -85,6 +85,103 @@ anew 904501
 frame 904501 present 32 missing 96 contested 0 late 0
 frames 2 kept 4 late 0 far 6 refused 0' --sdp "$recordings/late.sdp" stamped.pcap
 
+# Pictures of the frames. digits FORM WIDE EACH FILL IS_HELD TEXT..: the digits of the pictures that the payloads of TShark's
+# texts have, 8 rows of WIDE octets, EACH a column, as frames of YUV4MPEG2 of 4:2:2 or as portable pixmaps: a sample without an
+# octet has its component's of FILL, or where pictures are held that of the picture before.
+digits() {
+    form=$1
+    wide=$2
+    each=$3
+    fill=$4
+    held=$5
+    shift 5
+    awk -F'\t' -v form="$form" -v wide="$wide" -v each="$each" -v fill="$fill" -v held="$held" '
+        function number(text,   value, i) {
+            value = 0
+            for (i = 1; i <= length(text); i++)
+                value = 16 * value + index("0123456789abcdef", substr(text, i, 1)) - 1
+            return value
+        }
+        length($NF) > 40 && $NF ~ /^8[0-9a-f]*$/ {
+            said = $NF
+            stamp = substr(said, 9, 8)
+            if (!(stamp in seen)) {
+                seen[stamp] = 1
+                stamps[count++] = stamp
+            }
+            at = 29
+            lines = 0
+            do {
+                size[lines] = number(substr(said, at, 4))
+                row[lines] = number(substr(said, at + 4, 4))
+                first = number(substr(said, at + 8, 4))
+                column[lines++] = first % 32768
+                at += 12
+            } while (first >= 32768)
+            for (i = 0; i < lines; i++)
+                for (k = 0; k < size[i]; k++) {
+                    sample[stamp, wide * row[i] + each * column[i] + k] = substr(said, at, 2)
+                    at += 2
+                }
+        }
+        function component(place) {
+            if (form == "ppm") return place % 3 + 1
+            return place % 4 == 0 ? 2 : place % 4 == 2 ? 3 : 1
+        }
+        function every(first, step,   place) {
+            for (place = first; place < 8 * wide; place += step) printf "%s", last[place]
+        }
+        END {
+            split(fill, values, " ")
+            for (n = 0; n < count; n++) {
+                for (place = 0; place < 8 * wide; place++)
+                    if ((stamps[n], place) in sample) last[place] = sample[stamps[n], place]
+                    else if (!held || n == 0) last[place] = values[component(place)]
+                if (form == "ppm") {
+                    printf "50360a3820380a3235350a"
+                    every(0, 1)
+                } else {
+                    printf "4652414d450a"
+                    every(1, 2)
+                    every(0, 4)
+                    every(2, 4)
+                }
+            }
+        }' "$@"
+}
+
+# pictured NAME FORM WIDE EACH FILL IS_HELD TEXTS: whether pictures.out has these pictures, of YCbCr behind a stream's line.
+pictured() {
+    {
+        [ "$2" = ppm ] || printf 'YUV4MPEG2 W8 H8 F25:1 Ip A1:1 C422\n'
+        # shellcheck disable=SC2086
+        octets "$(digits "$2" "$3" "$4" "$5" "$6" $7)"
+    } >want.pictures
+    alike "follow: $1, the pictures" pictures.out want.pictures
+    rm -f pictures.out
+}
+follows 'two paths, with pictures' "$four" --sdp "$recordings/late.sdp" --out pictures.out \
+    "$recordings/late-a.pcap" "$recordings/late-b.pcap"
+pictured 'two paths' y4m 16 2 '00 00 00' 0 "$recordings/late-a.txt $recordings/late-b.txt"
+run follow --sdp "$recordings/late.sdp" --out - "$recordings/late-a.pcap" "$recordings/late-b.pcap"
+mv out pictures.out
+mv err out
+: >err
+says 'follow: pictures on standard output, the lines on standard error' 0 "$four" ''
+pictured 'standard output' y4m 16 2 '00 00 00' 0 "$recordings/late-a.txt $recordings/late-b.txt"
+# Without a fill black, of narrow range; values above the greatest count as that.
+run follow --sdp "$recordings/late.sdp" --out pictures.out "$recordings/late-a.pcap"
+pictured 'path A alone' y4m 16 2 '10 80 80' 0 "$recordings/late-a.txt"
+run follow --sdp "$recordings/late.sdp" --fill 1,2,300 --out pictures.out "$recordings/late-a.pcap"
+pictured 'a fill' y4m 16 2 '01 02 ff' 0 "$recordings/late-a.txt"
+# The frame before is held, of path B's first one the fill: it lacks packet 6, of its upper rows, and the next one packet 10.
+run follow --sdp "$recordings/late.sdp" --hold --out pictures.out "$recordings/late-a.pcap"
+pictured 'path A alone, held' y4m 16 2 '10 80 80' 1 "$recordings/late-a.txt"
+run follow --sdp "$recordings/late.sdp" --hold --fill 9,8,7 --out pictures.out "$recordings/late-b.pcap"
+pictured 'path B alone, held' y4m 16 2 '09 08 07' 1 "$recordings/late-b.txt"
+run follow --sdp "$recordings/ipv6.sdp" --out pictures.out "$recordings/ipv6.pcap"
+pictured 'pixmaps' ppm 24 3 '00 00 00' 0 "$recordings/ipv6.txt"
+
 # Refusals, in their order: the words, the SDP, the files before their records, and their records. Where a record is at fault
 # the frames are not told that were still in.
 refuses_follow() {
@@ -101,3 +198,16 @@ refuses_follow 'a source' 'receive 2 BadSource' --ssrc no --a no missing.pcap
 refuses_follow 'a flow' 'import 2 BadFlow' --a no missing.pcap
 refuses_follow 'no SDP' 'receive 4 NoSdp' "$recordings/late-a.pcap"
 refuses_follow 'cut short' 'recording 2 Truncated' --sdp "$recordings/loopback.sdp" "$recordings/cut.pcap"
+# The fill's text is looked at behind the other words, and then the place of the file, before the SDP. Where a record is at
+# fault no file has the name.
+for fill in 1,2 1,2,3,4 1,2,x 65536,0,0; do
+    refuses_follow "the fill '$fill'" 'follow 1 BadFill' --sdp missing.sdp --fill "$fill" --out late.copy missing.pcap
+done
+refuses_follow 'the window before the fill' 'open 2 BadWindow' --window 0 --fill 1,2 missing.pcap
+cp "$recordings/late-a.pcap" late.copy
+refuses_follow 'the output before the SDP' 'follow 2 OutputIsInput' --sdp missing.sdp --out late.copy late.copy
+refuses_follow 'the fill before the output' 'follow 1 BadFill' --fill 1,2 --out late.copy late.copy
+rm late.copy
+refuses_follow 'cut short, with pictures' 'recording 2 Truncated' --sdp "$recordings/loopback.sdp" --out cut.y4m \
+    "$recordings/cut.pcap"
+none 'follow: no file of pictures has the name' cut.y4m

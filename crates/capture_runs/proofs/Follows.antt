@@ -1,27 +1,11 @@
--- What `follow` opens, and what its run says of devices.
-use Rattle.std.proofs.Common.{◌≡◌, ℕ, inl, inr, List, [], ◌∷◌, ◌++◌, arith, subst, sym}
+-- What `follow` opens.
+use Rattle.std.proofs.Common.{◌≡◌, List, [], ◌∷◌, ◌++◌, subst, sym}
 use Rattle.std.specs.List.{AllByRecursion}
-use Rattle.run_outcome.specs.Fault.{Blames, counts}
-use Rattle.run_outcome.specs.declared.fault.Fault.{Fault}
-use Rattle.run_outcome.specs.declared.fault.Fault.TheVariants.{Device, Memory, Refused}
 use Rattle.side_by_side.specs.Side.{closed_side}
 use Rattle.side_by_side.specs.declared.side.Side.{Side}
 use Rattle.capture_runs.specs.Followed.{AreNewSides}
 use Rattle.capture_runs.specs.Replayed.{replayed_gave}
 use Rattle.capture_runs.specs.declared.replayed.Replayed.{Replayed}
-
--- pictures that aren't kept are no device
-pub without_pictures : (f : Fault) (a a' c c' : ℕ)
-    → Blames (counts a a' ∷ counts 0 0 ∷ counts c c' ∷ []) f
-    → Blames (counts a a' ∷ counts c c' ∷ []) f
-without_pictures (Refused r) a a' c c' is = (is.0, is.1.1)
-without_pictures Memory a a' c c' is = (is.0, is.1.1)
-without_pictures Device a a' c c' (inl is) = inl is
-without_pictures Device a a' c c' (inr (inl (inl less))) = absurd (omega (arith, less))
-without_pictures Device a a' c c' (inr (inl (inr most))) = absurd (omega (arith, most))
-without_pictures Device a a' c c' (inr (inr is)) = inr is
-
--- ---- files that aren't looked at yet
 
 all_more : {X : Type 0} (P : X → Type 0) (xs : List X) (x : X) → AllByRecursion P xs → P x
     → AllByRecursion P (xs ++ x ∷ [])

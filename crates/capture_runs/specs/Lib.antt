@@ -6,3 +6,4 @@ pub mod Refused
 pub mod Followed
 pub mod Looked
 pub mod Inspected
+pub mod Pictured

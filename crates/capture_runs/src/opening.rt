@@ -246,11 +246,21 @@ impl<'a> Files<'a> {
 
 /// Whether one of the files that are to be read is this one.
 pub(crate) fn is_asked(rt: &HostRuntime, asked: Asked<'_>, file: Option<Identity>) -> bool {
-    let is_sdp = match asked.sdp {
+    is_read(rt, asked.sdp, asked.recordings, file)
+}
+
+/// Whether the SDP's file or one of the recordings of these names is this one.
+pub(crate) fn is_read(
+    rt: &HostRuntime,
+    sdp: Option<&str>,
+    recordings: &[&str],
+    file: Option<Identity>,
+) -> bool {
+    let is_sdp = match sdp {
         Some(name) => FileSource::new(rt, name).is(file),
         None => false,
     };
-    is_sdp || is_recording(rt, asked.recordings, file)
+    is_sdp || is_recording(rt, recordings, file)
 }
 
 /// Whether one of the files of these names is this one.

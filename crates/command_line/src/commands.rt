@@ -392,6 +392,23 @@ const FOLLOWED: &[Word] = &[
         help: "Let a frame leave as soon as it is the oldest and nothing of it is missing",
     },
     Word {
+        name: "out",
+        usage: Usage::Optional("FILE"),
+        help: "Where the frames are written as pictures: of YCbCr as YUV4MPEG2, of RGB as portable \
+            pixmaps; - is standard output, and the lines then go to standard error",
+    },
+    Word {
+        name: "fill",
+        usage: Usage::Optional("A,B,C"),
+        help: "For a sample that is missing or contested, a value of each component: Y, Cb and Cr, \
+            or R, G and B of RGB; without it black",
+    },
+    Word {
+        name: "hold",
+        usage: Usage::Flag,
+        help: "Give such a sample the value of the picture before, in the first one the fill's",
+    },
+    Word {
         name: "recordings",
         usage: Usage::Files("RECORDING"),
         help: "Captures, and recordings of other tools, pcap or pcapng, read side by side by their \

@@ -258,6 +258,12 @@ pub struct FollowWords<'a> {
     pub ssrc: &'a str,
     /// Whether a frame leaves as soon as nothing of it is missing.
     pub is_eager: bool,
+    /// The file of the pictures, where they are written.
+    pub out: Option<&'a str>,
+    /// The text of the fill, where one is given.
+    pub fill: Option<&'a str>,
+    /// Whether a sample without a value takes that of the picture before.
+    pub is_held: bool,
     /// The files of captures and recordings.
     pub recordings: Vec<&'a str>,
 }
@@ -500,6 +506,9 @@ fn follow_words<'a>(alloc: Global, given: &ArgMatches<'a>) -> Result<FollowWords
         window: number(given, "window"),
         ssrc: word(given, "ssrc"),
         is_eager: given.get_flag("eager"),
+        out: given.get_str("out"),
+        fill: given.get_str("fill"),
+        is_held: given.get_flag("hold"),
         recordings: list(alloc, given, "recordings")?,
     })
 }
