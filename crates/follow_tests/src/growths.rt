@@ -26,8 +26,8 @@ impl Wanting for Stream {
     }
 }
 
-/// How many growths the stream of `TWO_PATHS` takes, by one frame at most, where each is told that is
-/// refused.
+/// How many growths the stream of `TWO_PATHS` takes, by one frame at most, where each that is
+/// refused is told.
 pub fn growths_of_two_paths(alloc: Global) -> Result<Option<u64>, Fail> {
     growths(alloc, &Stream::Captures(TWO_PATHS))
 }

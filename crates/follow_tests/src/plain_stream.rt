@@ -1,5 +1,5 @@
-//! What `follow` tells of rows, as a plain model: times that don't go round, and which value came of
-//! each half of a picture.
+//! What `follow` tells of rows, as a plain model: times that don't go round, and which value came
+//! of each half of a picture.
 use follow_engine::FollowTotals;
 use std::alloc::{AllocError, Global};
 use std::io::Write;
