@@ -1,7 +1,7 @@
 //! Datagrams of others than the stream: RTCP, another payload type, another source, and no header.
 //! They steer nothing, and go at once.
 use crate::checks::met;
-use crate::running::{Input, Run, run, source};
+use crate::running::{Input, Run, run_on, source};
 use crate::sources::{SDP, Sent, datagram, put_front, put_record};
 use follow_engine::FollowAsked;
 use st_format::Path;
@@ -53,7 +53,7 @@ fn run_of(alloc: Global, ssrc: &'static [u8]) -> Result<Run, AllocError> {
         first: source(alloc, &of_a(alloc)?, 0)?,
         second: Some(source(alloc, &of_b(alloc)?, 0)?),
     };
-    run(alloc, alloc, input)
+    run_on(alloc, alloc, input)
 }
 
 /// Both pictures are whole though one frame is in at a time: what is of no stream holds A back by

@@ -3,7 +3,7 @@
 //! frames, early and not.
 use crate::checks::{met, none_fails};
 use crate::plain_stream::{PlainStream, Row, joined, timestamp_of};
-use crate::running::{Input, Run, asked, run};
+use crate::running::{Input, Run, asked, run_on};
 use crate::sources::{SDP, Sent, datagram, put_front, put_record};
 use follow_engine::FollowTotals;
 use st_format::Path;
@@ -97,7 +97,7 @@ fn followed(alloc: Global, manner: Manner, a: &[Row], b: &[Row]) -> Result<Run, 
         first: capture_of(alloc, SDP, Path::A, a)?,
         second: Some(capture_of(alloc, b"", Path::B, b)?),
     };
-    run(alloc, alloc, input)
+    run_on(alloc, alloc, input)
 }
 
 /// What the model tells of them.

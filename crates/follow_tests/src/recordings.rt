@@ -1,6 +1,6 @@
 //! Recordings beside captures: by the flows of the paths, with what is left out of them noted.
 use crate::checks::met;
-use crate::running::{FLOWS, Input, asked, follow_into, run, sink, source};
+use crate::running::{FLOWS, Input, asked, follow_into, run_on, sink, source};
 use crate::shown::ShownFrames;
 use crate::sources::{RECORDING, SDP, Sent, capture, datagram, put_packet};
 use capture_engines::Seen;
@@ -49,7 +49,7 @@ pub fn is_told<A: Allocator + Copy>(global: Global, alloc: A) -> Result<Option<b
         first: source(global, &both_paths(global)?, 0)?,
         second: Some(source(global, &captured, 0)?),
     };
-    match run(global, alloc, input) {
+    match run_on(global, alloc, input) {
         Ok(run) => Ok(run.answered(TOLD)),
         // (the list of the files had no memory)
         Err(AllocError) => Ok(None),

@@ -1,6 +1,6 @@
 //! Each refusal of `follow`, in its order, and what is told before a file's fault.
 use crate::checks::{met, none_fails};
-use crate::running::{FLOWS, Input, Run, asked, run, source};
+use crate::running::{FLOWS, Input, Run, asked, run_on, source};
 use crate::sources::{SDP, Sent, capture, recording};
 use flow::Flows;
 use follow_engine::{FollowAsked, check_words};
@@ -166,7 +166,7 @@ fn run_of(
         first: source(alloc, first, 0)?,
         second: Some(source(alloc, second, 0)?),
     };
-    run(alloc, alloc, input)
+    run_on(alloc, alloc, input)
 }
 
 /// What a row asks for.

@@ -146,7 +146,7 @@ pub fn run_into<A: Allocator + Copy>(
 }
 
 /// A run whose sinks don't fail.
-pub fn run<A: Allocator + Copy>(
+pub fn run_on<A: Allocator + Copy>(
     global: Global,
     alloc: A,
     input: Input<'_>,

@@ -1,7 +1,7 @@
 //! What `follow` prints of small streams, line by line: of captures of the two paths, of one in
 //! which both are, early and not, late, too far ahead, and begun anew.
 use crate::checks::{met, none_fails};
-use crate::running::{Input, asked, run, source};
+use crate::running::{Input, asked, run_on, source};
 use crate::sources::{SDP, Sent, capture, datagram, put_front, put_record};
 use st_format::Path;
 use std::alloc::{AllocError, Allocator, Global};
@@ -252,7 +252,7 @@ pub fn is_told<A: Allocator + Copy>(
         first: source(global, &a, 0)?,
         second: Some(source(global, &b, 0)?),
     };
-    match run(global, alloc, input) {
+    match run_on(global, alloc, input) {
         Ok(run) => Ok(run.answered(example.told)),
         // (the list of the files had no memory)
         Err(AllocError) => Ok(None),
@@ -318,7 +318,7 @@ fn more_than_sixteen(rt: HostRuntime) -> Result<(), Fail> {
             first: source(rt.alloc(), &octets, 0)?,
             second: None,
         };
-        let run = run(rt.alloc(), rt.alloc(), input)?;
+        let run = run_on(rt.alloc(), rt.alloc(), input)?;
         let told = told_of_seventeen(rt.alloc(), frames)?;
         met(&rt, run.answered(&told) == Some(true));
     }
@@ -336,7 +336,7 @@ fn no_record(rt: HostRuntime) -> Result<(), Fail> {
         first: source(rt.alloc(), b"S20CAP01", 0)?,
         second: None,
     };
-    let run = run(rt.alloc(), rt.alloc(), input)?;
+    let run = run_on(rt.alloc(), rt.alloc(), input)?;
     met(&rt, run.answered(NOTHING.told) == Some(true));
     Ok(())
 }
