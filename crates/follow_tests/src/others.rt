@@ -41,7 +41,7 @@ fn of_b(alloc: Global) -> Result<Vec<u8>, AllocError> {
 }
 
 /// A run over both, by one frame at most, of this source.
-fn run_of(alloc: Global, ssrc: &'static [u8]) -> Result<Run, AllocError> {
+fn run_of(alloc: Global, ssrc: &[u8]) -> Result<Run, AllocError> {
     let input = Input {
         asked: FollowAsked {
             frames: 1,
