@@ -96,10 +96,8 @@ fn told(alloc: Global, kept: u64) -> Result<Vec<u8>, Fail> {
             "frame {timestamp} present 16 missing 0 contested 0 late 0\n"
         )?;
     }
-    write!(
-        told,
-        "frames {PICTURES} kept {kept} late 0 far 0 refused 0\n"
-    )?;
+    let frames = PICTURES;
+    write!(told, "frames {frames} kept {kept} late 0 far 0 refused 0\n")?;
     Ok(told)
 }
 
@@ -113,7 +111,10 @@ struct InOrder {
 
 /// Whether the first sample of a row has this value.
 fn begins_with<A: Allocator>(frame: &Frame<A>, row: u32, value: u8) -> bool {
-    frame.format().has_position(row, 0, 0) && frame.cell(row, 0, 0) == Cell::Value(u16::from(value))
+    if !frame.format().has_position(row, 0, 0) {
+        return false;
+    }
+    frame.cell(row, 0, 0) == Cell::Value(u16::from(value))
 }
 
 impl PictureSink for InOrder {
