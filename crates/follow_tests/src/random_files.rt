@@ -18,25 +18,26 @@ const BASE: u64 = 4_294_817_296;
 /// How many datagrams are sent by a path.
 const SENT: u32 = 150;
 
-/// How a pair is sent and followed: how many pictures are drawn from at a time, by how many frames,
-/// and whether they leave early.
+/// How a pair is sent and followed: how many pictures are drawn from at a time, and whether there
+/// are strays; by how many frames, and whether they leave early.
 #[derive(Clone, Copy)]
 struct Manner {
     spread: u32,
+    has_strays: bool,
     frames: usize,
     is_eager: bool,
 }
 
-/// What a path sends that is at `head`: mostly a row of one of the last pictures; now and then of
-/// one 20 s later, or of 100 pictures before, or a datagram of no stream.
-fn drawn(generator: &mut Generator, head: u32, spread: u32) -> Row {
-    let place = u64::from(head.wrapping_sub(generator.below(spread)));
+/// What a path sends that is at `head`: mostly a row of one of the last pictures; now and then a
+/// datagram of no stream, or a stray, of 20 s later or of 100 pictures before.
+fn drawn(generator: &mut Generator, head: u32, manner: Manner) -> Row {
+    let place = u64::from(head.wrapping_sub(generator.below(manner.spread)));
     let time = BASE.wrapping_add(place.wrapping_mul(1_500));
     let row = u8::from(generator.one_in(2));
     let value = if generator.one_in(12) { 17 } else { 16 };
     match generator.below(60) {
-        0 => Row::Of(time.wrapping_add(1_800_000), row, value),
-        1 => Row::Of(time.wrapping_sub(150_000), row, value),
+        0 if manner.has_strays => Row::Of(time.wrapping_add(1_800_000), row, value),
+        1 if manner.has_strays => Row::Of(time.wrapping_sub(150_000), row, value),
         2 => Row::Other,
         _ => Row::Of(time, row, value),
     }
@@ -52,7 +53,7 @@ fn rows_of(
     let mut head = 100u32;
     for _ in 0..SENT {
         head = head.wrapping_add(u32::from(generator.one_in(3)));
-        let row = drawn(generator, head, manner.spread);
+        let row = drawn(generator, head, manner);
         if !generator.one_in(8) {
             rows.push(row)?;
         }
@@ -127,6 +128,7 @@ fn totals_of(alloc: Global, seed: u32) -> Result<Option<(FollowTotals, u64)>, Fa
         spread: generator.below(20).wrapping_add(1),
         frames: generator.size(16).wrapping_add(1),
         is_eager: generator.one_in(2),
+        has_strays: generator.one_in(2),
     };
     let a = rows_of(alloc, &mut generator, manner)?;
     let b = rows_of(alloc, &mut generator, manner)?;
@@ -156,7 +158,7 @@ fn beside_a_plain_model(rt: HostRuntime) -> Result<(), Fail> {
             }
         }
     }
-    // Each comes in most of the pairs, and streams that begin anew in some.
-    met(&rt, complete > 500 && anew > 50);
+    // Each comes in a third of the pairs or more, and streams that begin anew in some.
+    met(&rt, complete > 333 && anew > 50);
     Ok(())
 }
