@@ -13,3 +13,5 @@ pub mod SentAgain
 pub mod Looped
 pub mod NoRefusals
 pub mod NoTextFault
+pub mod OneJob
+pub mod NoProcessRefusals
