@@ -15,3 +15,7 @@ pub mod NoRefusals
 pub mod NoTextFault
 pub mod OneJob
 pub mod NoProcessRefusals
+pub mod ScriptOnce
+pub mod NoTraceRefusals
+pub mod RehearsedOnce
+pub mod NoRehearsalRefusals

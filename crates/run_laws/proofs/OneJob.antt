@@ -21,9 +21,9 @@ use Rattle.receiver_engines.specs.JobText.{IsJobText, axis_word}
 
 -- ---- the job of a text
 
--- the octet at a place
-abbrev octet_at : ℕ → List ℕ → ℕ
-octet_at n text = get_or text n 0
+-- the letter at a place
+abbrev pub letter_at : ℕ → List ℕ → ℕ
+letter_at n text = get_or text n 0
 
 abbrev wipe_of : Axis → ℕ → ℕ → Job
 wipe_of axis position soft =
@@ -37,18 +37,18 @@ wipe_in axis (Some p) = wipe_of axis (digits_value 10 p.0) (digits_value 10 p.1)
 -- by the sixth octet of `wipe:columns:` or `wipe:rows:`
 abbrev wipe_said : List ℕ → Job
 wipe_said text =
-    if octet_at 5 text == 99 then wipe_in Columns (parted 58 (drop 13 text))
+    if letter_at 5 text == 99 then wipe_in Columns (parted 58 (drop 13 text))
     else wipe_in Rows (parted 58 (drop 10 text))
 
 -- the job that a text says, told by its first octet and one more, where it says one
 abbrev job_in : List ℕ → Job
 job_in text =
-    if octet_at 0 text == 108
-    then (if octet_at 6 text == 110 then Limit Nominal else Limit VideoData)
-    else (if octet_at 0 text == 103 then Gain (digits_value 10 (drop 5 text))
-    else (if octet_at 0 text == 121
-    then (if octet_at 4 text == 52 then ToYcc444 else ToYcc422)
-    else (if octet_at 0 text == 119 then wipe_said text else Key)))
+    if letter_at 0 text == 108
+    then (if letter_at 6 text == 110 then Limit Nominal else Limit VideoData)
+    else (if letter_at 0 text == 103 then Gain (digits_value 10 (drop 5 text))
+    else (if letter_at 0 text == 121
+    then (if letter_at 4 text == 52 then ToYcc444 else ToYcc422)
+    else (if letter_at 0 text == 119 then wipe_said text else Key)))
 
 wipe_again : (axis : Axis) (text rest : List ℕ) → text ≡ axis_word axis ++ rest
     → job_in text ≡ wipe_in axis (parted 58 rest)
