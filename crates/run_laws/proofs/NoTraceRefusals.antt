@@ -90,7 +90,7 @@ noted (Some numbers) = true
 
 none_noted : (numbers : Option Numbers) → noted numbers ≡ false → numbers ≡ None
 none_noted None e = refl
-none_noted (Some numbers) e = absurd cc
+none_noted (Some numbers) e = let clash : true ≡ false = e in absurd cc
 
 noted_after : (answer : Result Taken TakingRefusal) (numbers : Option Numbers)
     → noted (numbers_after answer numbers) ≡ noted numbers
