@@ -311,11 +311,11 @@ not_refused script old new r is (inr bad) =
     not_unplayed (numbered_lines 0 script) is.said is.says is.played is.plays bad.said bad.says r
     bad.unplayed
 
-pub rehearse_not : {A S : Type 0} (gave : S → List ℕ) (ended : S → Type 0) (source later : S)
+pub rehearse_not : (A : Type 0) {S : Type 0} (gave : S → List ℕ) (ended : S → Type 0) (source later : S)
     (old new : List ℕ) (r : Refusal)
     → DoesScript (Rehearses A) (gave source) (gave later) (ended later) old new
     → IsRefusedFor IsRefusedScript (gave source) (gave later) (ended later) r → ⊥
-rehearse_not gave ended source later old new r does wrong =
+rehearse_not A gave ended source later old new r does wrong =
     let one =
     one_script (gave source) (gave later) (ended later) does.0 wrong.0 wrong.1 does.1 wrong.2 in
     not_refused does.0 old new r does.2

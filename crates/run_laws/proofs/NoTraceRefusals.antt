@@ -21,7 +21,7 @@ use Rattle.run_outcome.specs.declared.line.Line.{Line}
 use Rattle.run_outcome.specs.declared.refusal.Refusal.{Refusal}
 use Rattle.script_engines.specs.declared.line.TraceLine.{TraceLine}
 use Rattle.script_engines.specs.declared.line.TraceLine.TheVariants as line
-use Rattle.script_engines.specs.FirstLines.{ReadsFormat, ReadsOpening}
+use Rattle.script_engines.specs.FirstLines.{IsFaultyNext, ReadsFormat, ReadsOpening}
 use Rattle.script_engines.specs.Forms.{AreTwo, IsOctetsText, IsTraceLine}
 use Rattle.script_engines.specs.Reading.{DoesScript, IsRefusedFor}
 use Rattle.script_engines.specs.Script.{line_behind, numbered_lines}
