@@ -64,7 +64,7 @@ no_state_fault octets r f bytes is wrong =
     (ap state_walk is.whole ∙ state_again (kept_of r) (writable_saved r is.writable))
     (state_tells f octets bytes wrong)
 
-no_picture_fault : (octets : List ℕ) (p : Values) (f : FileFault) → AreOctets octets
+pub no_picture_fault : (octets : List ℕ) (p : Values) (f : FileFault) → AreOctets octets
     → IsPictureFile octets p → IsPictureFault f octets → ⊥
 no_picture_fault octets p f bytes is wrong =
     let rest : List ℕ = [] in
@@ -72,7 +72,7 @@ no_picture_fault octets p f bytes is wrong =
     apart (picture_walk octets) pair f (ap picture_walk is.whole ∙ picture_again p is.picture)
     (picture_tells f octets bytes wrong)
 
-not_state : (told : List ℕ → Type 0) (octets : List ℕ) (r : State) (refusal : Refusal)
+pub not_state : (told : List ℕ → Type 0) (octets : List ℕ) (r : State) (refusal : Refusal)
     → told octets → AreOctets octets → SaysReceiver told r → IsStateRefusal told refusal → ⊥
 not_state told octets r (why.State f) there bytes says wrong =
     no_state_fault octets r f bytes (says octets there) (wrong octets there bytes)
@@ -175,7 +175,7 @@ module _ {S : Type 0} (gave : S → List ℕ) (ended : S → Type 0) (first : S 
 
 -- ---- a picture that goes through a link
 
-one_format : (octets : List ℕ) (p q : Values) → IsPictureFile octets p → IsPictureFile octets q
+pub one_format : (octets : List ℕ) (p q : Values) → IsPictureFile octets p → IsPictureFile octets q
     → p.format ≡ q.format
 one_format octets p q a b =
     same_format p.format q.format
