@@ -4,10 +4,11 @@ use Rattle.std.proofs.Common.{ap, append-nil, refl, sym}
 use Rattle.std.proofs.lemmas.Bool.{cond-false, cond-true}
 use Rattle.following.specs.Following.{Handed}
 use Rattle.frame_sinks.specs.Fills.{fill_of}
-use Rattle.frame_sinks.specs.Pictures.{form_head, head_for, held_by, is_of, picture_of, settled_with}
+use Rattle.frame_sinks.specs.Pictures.{form_head, head_for, held_by, is_of, picture_of}
 use Rattle.frame_sinks.specs.Sinks.{TakesFrame}
 use Rattle.frame_sinks.specs.declared.filling.Filling.{Filling}
 use Rattle.frame_sinks.specs.declared.form_sink.FormSink.{FormSink}
+use Rattle.picture_engine.specs.Views.{settled_with}
 use Rattle.picture_forms.specs.Faults.{CountsFault, IsDevice}
 use Rattle.picture_forms.specs.declared.fault.FormFault.{FormFault}
 use Rattle.picture_forms.specs.declared.fault.FormFault.TheVariants as form

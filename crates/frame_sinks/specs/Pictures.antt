@@ -5,14 +5,14 @@ use Rattle.following.specs.Following.{Handed}
 use Rattle.frame_sinks.specs.Fills.{fill_of}
 use Rattle.frame_sinks.specs.declared.filling.Filling.{Filling}
 use Rattle.frame_sinks.specs.declared.filling.Filling.TheVariants.{Fill, Hold}
+use Rattle.picture_engine.specs.Views.{settled_with}
 use Rattle.picture_forms.specs.Layouts.{y4m_head}
-use Rattle.receiver_engines.specs.Inputs.{settled_by_fill, settled_over}
 use Rattle.settled_forms.specs.Settled.{form_text}
 use Rattle.st_format.specs.declared.format.Format.{Format}
 use Rattle.st_format.specs.declared.sampling.Sampling.{Sampling}
 use Rattle.st_format.specs.declared.sampling.Sampling.TheVariants.{Ycc422, Ycc444, Rgb}
 use Rattle.st_format.specs.Fields.{fields_of, same_fields}
-use Rattle.st_format.specs.Picture.{Values, value_at}
+use Rattle.st_format.specs.Picture.{Values}
 use Rattle.st_format.specs.Raster.{Raster}
 
 -- a stream has this format already
@@ -26,11 +26,6 @@ is_of (Some g) f = same_fields (fields_of g) (fields_of f)
 abbrev pub held_for : Option Values → Format → Option Values
 held_for None f = None
 held_for (Some p) f = if same_fields (fields_of p.format) (fields_of f) then Some p else None
-
--- a frame settled over what is held, or else by a fill
-abbrev pub settled_with : Option Values → List ℕ → Raster → Values
-settled_with None fill q = settled_by_fill fill q
-settled_with (Some p) fill q = settled_over (value_at p) q
 
 -- the picture of a frame, where a fill may be given and a picture may be held
 unfoldable pub picture_of : Option (List ℕ) → Option Values → Raster → Values

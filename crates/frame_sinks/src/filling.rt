@@ -1,11 +1,12 @@
 //! What stands where a frame has no value for a sample.
-ghost use Rattle.std.specs.Prelude.{◌≡◌, ◌≤◌, ◌<◌, ◌-◌, ◌*◌, ◌^◌};
+ghost use Rattle.std.specs.Prelude.{◌≡◌, ◌<◌, ◌-◌, ◌^◌};
 ghost use Rattle.std.specs.List.{AllByRecursion};
-ghost use Rattle.frame_sinks.specs.Fills.{black, fill_of, limited_fill};
+ghost use Rattle.frame_sinks.specs.Fills.{fill_of, limited_fill};
 ghost use Rattle.st_format.specs.Pgroup.{bits_of};
 ghost use Rattle.st_format.specs.Picture.{FitsDepth};
 
-use st_format::{Depth, Format, Sampling};
+use picture_engine::black;
+use st_format::{Depth, Format};
 
 /// How the samples of frames that follow each other are filled that are missing or contested.
 #[derive(Clone, Copy, Debug, PartialEq, Eq)]
@@ -47,31 +48,5 @@ fn most_of(depth: Depth) -> u16
         Depth::D10 => 1023,
         Depth::D12 => 4095,
         Depth::D16 => 65535,
-    }
-}
-
-/// Black.
-fn black(format: &Format) -> [u16; 3]
-    ensures is { result ≡ black format.now }
-    ensures fits { AllByRecursion (FitsDepth format.now) result }
-{
-    let one = one_of(format.depth());
-    match format.sampling() {
-        Sampling::Ycc422 | Sampling::Ycc444 => [16 * one, 128 * one, 128 * one],
-        Sampling::Rgb => [16 * one, 16 * one, 16 * one],
-    }
-}
-
-/// What 1 of 8 bits is at this depth.
-fn one_of(depth: Depth) -> u16
-    ensures is { result ≡ 2 ^ (bits_of depth - 8) }
-    ensures small { result ≤ 256 }
-    ensures fits { 128 * result < 2 ^ bits_of depth }
-{
-    match depth {
-        Depth::D8 => 1,
-        Depth::D10 => 4,
-        Depth::D12 => 16,
-        Depth::D16 => 256,
     }
 }

@@ -58,8 +58,9 @@ fn fits(fill: [u16; 3], format: &Format) -> bool
     fill[0] <= most && fill[1] <= most && fill[2] <= most
 }
 
-/// Black of a format: the value of each component.
-fn black(format: &Format) -> [u16; 3]
+/// Black of narrow range of a format: the value of each component, Y, Cb and Cr or R, G and B
+/// (SMPTE ST 2110-20, RANGE).
+pub fn black(format: &Format) -> [u16; 3]
     ensures is { result ≡ black format.now }
     ensures fits { AllByRecursion (FitsDepth format.now) result }
 {

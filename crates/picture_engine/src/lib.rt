@@ -8,4 +8,5 @@ mod picturing;
 mod showing;
 
 pub use asked::{PictureAsked, View, check_view};
+pub use filling::black;
 pub use picturing::picture;
