@@ -11,7 +11,7 @@ use frame_assembly::Frame;
 use refusing::Refusing;
 use run_outcome::Fault;
 use st_format::memory::{MemorySink, MemorySource};
-use st_format::{Cell, DeviceFault, Path};
+use st_format::{Cell, Path};
 use std::alloc::{AllocError, Allocator, Global};
 use std::io::Write;
 use std::test::Fail;
@@ -122,7 +122,7 @@ impl PictureSink for InOrder {
 
     ghost failures = { λ _. 0 };
 
-    fn show<A: Allocator>(&mut self, timestamp: u32, frame: &Frame<A>) -> Result<(), DeviceFault> {
+    fn show<A: Allocator>(&mut self, timestamp: u32, frame: &Frame<A>) -> Result<(), Fault> {
         self.are_next &= timestamp == timestamp_of(self.place)
             && begins_with(frame, 0, value_of(self.place, 0))
             && begins_with(frame, 1, value_of(self.place, 1));

@@ -3,7 +3,7 @@ ghost use Rattle.std.specs.Prelude.{⊤};
 
 use follow_engine::PictureSink;
 use frame_assembly::{Counts, Frame};
-use st_format::DeviceFault;
+use run_outcome::Fault;
 use std::alloc::{Allocator, Global};
 
 /// Keeps the timestamp of each frame that it is shown, and how many samples are of each kind. It
@@ -37,13 +37,13 @@ impl PictureSink for ShownFrames {
 
     ghost failures = { λ s. s.failures };
 
-    fn show<A: Allocator>(&mut self, timestamp: u32, frame: &Frame<A>) -> Result<(), DeviceFault> {
+    fn show<A: Allocator>(&mut self, timestamp: u32, frame: &Frame<A>) -> Result<(), Fault> {
         let fails = self.fails_in == 1;
         self.fails_in = self.fails_in.saturating_sub(1);
         if !fails && self.frames.push((timestamp, frame.counts())).is_ok() {
             return Ok(());
         }
         self.failures = self.failures.saturating_add(1);
-        Err(DeviceFault)
+        Err(Fault::Device)
     }
 }
