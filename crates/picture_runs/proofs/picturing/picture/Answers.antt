@@ -1,4 +1,4 @@
-use Rattle.std.proofs.Common.{◌≡◌, inl, sym}
+use Rattle.std.proofs.Common.{inl, sym}
 use Rattle.std.proofs.lemmas.Result.{err_from_is_err_and}
 use Rattle.devices.specs.Passed.{FileRead, file_ended, file_gave}
 use Rattle.run_outcome.proofs.Refusals.{of_refusal_map}
