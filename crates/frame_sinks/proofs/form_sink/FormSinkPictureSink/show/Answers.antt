@@ -22,7 +22,8 @@ returns-clause-taken g c =
     c.in_ok-write_next.ensures.written
     (made
     ∙ ap (λ (s : List ℕ). values c.format-format.result s) back
-    ∙ picture_is c.format-format.result c.write_next.new.samples (picture_of room.fill room.held c.args.frame.now)
+    ∙ picture_is c.format-format.result c.write_next.new.samples
+    (picture_of room.fill room.held c.args.frame.now)
     (format ∙ sym (picture_format room.fill room.held c.args.frame.now)) settled)
     kept.sink kept.filling kept.fill
     (kept.format ∙ ap (λ (f : Format). Some f) format) kept.held
