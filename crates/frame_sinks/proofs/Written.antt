@@ -1,6 +1,7 @@
 -- What stands before a picture, and what a frame is settled over, by what was tested of formats.
 use Rattle.std.proofs.Common.{◌≡◌, ◌∙◌, ℕ, Bool, true, false, List, [], ◌++◌, Option, None, Some}
-use Rattle.std.proofs.Common.{ap, append-nil, refl, sym}
+use Rattle.std.proofs.Common.{ap, append-nil, arith, drop, length, refl, sym, take}
+use Rattle.std.proofs.lemmas.List.{drop_all, take_all}
 use Rattle.std.proofs.lemmas.Bool.{cond-false, cond-true}
 use Rattle.following.specs.Following.{Handed}
 use Rattle.frame_sinks.specs.Fills.{fill_of}
@@ -93,6 +94,14 @@ pub picture_is : (f : Format) (samples : List ℕ) (p : Values) → f ≡ p.form
     → samples ≡ p.samples → values f samples ≡ p
 picture_is f samples p format is =
     ap (λ (g : Format). values g samples) format ∙ ap (λ (s : List ℕ). values p.format s) is
+
+-- what a vector of so many holds behind a loan of all of it
+pub samples_back : (len : ℕ) (items lent : List ℕ) → len ≡ length items
+    → length lent ≡ length items → take len (lent ++ drop (length lent) items) ≡ lent
+samples_back len items lent is same =
+    let none : drop (length lent) items ≡ [] = drop_all (length lent) items (omega arith) in
+    ap (λ (t : List ℕ). take len (lent ++ t)) none
+    ∙ ap (λ (t : List ℕ). take len t) (append-nil lent) ∙ take_all len lent (omega arith)
 
 -- A sink found room, which made m of it; its sink of octets took the picture; and that was kept.
 pub takes_frame : {K A : Type 0} (took : K → List ℕ) (k m l : FormSink K A) (sink : K)
