@@ -16,6 +16,5 @@ pub mod NoTextFault
 pub mod OneJob
 pub mod NoProcessRefusals
 pub mod ScriptOnce
-pub mod NoTraceRefusals
 pub mod RehearsedOnce
 pub mod NoRehearsalRefusals

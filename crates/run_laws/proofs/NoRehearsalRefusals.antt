@@ -1,7 +1,7 @@
 -- Against a script that was rehearsed to its end no refusal speaks.
 use Rattle.std.proofs.Common.{◌≡◌, ℕ, suc, ◌<◌, ◌≤◌, ◌+◌, ◌*◌, ◌%◌, ◌^◌, Bool, true, false, List}
 use Rattle.std.proofs.Common.{[], ◌∷◌, ◌++◌, codes, length, take, All, inl, inr}
-use Rattle.std.proofs.Common.{refl, sym, ap, ◌∙◌, subst, arith, length-append}
+use Rattle.std.proofs.Common.{sym, ap, ◌∙◌, subst, arith, length-append}
 use Rattle.std.proofs.lemmas.Option.{slice_get_within}
 use Rattle.st_format.specs.Member.{IsMember}
 use Rattle.st_format.specs.Picture.{Values}
@@ -151,7 +151,8 @@ heads_alike lines behind others h g p q =
 -- how many datagrams pictures have by packets
 texts_length : (s : Sender) (packets : List (List PacketRun)) (k first : ℕ) (ps : List Values)
     → length (texts_from s packets k first ps) ≡ length ps * length packets
-texts_length s packets k first [] = refl
+texts_length s packets k first [] =
+    let none : 0 ≡ 0 * length packets = omega arith in none
 texts_length s packets k first (p ∷ ps) =
     let next : ℕ = (first + length packets) % 2 ^ 32 in
     let mine : List (List ℕ) = datagram_texts p (stamp_of s k first) 0 packets in

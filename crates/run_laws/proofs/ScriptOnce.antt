@@ -14,10 +14,8 @@ use Rattle.st_format.specs.Words.{sampling_text}
 use Rattle.st_format.proofs.Histories.{since_is}
 use Rattle.run_outcome.specs.LowerFaults.{IsMisformed}
 use Rattle.run_outcome.specs.declared.fault.Fault.{Fault}
-use Rattle.script_engines.specs.declared.line.FormatLine.{FormatLine}
 use Rattle.script_engines.specs.FirstLines.{IsFaultyFormat, IsFaultyNext, ReadsFormat, ReadsOne}
 use Rattle.script_engines.specs.FirstLines.{SaysFormatLine}
-use Rattle.script_engines.specs.Forms.{IsFormatLine}
 use Rattle.script_engines.specs.Script.{IsReadFrom}
 use Rattle.run_laws.proofs.OneJob.{letter_at}
 use Rattle.run_laws.proofs.Opened.{one_number}
@@ -99,14 +97,17 @@ same_depth a b e = sym (depth_back a) ∙ ap depth_by e ∙ depth_back b
 abbrev made_of : Sampling → Depth → ℕ → ℕ → ℕ → ℕ → Result Fields FormatFault
 made_of s b w h n d = format_at s b w h n d
 
-abbrev made_by : FormatLine → Result Fields FormatFault
-made_by f = made_of f.sampling f.depth f.width f.height f.n f.d
-
--- a text makes one format, or has one reason why it makes none
-one_made : (text other : List ℕ) (f g : FormatLine) → text ≡ other → IsFormatLine text f
-    → IsFormatLine other g → made_by f ≡ made_by g
-one_made text other f g same p q =
-    let rest = same_rest (codes "format ") p.rest q.rest (sym p.text_is ∙ same ∙ q.text_is) in
+-- the next line makes one format, or has one reason why it makes none
+one_made : (lines behind left : Numbered) (x y : Result Fields FormatFault)
+    → ReadsFormat lines behind x → ReadsFormat lines left y → x ≡ y
+one_made lines behind left x y read also =
+    let texts = same_next lines behind left read.number also.number read.text also.text read.next
+    also.next in
+    let f = read.said in
+    let g = also.said in
+    let p = read.line_is in
+    let q = also.line_is in
+    let rest = same_rest (codes "format ") p.rest q.rest (sym p.text_is ∙ texts.0 ∙ q.text_is) in
     let a = p.fields in
     let b = q.fields in
     let one =
@@ -128,7 +129,8 @@ one_made text other f g same p q =
     let height = one_number h.first i.first f.height g.height four.0 h.height_is i.height_is in
     let n = one_number r.over s.over f.n g.n five.0 r.over_is s.over_is in
     let d = one_number r.under s.under f.d g.d five.1 r.under_is s.under_is in
-    ap (λ (x : Sampling). made_of x f.depth f.width f.height f.n f.d)
+    read.made_is
+    ∙ ap (λ (x : Sampling). made_of x f.depth f.width f.height f.n f.d)
     (same_sampling f.sampling g.sampling one.0)
     ∙ ap (λ (x : Depth). made_of g.sampling x f.width f.height f.n f.d)
     (same_depth f.depth g.depth bits)
@@ -136,6 +138,7 @@ one_made text other f g same p q =
     ∙ ap (λ (x : ℕ). made_of g.sampling g.depth g.width x f.n f.d) height
     ∙ ap (λ (x : ℕ). made_of g.sampling g.depth g.width g.height x f.d) n
     ∙ ap (λ (x : ℕ). made_of g.sampling g.depth g.width g.height g.n x) d
+    ∙ sym also.made_is
 
 abbrev is_made : Fields → Result Fields FormatFault
 is_made x = Ok x
@@ -152,9 +155,4 @@ pub not_format : (lines behind : Numbered) (x : Fields) (end : ℕ) (f : Fault)
 not_format lines behind x end f r (inl bad) =
     not_next SaysFormatLine lines behind r.number r.text end f r.next (r.said, r.line_is) bad
 not_format lines behind x end f r (inr bad) =
-    let other = bad.2 in
-    let texts = same_next lines behind bad.1 r.number other.number r.text other.text r.next
-    other.next in
-    made_or_none x bad.0
-    (r.made_is ∙ one_made r.text other.text r.said other.said texts.0 r.line_is other.line_is
-    ∙ sym other.made_is)
+    made_or_none x bad.0 (one_made lines behind bad.1 (Ok x) (Err bad.0) r bad.2)
