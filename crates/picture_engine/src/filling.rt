@@ -13,7 +13,7 @@ use frame_assembly::{Base, Frame};
 use receiver_engines::read_fill;
 use run_outcome::{Fault, Refusal};
 use st_format::{Depth, Format, Picture, Sampling};
-use std::alloc::{AllocError, Allocator};
+use std::alloc::{AllocError, Allocator, Global};
 
 /// The value of each component that stands for what a frame lacks: black's where there is no text.
 /// A text that says none is refused, and so is a value above the greatest of the frame's depth.
@@ -120,7 +120,7 @@ pub(crate) fn settled<A: Allocator + Copy>(
     ensures whole { IfOk result (λ p. IsPicture p) }
 {
     match held {
-        None => frame.settle(alloc, Base::<A>::Fill(fill)),
+        None => frame.settle(alloc, Base::<Global>::Fill(fill)),
         Some(picture) => frame.settle(alloc, Base::Hold(picture)),
     }
 }
