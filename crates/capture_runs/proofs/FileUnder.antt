@@ -27,7 +27,8 @@ use Rattle.frame_sinks.specs.declared.form_sink.FormSink.{FormSink}
 use Rattle.frame_sinks.proofs.Streams.{all_written}
 use Rattle.run_outcome.specs.Fault.{Accounts, counts, failures_in}
 use Rattle.run_outcome.specs.declared.fault.Fault.{Fault}
-use Rattle.run_outcome.specs.declared.fault.Fault.TheVariants.{Refused}
+use Rattle.run_outcome.specs.declared.fault.Fault.TheVariants.{Device, Memory, Refused}
+use Rattle.run_outcome.specs.Refusing.{OfRefusal}
 use Rattle.run_outcome.specs.declared.refusal.Refusal.{Refusal}
 use Rattle.side_by_side.specs.declared.side.Side.{Side}
 use Rattle.st_format.specs.declared.format.Format.{Format}
@@ -140,6 +141,24 @@ follows_files w sdp ways files filling fill out k l took took' totals over is =
       written = took_pictures filling fill out k l frames over is.shown;
     }
 
+-- the same by other names of the text and of the ways
+pub follows_same : {A B : Type 0} (w : FollowAsked) (sdp sdp' : Option (List ℕ))
+    (ways ways' : List (Result Flows Refusal))
+    (files : List (Side B Replayed × Side B Replayed))
+    (k l : Option (FormSink UnplacedOutput A)) (took took' : List ℕ) (totals : FollowTotals)
+    → sdp ≡ sdp' → ways ≡ ways'
+    → FollowsWhole w sdp ways (SideRead replayed_gave replayed_ended) files
+    (TakesIn (TakesFrame octets_under)) k l took took' totals
+    → FollowsWhole w sdp' ways' (SideRead replayed_gave replayed_ended) files
+    (TakesIn (TakesFrame octets_under)) k l took took' totals
+follows_same w sdp sdp' ways ways' files k l took took' totals text way is =
+    subst (λ (x : Option (List ℕ)). FollowsWhole w x ways'
+    (SideRead replayed_gave replayed_ended) files (TakesIn (TakesFrame octets_under)) k l took
+    took' totals) text
+    (subst (λ (x : List (Result Flows Refusal)). FollowsWhole w sdp x
+    (SideRead replayed_gave replayed_ended) files (TakesIn (TakesFrame octets_under)) k l took
+    took' totals) way is)
+
 -- ---- how often it failed
 
 pub failed_before : {A : Type 0} (filling : Filling) (fill : Option (List ℕ))
@@ -191,6 +210,14 @@ settled_follows w sdp ways files filling fill out mid new took took' is same = r
   follows = is.follows;
   written = settled_pictures filling fill is.frames out mid new is.written same;
 }
+
+-- ---- a run that is refused before it begins
+
+pub refused_first : (f : Fault) (out : Option FileOutput) (took : List ℕ)
+    → OfRefusal f (λ r. (f ≡ Refused r) × (out ≡ out) × (took ≡ took))
+refused_first (Refused r) out took = (refl, refl, refl)
+refused_first Device out took = tt
+refused_first Memory out took = tt
 
 -- ---- a run that is settled
 

@@ -62,7 +62,7 @@ pub(crate) fn sink_over<'a>(
     out: Option<FileOutput<'a>>,
 ) -> Option<FormSink<UnplacedOutput<'a>>>
     requires { IfSome out (λ f. IsUnplaced f) }
-    ensures { IsSinkOver filling fill out result }
+    ensures { IsSinkOver filling fill out.entry result }
 {
     match out {
         Some(file) => Some(FormSink::new(rt.alloc(), filling, fill, UnplacedOutput { file })),
@@ -72,7 +72,7 @@ pub(crate) fn sink_over<'a>(
 
 /// The file below a sink of pictures, where there is one.
 pub(crate) fn file_of<'a>(pictures: Option<FormSink<UnplacedOutput<'a>>>) -> Option<FileOutput<'a>>
-    ensures file { result ≡ file_under pictures }
+    ensures file { result ≡ file_under pictures.entry }
     ensures unplaced { IfSome result (λ f. IsUnplaced f) }
 {
     match pictures {
@@ -83,7 +83,7 @@ pub(crate) fn file_of<'a>(pictures: Option<FormSink<UnplacedOutput<'a>>>) -> Opt
 
 /// The file below a sink of pictures.
 fn file_written<'a>(pictures: FormSink<UnplacedOutput<'a>>) -> FileOutput<'a>
-    ensures file { result ≡ pictures.sink.file }
+    ensures file { result ≡ pictures.entry.sink.file }
     ensures unplaced { IsUnplaced result }
 {
     let below = pictures.into_sink();

@@ -1,10 +1,12 @@
 use Rattle.std.proofs.lemmas.Result.{err_from_is_err_and}
+use Rattle.capture_runs.proofs.FileUnder.{follows_same}
 use Rattle.capture_runs.proofs.followed.follow.Goals as goal
 
 pub returns-clause-followed : goal.returns-clause-followed
 returns-clause-followed c = (
   c.in_ok-follow_files.field-0,
-  rw (c.text_of.ensures, c.as_slice.ensures.value) at c.in_ok-follow_files.ensures.followed,
+  follows_same c.args.asked _ _ _ _ _ c.args.pictures.now c.follow_files.new.pictures _ _ _
+      c.text_of.ensures c.as_slice.ensures.value c.in_ok-follow_files.ensures.followed,
 )
 
 pub returns-clause-owed : goal.returns-clause-owed

@@ -1,5 +1,5 @@
 use Rattle.std.proofs.Common.{refl}
-use Rattle.run_outcome.proofs.Refusals.{of_refusal_map, own_refusal}
+use Rattle.capture_runs.proofs.FileUnder.{refused_first}
 use Rattle.capture_runs.proofs.followed.FollowCommand.follow_opened.Goals as goal
 
 pub returns-in-Ok-clause-done : goal.returns-in-Ok-clause-done
@@ -13,7 +13,7 @@ returns-in-Ok-clause-owed c = rw (c.in-Ok.is) c.follow_into.ensures.owed
 
 pub returns-in-Err-clause-refusal : goal.returns-in-Err-clause-refusal
 returns-in-Err-clause-refusal c =
-    rw (c.in-Err.is) (of_refusal_map _ (λ r is. (is, refl, refl)) (own_refusal _))
+    rw (c.in-Err.is) (refused_first _ _ _)
 
 pub returns-in-Err-clause-owed : goal.returns-in-Err-clause-owed
 returns-in-Err-clause-owed c = rw (c.in-Err.is) refl
