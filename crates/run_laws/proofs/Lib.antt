@@ -18,3 +18,4 @@ pub mod NoProcessRefusals
 pub mod ScriptOnce
 pub mod RehearsedOnce
 pub mod NoRehearsalRefusals
+pub mod NoTraceRefusals

@@ -19,5 +19,5 @@ pub use sent::{
 };
 pub use unrefused::{
     export_unrefused, loop_unrefused, merge_unrefused, process_unrefused, rehearse_unrefused,
-    report_unrefused, sdp_unrefused,
+    report_unrefused, sdp_unrefused, trace_unrefused,
 };

@@ -22,6 +22,7 @@ ghost use Rattle.receiver_engines.specs.declared.processing.Processing.{Processi
 ghost use Rattle.script_engines.specs.Described.{Describes, IsUndescribed};
 ghost use Rattle.script_engines.specs.Reading.{DoesScript, IsRefusedFor};
 ghost use Rattle.script_engines.specs.Rehearsed.{IsRefusedScript, Rehearses};
+ghost use Rattle.script_engines.specs.Traced.{IsUntraced, Traces};
 ghost use Rattle.export_engine.specs.ExportRefused.{IsExportRefusal};
 ghost use Rattle.export_engine.specs.Exported.{PrintsExported};
 ghost use Rattle.run_laws.specs.Received.{read_of};
@@ -82,6 +83,13 @@ pub fn sdp_unrefused<S: ByteSource>()
     ensures { (source later : S) (old new : List ℕ) (r : Refusal)
         → DoesScript Describes (S.gave source) (S.gave later) (S.ended later) old new
         → IsRefusedFor IsUndescribed (S.gave source) (S.gave later) (S.ended later) r → ⊥ }
+{}
+
+/// The same of a run of `trace` (`traces` there).
+pub fn trace_unrefused<S: ByteSource>()
+    ensures { (source later : S) (old new : List ℕ) (r : Refusal)
+        → DoesScript Traces (S.gave source) (S.gave later) (S.ended later) old new
+        → IsRefusedFor IsUntraced (S.gave source) (S.gave later) (S.ended later) r → ⊥ }
 {}
 
 /// The same of a run of `rehearse` (`rehearses` there).
