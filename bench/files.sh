@@ -1,8 +1,8 @@
 #!/bin/sh
 # Measures `receive` and `send` on real files, as ratios to `cat` of the same capture into a null device, `inspect`, `import`
-# and `receive` of it as a recording, and the memory of `receive` at two lengths of a capture. Wants about 1.6 GB below TMPDIR
-# (/tmp), best a folder in memory, as TMPDIR=/dev/shm. Words: how many rounds (5), the best one counts; how many frames a
-# capture has (60), of which 195 are a gigabyte.
+# and `receive` of it as a recording, `follow` of two paths' captures, and the memory of `receive` at two lengths of a
+# capture. Wants about 1.6 GB below TMPDIR (/tmp), best a folder in memory, as TMPDIR=/dev/shm. Words: how many rounds (5),
+# the best one counts; how many frames a capture has (60), of which 195 are a gigabyte.
 root=$(CDPATH='' cd -- "$(dirname -- "$0")/.." && pwd) || exit 1
 rounds=${1:-5}
 folder=$(mktemp -d "${TMPDIR:-/tmp}/st2110-bench.XXXXXX") || exit 1
@@ -63,7 +63,7 @@ receive() {
 
 make_picture >"$folder/picture"
 # shellcheck disable=SC2046
-send() { "$program" send --pt 112 --sdp "$sdp" --paths a --out "$1" $(pictures "$2"); }
+send() { "$program" send --pt 112 --sdp "$sdp" --paths "${3:-a}" --out "$1" $(pictures "$2"); }
 send "$folder/short" 16 >/dev/null || exit 1
 send "$folder/long" "$frames" >/dev/null || exit 1
 
@@ -84,6 +84,16 @@ line "inspect" "$(best "$program" inspect "$folder/recording")" "$recorded"
 line "import" "$(best import)" "$recorded"
 line "receive of the recording, window of 1" "$(best record 0)" "$recorded"
 line "receive of the recording, window of 16" "$(best record "$window")" "$recorded"
+
+# Both paths' captures side by side, into a pipe: beside `cat` of both.
+rm -f "$folder/out" "$folder/recording"
+send "$folder/other" "$frames" b >/dev/null || exit 1
+follow() { "$program" follow --out "$1" "$folder/long" "$folder/other" | cat; }
+side_by_side=$(best cat "$folder/long" "$folder/other")
+line "cat of both paths' $frames frames" "$side_by_side" "$side_by_side"
+line "follow" "$(best follow /dev/null)" "$side_by_side"
+line "follow, into a pipe" "$(best follow -)" "$side_by_side"
+
 if [ -x /usr/bin/time ]; then
     for capture in short long; do
         echo "memory of receive, window of 16, $capture:" \

@@ -1,6 +1,6 @@
 #!/bin/sh
 # Makes the recordings of examples/recordings/ anew, by real senders and recorders in a network of its own, and looks
-# whether the program takes from them what tshark does. No part of the gate.
+# whether the program takes from them what tshark does; and the pictures of examples/forms/, by FFmpeg. No part of the gate.
 set -u
 usage='usage: tests/interop.sh [FOLDER [PROGRAM]]
 
@@ -27,7 +27,7 @@ stop() {
 
 # Which tools aren't there.
 lacking=
-for tool in tshark dumpcap mergecap tcpdump gst-launch-1.0 ffmpeg ip python3 unshare nsenter gzip; do
+for tool in tshark dumpcap mergecap tcpdump gst-launch-1.0 ffmpeg ffprobe ip python3 unshare nsenter gzip; do
     command -v "$tool" >/dev/null || lacking="$lacking $tool"
 done
 case $lacking in
@@ -125,6 +125,12 @@ if "$program" export --help >/dev/null 2>&1; then
 else
     echo 'left out: export, which the program has not'
 fi
+
+# Pictures of FFmpeg, and what ffprobe reads of those that the program writes.
+mkdir "$room/forms" && "$root/tests/interop/forms.sh" "$room/forms" "$program" >"$room/pictures"
+grep '^FAILED: ' "$room/pictures"
+passed=$((passed + $(grep -c '^passed: ' "$room/pictures")))
+failed=$((failed + $(grep -c '^FAILED: ' "$room/pictures")))
 
 echo "$passed passed, $failed failed"
 [ "$failed" = 0 ]

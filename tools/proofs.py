@@ -14,9 +14,10 @@ SECONDS = {
     "pcap_file": 110, "key_mix": 70, "sdp_format": 110, "packet_plan": 50, "payload_header": 40, "rtp_header": 20,
     "lane_kernels": 50, "bt709_fixed": 50, "packet_numbers": 25, "frame_report": 40, "flow": 20, "interface_name": 15, "recording_counts": 120,
     "run_outcome": 110, "script_engines": 160, "capture_engines": 180, "receiver_engines": 100, "inspect_engine": 45,
-    "recording_engines": 100, "export_engine": 35, "command_line": 70, "datagram_link": 8, "devices": 45, "command_end": 35,
+    "recording_engines": 100, "export_engine": 35, "command_line": 70, "devices": 45, "command_end": 35,
     "script_runs": 40, "capture_runs": 160, "receiver_runs": 45, "recording_runs": 40,
-    "recording_reader": 60, "sdp_writing": 60, "window_finding": 90, "stream_inspection": 120, "st2110": 200,
+    "picture_forms": 150, "form_files": 60, "convert_engine": 60, "picture_engine": 60, "picture_runs": 60,
+    "recording_reader": 60, "side_by_side": 90, "follow_engine": 150, "following": 150, "sdp_writing": 60, "window_finding": 90, "stream_inspection": 120, "st2110": 200,
 }
 # What a crate takes that isn't named there.
 OTHER_SECONDS = 60

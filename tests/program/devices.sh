@@ -141,6 +141,8 @@ never receive --state dev.rcv --sdp never --window x --ssrc x --a x never
 says 'before any file: --window, --ssrc and --a' 1 '' 'st2110: receive 1 BadWindowText'
 never process --job none --ts 900 --fill 16,128,128 --hold never --out dev.cap never never
 says 'before any file: --job' 1 '' 'st2110: process 1 BadJob'
+never picture --ts 900 --fill x --hold never --out dev.cap never
+says 'before any file: --fill of picture' 1 '' 'st2110: frame 2 BadFill'
 never export --a x --out dev.cap never
 says 'before any file: --a of export' 1 '' 'st2110: export 1 BadFlow'
 # shellcheck disable=SC2046
@@ -175,3 +177,4 @@ lacking() {
 lacking 'want of memory: report' report one.rcv
 lacking 'want of memory: send' send --max 40 --out dev.cap "$files/four-by-two.pic"
 lacking 'want of memory: merge' merge --state dev.rcv one.rcv one.rcv
+lacking 'want of memory: picture' picture --ts 900 --mark --out dev.pic one.rcv

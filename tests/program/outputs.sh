@@ -66,9 +66,13 @@ input 'receive 5' s.sdp receive --sdp s.sdp --window 900 --state OUT a.cap
 input 'receive 5' alike.pcap receive --sdp alike.sdp --window 900 --state OUT alike.pcap
 input 'process 5' one.rcv process --job gain:4096 --ts 900 --fill 16,128,128 --out OUT one.rcv
 input 'process 5' p.pic process --job key --ts 900 --fill 16,128,128 --hold p.pic --out OUT one.rcv one.rcv
+input 'frame 5' one.rcv picture --ts 900 --out OUT one.rcv
+input 'frame 5' p.pic picture --ts 900 --hold p.pic --out OUT one.rcv
 input 'import 5' alike.pcap import --sdp alike.sdp --out OUT alike.pcap
 input 'import 5' alike.sdp import --sdp alike.sdp --out OUT alike.pcap
 input 'import 5' a.cap import --sdp alike.sdp --out OUT alike.pcap a.cap
+input 'follow 2' alike.pcap follow --sdp alike.sdp --out OUT alike.pcap
+input 'follow 2' alike.sdp follow --sdp alike.sdp --out OUT alike.pcap
 input 'export 2' sent.cap export --a 239.1.1.1:5004 --out OUT sent.cap
 "$program" receive --window 900 --state a.cap - <a.cap >out 2>err
 status=$?
@@ -129,6 +133,8 @@ replaces send sent.cap send --base 900 --max 40 --out new.out p.pic
 replaces receive one.rcv receive --window 900 --state new.out a.cap
 replaces merge merged.rcv merge --state new.out one.rcv two.rcv
 replaces process gained.cap process --job gain:4096 --ts 900 --fill 16,128,128 --out new.out one.rcv
+run picture --ts 900 --out shown.y4m one.rcv
+replaces picture shown.y4m picture --ts 900 --as y4m --out new.out one.rcv
 replaces export sent.pcap export --a 239.1.1.1:5004 --out new.out sent.cap
 
 # leaves NAME STATUS FAULT PARTIAL COMMAND..: whether a command that fails leaves what stood under the name of its output,
@@ -162,6 +168,7 @@ leaves 'receive, a capture ends early' 1 'capture 5 Truncated' goes receive --wi
 leaves 'merge, a receiver ends early' 1 'state 5 Truncated' goes merge --state new.out one.rcv cut.rcv
 leaves 'process, a receiver ends early' 1 'state 5 Truncated' goes \
     process --job gain:4096 --ts 900 --fill 16,128,128 --out new.out cut.rcv
+leaves 'picture, a receiver ends early' 1 'state 5 Truncated' goes picture --ts 900 --out new.out cut.rcv
 leaves 'migrate, a capture ends early' 1 'capture 5 Truncated' stays migrate --sdp s.sdp --out new.out cut-old.cap
 leaves 'export, a capture ends early' 1 'capture 5 Truncated' stays \
     export --a 239.1.1.1:5004 --out new.out cut.cap

@@ -258,9 +258,23 @@ process --job gain:16385 --ts 900 --fill 0,0,0 --out v.cap g.rcv|1|job 8 BadGain
 process --job gain:1 --ts 900 --fill 0,0,0 --max 23 --out v.cap g.rcv|1|plan 2 BadPacketSize|--max; wanted 20 octets and a pgroup at least, and at most 9000
 process --job gain:1 --ts 900 --fill 0,0,0 --out v.cap cut.rcv|1|state 5 Truncated|cut.rcv, octet 38; wanted more octets: the file ends before it is whole
 process --job gain:1 --ts 900 --fill 0,0,0 --out no-folder/v.cap g.rcv|3|device|no-folder/v.cap; wanted to write there: No such file or directory (os error 2)
+picture --ts 901 --out v.pic g.rcv|1|frame 1 NoFrame|--ts; wanted a timestamp of the receiver's window
+picture --ts 900 --fill 0,0 --out v.pic g.rcv|1|frame 2 BadFill|--fill; wanted three numbers with commas between, none above the greatest value of a frame
+picture --ts 900 --hold row.pic --out v.pic g.rcv|1|frame 3 HoldDiffers|row.pic, octet 30; wanted a picture of the frame's format
+picture --ts 900 --out v.ppm g.rcv|1|frame 4 WrongForm|--as; wanted y4m for YCbCr, ppm for RGB, or a form of both: picture or raw
+picture --ts 900 --out g.rcv g.rcv|1|frame 5 OutputIsInput|--out; wanted the name of no file that is read
+picture --ts 900 --out v.pic cut.rcv|1|state 5 Truncated|cut.rcv, octet 38; wanted more octets: the file ends before it is whole
+picture --ts 900 --hold empty --out v.pic g.rcv|1|picture 5 Truncated|empty, octet 0; wanted a picture, which begins S20PIC; the file is empty
+picture --ts 900 --out no-folder/v.pic g.rcv|3|device|no-folder/v.pic; wanted to write there: No such file or directory (os error 2)
 migrate --sdp q.sdp --out v.cap new.cap|1|capture 4 BadVersion|new.cap, octet 8; wanted version 01, or for receive 01 or 02
 migrate --sdp no-such-file --out v.cap old.cap|3|device|no-such-file, octet 0; wanted to read there: No such file or directory (os error 2)
 migrate --sdp q.sdp --out no-folder/v.cap old.cap|3|device|no-folder/v.cap; wanted to write there: No such file or directory (os error 2)
+convert p.pic v.ppm|1|convert 1 WrongForm|--as; wanted y4m for YCbCr, ppm for RGB, or a form of both: picture or raw
+convert p.pic p.pic|1|convert 2 OutputIsInput|OUT; wanted the name of no file that is read
+convert cut.pic v.y4m|1|picture 5 Truncated|cut.pic, octet 37; wanted more octets: the file ends before it is whole
+convert --from y4m p.pic v.pic|1|form 3 BadMagic|p.pic, octet 9; wanted YUV4MPEG2 or P6
+convert --from ppm empty v.pic|1|form 7 Truncated|empty, octet 0; wanted more octets: the file ends before it is whole
+convert no-such-file v.pic|3|device|no-such-file, octet 0; wanted to read there: No such file or directory (os error 2)
 END
 # shellcheck disable=SC2046
 run -v send --out v.cap $(words 10001)

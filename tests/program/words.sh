@@ -26,7 +26,7 @@ done
 for asked in --help -h help; do
     run $asked
     holds_words "$asked" 'Usage: st2110' trace sdp rehearse migrate send receive merge process report loop \
-        import inspect export --verbose --quiet --help --version
+        import inspect export follow convert picture --verbose --quiet --help --version
 done
 
 # Of each command the help has every option and file.
@@ -51,6 +51,9 @@ loop --max --limit 1400 100000 <PICTURE>
 import --sdp --a --b --out [ADDR:]PORT <RECORDING>...
 inspect --sdp --format --pt --a --b --json 96 [ADDR:]PORT <RECORDING>...
 export --a ADDR:PORT --b --out --paced --start SECONDS FILE <CAPTURE>
+follow --sdp --a --b --window --ssrc --eager --out --fill --hold any 8 [ADDR:]PORT <RECORDING>...
+convert --from --as --nth --rate FORM 25/1 <IN> <OUT>
+picture --ts --fill --hold --mark --as FORM y4m ppm raw --out <STATE>
 END
 
 # Words that are refused, and nothing is written: rows are WORDS|TEXT|USAGE, as `misworded` has them.
@@ -59,6 +62,7 @@ no_value='but none was supplied'
 digit='invalid digit found in string'
 start='invalid value'
 seconds="for '--start <SECONDS>': it isn't seconds below 4294967296, with up to nine digits behind a point"
+rate='a rate from 1 to 300 pictures a second, as 60 or 60000/1001'
 process='process --job <JOB> --ts <TS> --fill <A,B,C> --out <FILE>'
 while IFS='|' read -r words text usage; do
     # shellcheck disable=SC2086
@@ -168,6 +172,22 @@ export --a 239.1.1.1:5004 old.cap|$missing\n  --out <FILE>|export --a <ADDR:PORT
 export --out no-words.pcap old.cap|$missing\n  --a <ADDR:PORT>|export --a <ADDR:PORT> --out <FILE> <CAPTURE>
 export --a 239.1.1.1:5004 --out no-words.pcap|$missing\n  <CAPTURE>|export --a <ADDR:PORT> --out <FILE> <CAPTURE>
 export --a 239.1.1.1:5004 --out no-words.pcap old.cap old.cap|unexpected argument 'old.cap' found|export [OPTIONS] --a <ADDR:PORT> --out <FILE> <CAPTURE>
+convert|$missing\n  <IN>\n  <OUT>|convert <IN> <OUT>
+convert p.pic|$missing\n  <OUT>|convert <IN> <OUT>
+convert p.pic no-words.cap p.pic|unexpected argument 'p.pic' found|convert [OPTIONS] <IN> <OUT>
+convert --from raw p.pic no-words.cap|invalid value 'raw' for '--from <FORM>'\n  [possible values: picture, y4m, ppm]|-
+convert --as y4 p.pic no-words.cap|invalid value 'y4' for '--as <FORM>'\n  [possible values: picture, y4m, ppm, raw]\n\n  tip: a similar value exists: 'y4m'|-
+convert --nth x p.pic no-words.cap|invalid value 'x' for '--nth <N>': $digit|-
+convert --rate 25:1 no-such-file no-words.cap|invalid value '25:1' for '--rate <N/D>': $rate|-
+convert --rate 0 p.pic p.pic|invalid value '0' for '--rate <N/D>': $rate|-
+convert --rate 301 p.pic no-words.cap|invalid value '301' for '--rate <N/D>': $rate|-
+picture|$missing\n  --ts <TS>\n  --out <FILE>\n  <STATE>|picture --ts <TS> --out <FILE> <STATE>
+picture --ts 900 --out no-words.pic|$missing\n  <STATE>|picture --ts <TS> --out <FILE> <STATE>
+picture --ts 900 g.rcv|$missing\n  --out <FILE>|picture --ts <TS> --out <FILE> <STATE>
+picture --out no-words.pic g.rcv|$missing\n  --ts <TS>|picture --ts <TS> --out <FILE> <STATE>
+picture --ts x --out no-words.pic g.rcv|invalid value 'x' for '--ts <TS>': $digit|-
+picture --ts 900 --as Y4M --out no-words.pic g.rcv|invalid value 'Y4M' for '--as <FORM>'\n  [possible values: picture, y4m, ppm, raw]|-
+picture --ts 900 --out no-words.pic g.rcv g.rcv|unexpected argument 'g.rcv' found|picture [OPTIONS] --ts <TS> --out <FILE> <STATE>
 END
 
 # No command has a version of its own. The usage has what is always needed, and the option that the
@@ -190,6 +210,9 @@ loop|| <PICTURE>
 import| --sdp <FILE> --out <FILE>| <RECORDING>...
 inspect|| <RECORDING>...
 export| --a <ADDR:PORT> --out <FILE>| <CAPTURE>
+follow|| <RECORDING>...
+convert|| <IN> <OUT>
+picture| --ts <TS> --out <FILE>| <STATE>
 END
 run receive --version
 misworded 'refused: receive --version' \
@@ -201,3 +224,4 @@ says 'a word that is no text' 2 '' 'error: the command line is no UTF-8 text'
 none 'refused words write no capture' no-words.cap
 none 'refused words write no receiver' no-words.rcv
 none 'refused words write no recording' no-words.pcap
+none 'refused words write no picture' no-words.pic

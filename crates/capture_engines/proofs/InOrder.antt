@@ -141,7 +141,7 @@ pub record NextPair {S : Type 0} (Is : S × S → Type 0) (start now : List S) (
         ≡ zip (take k start) (take k now) ++ next ∷ []
     pub counted : length (zip (take k start) (take k now)) ≡ k
 
-next_pair : {S : Type 0} (Is : S × S → Type 0) (start now : List S) (k : ℕ)
+pub next_pair : {S : Type 0} (Is : S × S → Type 0) (start now : List S) (k : ℕ)
     → FirstIs Is (zip (drop k start) (drop k now)) → NextPair Is start now k
 next_pair Is [] now zero is = absurd is
 next_pair Is (s ∷ ss) [] zero is = absurd is

@@ -11,7 +11,7 @@ use Rattle.media_file.specs.declared.fault.FileFault.TheVariants.{TooManyRecords
 use Rattle.run_outcome.specs.Fault.{IfRefused}
 use Rattle.run_outcome.specs.LowerFaults.{capture_fault}
 use Rattle.capture_engines.specs.Migrating.{LeavesOff, LeavesAt, LeavesBy, Migrates, MovesBy}
-use Rattle.capture_engines.specs.Migrating.{Passed, PrintsMigrated, StopsAt}
+use Rattle.capture_engines.specs.Migrating.{Passed, PrintsMigrated, MigratesUpTo}
 use Rattle.capture_engines.specs.Migrating.LeavesOff.{Stopped, Untouched, Written}
 use Rattle.run_outcome.specs.TextRefusals.{IsTextRefusal}
 use Rattle.run_outcome.specs.Refusing.{OfRefusal}
@@ -26,7 +26,7 @@ Saying = List ℕ → Type 0
 
 -- a fault of the capture's file
 moved_by : (f : FileFault) (text : List ℕ) (ended : Type 0) (old new : Passed) → IsOfCapture f
-    → StopsAt f text ended old new → MovesBy (capture_fault f) text ended old new
+    → MigratesUpTo f text ended old new → MovesBy (capture_fault f) text ended old new
 moved_by NoMemory text ended old new named stops = absurd named
 moved_by TrailingBytes text ended old new named stops = absurd named
 moved_by MixedGroup text ended old new named stops = absurd named
@@ -98,7 +98,7 @@ refused_left Is (Err f) Said ended old new is left = with_left Is f Said ended o
 
 pub moved_fault : (f : FileFault) (result : Fault) (text : List ℕ) (ended : Type 0)
     (old new : Passed) → result ≡ capture_fault f → IsOfCapture f
-    → StopsAt f text ended old new → MovesBy result text ended old new
+    → MigratesUpTo f text ended old new → MovesBy result text ended old new
 moved_fault f result text ended old new is named stops =
     subst (λ (e : Fault). MovesBy e text ended old new) (sym is)
     (moved_by f text ended old new named stops)

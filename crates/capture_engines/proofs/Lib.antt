@@ -18,5 +18,4 @@ pub mod Said
 pub mod Untaken
 pub mod Readings
 pub mod Ways
-pub mod Blaming
 pub mod Quiet

@@ -4,55 +4,21 @@ use Rattle.std.proofs.Common.{Option, ap, subst, sym, ◌∙◌, ◌≢◌, zero
 use Rattle.std.proofs.Common.{append-nil, refl, slice_index}
 use Rattle.std.specs.List.{flat_map}
 use Rattle.path_receiver.specs.Frames.{State}
-use Rattle.st_format.specs.Device.{GrowsPart}
-use Rattle.path_receiver.specs.Answers.{refusal_number, taken_at}
+use Rattle.st_format.specs.Device.{GrowsPart, capped}
+use Rattle.path_receiver.proofs.Slots.{at_place, place_is}
+use Rattle.path_receiver.specs.Answers.{all_refusals, refusal_number, taken_at}
 use Rattle.path_receiver.specs.declared.answer.Refusal.{Refusal}
-use Rattle.path_receiver.specs.declared.answer.Refusal.TheVariants.{Header, WrongPayloadType}
-use Rattle.path_receiver.specs.declared.answer.Refusal.TheVariants.{WrongSource, Payload}
-use Rattle.payload_header.specs.declared.payload.PayloadFault.{PayloadFault}
-use Rattle.payload_header.specs.declared.payload.PayloadFault.TheVariants as payload
-use Rattle.rtp_header.specs.declared.header.RtpFault.{RtpFault}
-use Rattle.rtp_header.specs.declared.header.RtpFault.TheVariants as rtp
 use Rattle.run_outcome.specs.Line.{line_text}
 use Rattle.capture_engines.specs.Printed.{counted_line, refusal_line, answers_text, received_text}
-use Rattle.capture_engines.specs.Printed.{refusals, taken_text, tally_text}
-use Rattle.path_receiver.specs.Tallied.{Tallies, fitting, is_refusal, place_of}
+use Rattle.capture_engines.specs.Printed.{taken_text, tally_text}
+use Rattle.path_receiver.specs.Tallied.{Tallies, is_refusal}
 use Rattle.run_outcome.specs.declared.line.Line.{Line}
 use Rattle.run_outcome.specs.declared.line.Line.TheVariants.{OutsideCount, RefusedCount}
 use Rattle.path_receiver.specs.declared.tally.Tally.{Tally}
 use Rattle.path_receiver.specs.declared.answer.Taken.{Taken}
 use Rattle.run_outcome.proofs.Printed.{texts_before, texts_more, texts_cut}
 
--- ---- texts of the items of a list
-
--- ---- the line of a frame
-
 -- ---- the lines of refusals
-
-at_header : (e : RtpFault) → Header e ≡ get_or refusals (place_of (Header e)) (Header e)
-at_header rtp.ShortHeader = refl
-at_header rtp.BadVersion = refl
-at_header rtp.ShortExtension = refl
-at_header rtp.BadPadding = refl
-
-at_payload : (e : PayloadFault) → Payload e ≡ get_or refusals (place_of (Payload e)) (Payload e)
-at_payload payload.ShortPayloadHeader = refl
-at_payload payload.TooManySegments = refl
-at_payload payload.SecondField = refl
-at_payload payload.BadLength = refl
-at_payload payload.BadOffset = refl
-at_payload payload.RowOutside = refl
-at_payload payload.ColumnsOutside = refl
-at_payload payload.ShortData = refl
-
-at_place : (e : Refusal) → e ≡ get_or refusals (place_of e) e
-at_place (Header f) = at_header f
-at_place WrongPayloadType = refl
-at_place WrongSource = refl
-at_place (Payload f) = at_payload f
-
-place_is : (e : Refusal) (i : ℕ) → refusal_number e ≡ i + 1 → place_of e ≡ i
-place_is e i is = omega (arith, is)
 
 -- the line of the refusal of a number, by its count
 line_at : (counts : List ℕ) (e : Refusal) (i : ℕ) → refusal_number e ≡ i + 1
@@ -64,23 +30,23 @@ line_at counts e i is =
 
 pub refusals_more : (counts : List ℕ) (e : Refusal) (i : ℕ) (old mid new : List ℕ)
     → refusal_number e ≡ i + 1 → i < 14
-    → mid ≡ old ++ texts_before (refusal_line counts) refusals i
+    → mid ≡ old ++ texts_before (refusal_line counts) all_refusals i
     → new ≡ mid ++ counted_line (slice_index counts i) (RefusedCount e (slice_index counts i))
-    → new ≡ old ++ texts_before (refusal_line counts) refusals (i + 1)
+    → new ≡ old ++ texts_before (refusal_line counts) all_refusals (i + 1)
 refusals_more counts e i old mid new is lt p q =
-    texts_more (refusal_line counts) refusals i e e old mid new lt
-    (subst (λ (j : ℕ). e ≡ get_or refusals j e) (place_is e i is) (at_place e)) p
+    texts_more (refusal_line counts) all_refusals i e e old mid new lt
+    (subst (λ (j : ℕ). e ≡ get_or all_refusals j e) (place_is e i is) (at_place e)) p
     (subst (λ (t : List ℕ). new ≡ mid ++ t) (line_at counts e i is) q)
 
 pub refusals_cut : (counts : List ℕ) (e : Refusal) (i : ℕ) (old mid new : List ℕ)
     → refusal_number e ≡ i + 1 → i < 14
-    → mid ≡ old ++ texts_before (refusal_line counts) refusals i
+    → mid ≡ old ++ texts_before (refusal_line counts) all_refusals i
     → GrowsPart mid new
     (counted_line (slice_index counts i) (RefusedCount e (slice_index counts i)))
-    → GrowsPart old new (flat_map (refusal_line counts) refusals)
+    → GrowsPart old new (flat_map (refusal_line counts) all_refusals)
 refusals_cut counts e i old mid new is lt p q =
-    texts_cut (refusal_line counts) refusals i e e old mid new lt
-    (subst (λ (j : ℕ). e ≡ get_or refusals j e) (place_is e i is) (at_place e)) p
+    texts_cut (refusal_line counts) all_refusals i e e old mid new lt
+    (subst (λ (j : ℕ). e ≡ get_or all_refusals j e) (place_is e i is) (at_place e)) p
     (subst (λ (t : List ℕ). GrowsPart mid new t) (line_at counts e i is) q)
 
 -- a line of a count
@@ -109,19 +75,19 @@ tally_text_is : (t : Tally) (answers : List (Result Taken Refusal)) → Tallies 
 tally_text_is t answers tallied =
     ap (λ (lines : List ℕ). lines ++ counted_line t.outside (OutsideCount t.outside))
     (flat_same (refusal_line t.refused)
-    (λ e. counted_line (fitting (count_by (is_refusal e) answers))
-    (RefusedCount e (fitting (count_by (is_refusal e) answers))))
-    (λ e. ap (λ (n : ℕ). counted_line n (RefusedCount e n)) (tallied.refused e)) refusals)
+    (λ e. counted_line (capped (count_by (is_refusal e) answers))
+    (RefusedCount e (capped (count_by (is_refusal e) answers))))
+    (λ e. ap (λ (n : ℕ). counted_line n (RefusedCount e n)) (tallied.refused e)) all_refusals)
     ∙ ap (λ (n : ℕ). flat_map
-    (λ e. counted_line (fitting (count_by (is_refusal e) answers))
-    (RefusedCount e (fitting (count_by (is_refusal e) answers)))) refusals
+    (λ e. counted_line (capped (count_by (is_refusal e) answers))
+    (RefusedCount e (capped (count_by (is_refusal e) answers)))) all_refusals
     ++ counted_line n (OutsideCount n)) tallied.outside
 
 pub received_text_is : (wanted : Bool) (delivered : ℕ) (t : Tally) (s : State)
-    (datagrams : List (List ℕ)) → delivered ≡ fitting (length datagrams)
+    (datagrams : List (List ℕ)) → delivered ≡ capped (length datagrams)
     → Tallies t (map (taken_at s.opening) datagrams)
     → received_text wanted delivered (tally_text t) s ≡ taken_text wanted s datagrams
 received_text_is wanted delivered t s datagrams count tallied =
     ap (λ (n : ℕ). received_text wanted n (tally_text t) s) count
-    ∙ ap (λ (lines : List ℕ). received_text wanted (fitting (length datagrams)) lines s)
+    ∙ ap (λ (lines : List ℕ). received_text wanted (capped (length datagrams)) lines s)
     (tally_text_is t (map (taken_at s.opening) datagrams) tallied)

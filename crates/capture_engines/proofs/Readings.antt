@@ -20,12 +20,13 @@ use Rattle.pcap_file.specs.declared.fault.RecordingFault.TheVariants as recordin
 use Rattle.run_outcome.specs.Refusing.{OfRefusal}
 use Rattle.run_outcome.proofs.Refusals.{of_refusal_map}
 use Rattle.run_outcome.specs.declared.fault.Fault.{Fault}
+use Rattle.run_outcome.specs.LowerFaults.{reading_fault}
 use Rattle.st_format.specs.History.{IsRead, since}
 use Rattle.capture_engines.specs.Rescued.{IsFrontOf, TakesPart}
 use Rattle.capture_engines.specs.Stopping.{IsReadingStop}
 use Rattle.capture_engines.specs.declared.intake.Intake.{Intake}
 use Rattle.capture_engines.specs.declared.receiving.Asked.{Asked}
-use Rattle.capture_engines.specs.Files.{fault_by, file_datagrams, flows_in, octets_of}
+use Rattle.capture_engines.specs.Files.{file_datagrams, flows_in, octets_of}
 use Rattle.capture_engines.specs.Taking.{FileGoes, Holding, RecordsGo, TakesRecords}
 use Rattle.capture_engines.specs.Taking.{said_behind, said_by}
 use Rattle.capture_engines.specs.declared.way.Way.{Way}
@@ -113,7 +114,7 @@ firsts w octets records (more, is) =
 -- all that was read has, where it ended by a refusal
 known_here : (flows : Option Flows) (g : ReadingFault) (octets : List ℕ) (records : List Entry)
     (left : LeftOut) → IfFile g (HaveFileRecords flows octets records left × IsFileFault g octets)
-    → OfRefusal (fault_by g) (λ r. records_of_file flows octets ≡ records)
+    → OfRefusal (reading_fault g) (λ r. records_of_file flows octets ≡ records)
 known_here flows (Capture file.NoMemory) octets records left known = tt
 known_here flows (Capture file.Device) octets records left known = tt
 known_here flows (Capture f) octets records left known = known.0.records_are

@@ -22,9 +22,10 @@ use Rattle.run_outcome.proofs.Refusals.{of_refusal_map}
 use Rattle.run_outcome.specs.declared.fault.Fault.{Fault}
 use Rattle.run_outcome.specs.declared.refusal.Refusal.{Refusal}
 use Rattle.run_outcome.specs.declared.refusal.Refusal.TheVariants as why
+use Rattle.run_outcome.specs.LowerFaults.{reading_fault}
 use Rattle.recording_reader.specs.Kinds.{is_recording}
 use Rattle.st_format.specs.History.{IsRead, since}
-use Rattle.capture_engines.specs.Files.{HasFileText, fault_by, first_way, flows_in, other_ways}
+use Rattle.capture_engines.specs.Files.{HasFileText, first_way, flows_in, other_ways}
 use Rattle.capture_engines.specs.Files.{way_at}
 use Rattle.capture_engines.specs.Received.{FirstFileRefuses, HasCaptureFault}
 use Rattle.capture_engines.specs.Received.{IsCaptureBy, IsFileOpenedRefusal, IsFilesRefusal}
@@ -91,7 +92,7 @@ fault_stops : {S : Type 0} (gave : S → List ℕ) (ended : S → Type 0) (r : F
     → (r.is_recording ≡ true → IsSome r.flows) → HasGivenFile gave ended r
     → ((octets : List ℕ) → IsRead r.before.gave (gave r.source) (ended r.source) octets
     → IfFile g (HaveFileRecords r.flows octets r.records r.left_out × IsFileFault g octets))
-    → OfRefusal (fault_by g)
+    → OfRefusal (reading_fault g)
     (StopsFile w (IsRead r.before.gave (gave r.source) (ended r.source)))
 fault_stops gave ended r w (Capture file.NoMemory) by kind given known = tt
 fault_stops gave ended r w (Capture file.Device) by kind given known = tt
@@ -125,7 +126,7 @@ capture_many octets text records count has = inr (
 )
 
 -- a recording has no text
-no_text : (octets text : List ℕ) → is_recording octets ≡ true → text_of_file octets ≡ text
+pub no_text : (octets text : List ℕ) → is_recording octets ≡ true → text_of_file octets ≡ text
     → text ≡ []
 no_text octets text kind same =
     sym same ∙ ap (λ (b : Bool). cond b [] (text_before (front_at octets))) kind
@@ -204,7 +205,7 @@ pub stop_refused : {S X : Type 0} (window : List ℕ) (w : Way) (begun : Option 
 stop_refused window w begun gave ended r f by kind given parts (inl (g, failed, is)) =
     let told : List ℕ → Type 0 = IsRead r.before.gave (gave r.source) (ended r.source) in
     subst (λ (x : Fault). OfRefusal x (IsTakeRefusal window w begun told)) (sym is)
-    (of_refusal_map (fault_by g) (λ x stops. inl stops)
+    (of_refusal_map (reading_fault g) (λ x stops. inl stops)
     (fault_stops gave ended r w g by kind given (at_fault gave ended r g failed given)))
 stop_refused window w begun gave ended r f by kind given parts (inr (reads, is, count)) =
     let told : List ℕ → Type 0 = IsRead r.before.gave (gave r.source) (ended r.source) in

@@ -1,6 +1,6 @@
 -- Pictures sent one after the other into a capture.
 use Rattle.std.proofs.Common.{◌≡◌, ℕ, zero, suc, ◌+◌, ◌-◌, ◌%◌, ◌^◌, ◌<◌, ◌≤◌, List, [], ◌∷◌}
-use Rattle.std.proofs.Common.{false, drop, Option, None, Some, Result, Ok, Err, refl, sym, ap}
+use Rattle.std.proofs.Common.{false, drop, Option, Result, Ok, Err, refl, sym, ap}
 use Rattle.std.proofs.Common.{◌++◌, length, subst, ◌∙◌, arith, inl, inr}
 use Rattle.std.proofs.Common.{append_assoc, append-nil, length-append, length-drop, take}
 use Rattle.std.proofs.Math.Seq.{take-add}
@@ -9,7 +9,7 @@ use Rattle.std.proofs.lemmas.List.{drop-append-le, length-take-le, take_all}
 use Rattle.std.specs.Borrow.{GName}
 use Rattle.std.specs.List.{zip}
 use Rattle.std.specs.Prelude.{IfOk, OnOk}
-use Rattle.st_format.specs.Device.{CountsOne, Failed}
+use Rattle.st_format.specs.Device.{CountsOne, Failed, capped}
 use Rattle.st_format.specs.Picture.{Values}
 use Rattle.st_format.specs.declared.device.ByteSink.{Ghosts}
 use Rattle.st_format.specs.declared.format.Format.{Format}
@@ -33,13 +33,9 @@ use Rattle.packet_plan.specs.declared.run.PacketRun.{PacketRun}
 use Rattle.packet_plan.specs.declared.stamp.Stamp.{Stamp}
 use Rattle.capture_engines.specs.Sent.{FirstIs}
 use Rattle.run_outcome.specs.Pictures.{SaysPicture}
-use Rattle.run_outcome.specs.Text.{GivesText}
-use Rattle.run_outcome.specs.TextRefusals.{SaysCaptureText}
-use Rattle.st_format.specs.History.{IsRead, since}
-use Rattle.st_format.proofs.Histories.{since_is}
 use Rattle.capture_engines.specs.Sending.{HasSent, SayPictures, SendsFirstAndRest, SendsMore}
-use Rattle.capture_engines.specs.Sending.{SaysSdp, SendsNext, SendsPictures, SendsRest, SendsTo}
-use Rattle.capture_engines.specs.Sending.{counted, run_sender}
+use Rattle.capture_engines.specs.Sending.{SendsNext, SendsPictures, SendsRest, SendsTo}
+use Rattle.capture_engines.specs.Sending.{run_sender}
 use Rattle.capture_engines.proofs.OneOf.{first_again}
 use Rattle.capture_engines.specs.Writing.{WritesPicture}
 use Rattle.capture_engines.specs.declared.sender.Sender.{Sender as Sends}
@@ -196,8 +192,8 @@ all_sent p stamp i [] (q ∷ qs) sent = absurd sent
 all_sent p stamp i (d ∷ ds) (q ∷ qs) sent =
     ap (λ (n : ℕ). suc n) (all_sent p stamp (i + 1) ds qs sent.1)
 
-count_more : (old packets new : ℕ) (ds es : List (List ℕ)) → old ≡ counted (length ds)
-    → length es ≡ packets → new ≡ counted (old + packets) → new ≡ counted (length (ds ++ es))
+count_more : (old packets new : ℕ) (ds es : List (List ℕ)) → old ≡ capped (length ds)
+    → length es ≡ packets → new ≡ capped (old + packets) → new ≡ capped (length (ds ++ es))
 count_more old packets new ds es is long more =
     let both : length (ds ++ es) ≡ length ds + length es = length-append ds es in
     omega (arith, is, long, more, both)
@@ -455,32 +451,6 @@ pictures_sent {S} told wanted text p sources mid later old new count first behin
           (subst (λ (l : List S). SayPictures told l (drop 1 later) sends.rest) behind sends.say);
       taken = sends.taken;
     }
-
--- ---- the text
-
--- no SDP is given
-pub said_none : {S : Type 0} (gave : S → List ℕ) (ended : S → Type 0) (sdp later : Option S)
-    (text : List ℕ) → sdp ≡ None → text ≡ [] → SaysSdp gave ended sdp later text
-said_none {S} gave ended sdp later text none empty =
-    subst (λ (x : Option S). SaysSdp gave ended x later text) (sym none) empty
-
--- it was read whole
-pub said_some : {S : Type 0} (gave : S → List ℕ) (ended : S → Type 0) (sdp : Option S)
-    (source now : S) (text : List ℕ) → sdp ≡ Some source
-    → GivesText 65535 (gave source) (gave now) (ended now) text
-    → SaysCaptureText (IsRead (gave source) (gave now) (ended now))
-    → SaysSdp gave ended sdp (Some now) text
-said_some {S} gave ended sdp source now text some gives says =
-    subst (λ (x : Option S). SaysSdp gave ended x (Some now) text) (sym some) (
-      gives.given,
-      gives.ended,
-      says text (record {
-        behind = [];
-        parts = sym (append-nil (since (gave source) (gave now))
-            ∙ since_is (gave source) (gave now) text gives.given);
-        all = λ over. refl;
-      }),
-    )
 
 -- ---- ends
 

@@ -5,6 +5,7 @@ use Rattle.std.proofs.Common.{append-nil, append_assoc, length-append}
 use Rattle.std.proofs.lemmas.List.{map-append}
 use Rattle.std.specs.Prelude.{option_to_list}
 use Rattle.media_file.specs.Records.{Entry}
+use Rattle.st_format.specs.Device.{capped}
 use Rattle.path_receiver.specs.Answers.{taken_at}
 use Rattle.path_receiver.specs.Frames.{Holds}
 use Rattle.path_receiver.specs.Opening.{Opening}
@@ -13,7 +14,7 @@ use Rattle.path_receiver.specs.declared.answer.Taken.{Taken as Answer}
 use Rattle.recording_reader.specs.FileReader.{FileReader, FindsOne, record_seen}
 use Rattle.recording_reader.specs.declared.room.RecordView.{RecordView}
 use Rattle.capture_engines.specs.Files.{octets_of}
-use Rattle.path_receiver.specs.Tallied.{Tallies, TalliesMore, fitting}
+use Rattle.path_receiver.specs.Tallied.{Tallies, TalliesMore}
 use Rattle.capture_engines.specs.Taking.{AnnouncesStream, Counts, HoldsBy, Stands, TakesDatagrams}
 use Rattle.capture_engines.specs.Taking.{TakesRecords, said_by}
 use Rattle.capture_engines.specs.declared.intake.Intake.{Intake}
@@ -27,7 +28,7 @@ takes_none s = record {
   opening = refl;
   holds = λ earlier holds. subst (Holds s.receiver) (sym (append-nil earlier)) holds;
   tallied = λ earlier counts. subst (Counts s) (sym (append-nil earlier)) counts;
-  delivered = λ count is. is ∙ ap fitting (omega arith);
+  delivered = λ count is. is ∙ ap capped (omega arith);
 }
 
 pub takes_then : {A : Type 0} (xs ys : List (List ℕ)) (a b c : Intake A) → TakesDatagrams xs a b
@@ -42,7 +43,7 @@ takes_then xs ys a b c first more = record {
       (more.tallied (earlier ++ xs) (first.tallied earlier counts));
   delivered = λ count is.
       more.delivered (count + length xs) (first.delivered count is)
-      ∙ ap fitting (omega (arith, length-append xs ys));
+      ∙ ap capped (omega (arith, length-append xs ys));
 }
 
 -- the answer to one datagram more was counted
@@ -110,7 +111,7 @@ holds_by o said b a xs ds taken holds = record {
   holds = taken.holds ds holds.holds;
   tallied = taken.tallied ds holds.tallied;
   delivered = taken.delivered (length ds) holds.delivered
-      ∙ ap fitting (sym (length-append ds xs));
+      ∙ ap capped (sym (length-append ds xs));
 }
 
 stands_by : {A : Type 0} (o : Asked A) (text : List ℕ) (b a : Intake A) (xs : List (List ℕ))

@@ -5,7 +5,7 @@ use Rattle.std.specs.Prelude.{IsSome}
 use Rattle.std.proofs.lemmas.Bool.{false≢true}
 use Rattle.run_outcome.specs.Fault.{IfRefused}
 use Rattle.run_outcome.specs.LowerFaults.{of_sdp, sdp_fault}
-use Rattle.run_outcome.specs.TextRefusals.{IsCaptureText}
+use Rattle.run_outcome.specs.TextRefusals.{IsCaptureText, SaysText}
 use Rattle.run_outcome.specs.declared.refusal.Refusal.TheVariants.{Sdp}
 use Rattle.sdp_format.specs.Bytes.{lines}
 use Rattle.sdp_format.specs.Grammar.{IsDescribed, IsTextFault}
@@ -15,7 +15,6 @@ use Rattle.sdp_format.specs.declared.fault.SdpFault.{SdpFault}
 use Rattle.sdp_format.specs.declared.fault.SdpFault.TheVariants.{NoMemory}
 use Rattle.sdp_format.specs.declared.place.Located.{Located}
 use Rattle.sdp_format.proofs.TextFaults.{text_fault, text_said}
-use Rattle.capture_engines.specs.Sending.{SaysSdp}
 
 -- a text that describes a video has no fault
 never_both : (text : List ℕ) (d : Description) (f : SdpFault)
@@ -37,7 +36,7 @@ reads_again text l is (inr bad) =
 
 -- the text that was given is one
 pub text_given : {S : Type 0} (gave : S → List ℕ) (ended : S → Type 0) (sdp later : Option S)
-    (text : List ℕ) → IsSome sdp → SaysSdp gave ended sdp later text → IsCaptureText text
+    (text : List ℕ) → IsSome sdp → SaysText gave ended sdp later text → IsCaptureText text
 text_given gave ended None later text some says = absurd (false≢true some)
 text_given gave ended (Some s) None text some says = absurd says
 text_given gave ended (Some s) (Some t) text some says = says.2

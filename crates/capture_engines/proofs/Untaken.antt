@@ -23,8 +23,9 @@ use Rattle.recording_reader.specs.declared.fault.ReadingFault.TheVariants.{Captu
 use Rattle.media_file.specs.declared.fault.FileFault.TheVariants as file
 use Rattle.pcap_file.specs.declared.fault.RecordingFault.TheVariants as recording
 use Rattle.run_outcome.specs.Refusing.{OfRefusal}
-use Rattle.capture_engines.specs.Files.{fault_by, flows_in}
+use Rattle.capture_engines.specs.Files.{flows_in}
 use Rattle.run_outcome.specs.declared.refusal.Refusal.{Refusal}
+use Rattle.run_outcome.specs.LowerFaults.{reading_fault}
 use Rattle.capture_engines.specs.Received.{IsCaptureBy, StopsFile}
 use Rattle.capture_engines.specs.declared.way.Way.{Way}
 use Rattle.capture_engines.specs.declared.way.Way.TheVariants as way
@@ -171,7 +172,7 @@ plain_alone (way.Refused r) octets none taken = absurd (taken r refl)
 
 pub front_stops : (w : Way) (told : List ℕ → Type 0) (g : ReadingFault)
     → ((octets : List ℕ) → told octets → IfFile g (IsFrontFault g octets))
-    → IsByFlows (flows_in w) (Reading g) → OfRefusal (fault_by g) (StopsFile w told)
+    → IsByFlows (flows_in w) (Reading g) → OfRefusal (reading_fault g) (StopsFile w told)
 front_stops w told (Capture file.NoMemory) known by = tt
 front_stops w told (Capture file.Device) known by = tt
 front_stops w told (Capture f) known by =

@@ -1,6 +1,7 @@
 -- What `receive` counts of the datagrams that it was given (own).
-use Rattle.std.specs.Prelude.{◌≡◌, ◌^◌, ◌-◌, ℕ, List, Option, Some, Result, length, map, min}
+use Rattle.std.specs.Prelude.{◌≡◌, ℕ, List, Option, Some, Result, length, map}
 use Rattle.flow.specs.declared.flows.Flows.{Flows}
+use Rattle.st_format.specs.Device.{capped}
 use Rattle.path_receiver.specs.Answers.{taken_at}
 use Rattle.path_receiver.specs.Opening.{Opening}
 use Rattle.run_outcome.specs.Sources.{IsSourceText}
@@ -20,7 +21,7 @@ pub record CountsHolding (window source : List ℕ) (IsText : List ℕ → Type 
   pub source_is : IsSourceText source opening.ssrc
   pub announced : (text : List ℕ) → IsText text → AnnouncesStream text opening
   pub tallied : Tallies r.tally (map (taken_at opening) datagrams)
-  pub delivered : r.delivered ≡ min (length datagrams) (2 ^ 64 - 1)
+  pub delivered : r.delivered ≡ capped (length datagrams)
 
 -- so it is of what was read of files, each taken so: the datagrams are all of theirs
 pub record CountsReceived {S : Type 0} (window source : List ℕ)

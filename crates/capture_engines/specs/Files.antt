@@ -7,10 +7,6 @@ use Rattle.media_file.specs.Fronts.{front_at}
 use Rattle.media_file.specs.Records.{Entry}
 use Rattle.recording_reader.specs.Files.{capture_records, records_of_file}
 use Rattle.recording_reader.specs.Kinds.{is_recording}
-use Rattle.recording_reader.specs.declared.fault.ReadingFault.{ReadingFault}
-use Rattle.recording_reader.specs.declared.fault.ReadingFault.TheVariants.{Capture, Recording}
-use Rattle.run_outcome.specs.LowerFaults.{capture_fault, of_recording}
-use Rattle.run_outcome.specs.declared.fault.Fault.{Fault}
 use Rattle.run_outcome.specs.declared.refusal.Refusal.{Refusal}
 use Rattle.capture_engines.specs.declared.way.Way.{Way}
 use Rattle.capture_engines.specs.declared.way.Way.TheVariants as way
@@ -44,11 +40,6 @@ other_ways (w ∷ ws) = ws
 abbrev pub way_at : List (Result Flows Refusal) → ℕ → Way
 way_at ways zero = first_way ways
 way_at ways (suc place) = way_at (other_ways ways) place
-
--- a fault of a file as what ends a run
-abbrev pub fault_by : ReadingFault → Fault
-fault_by (Capture f) = capture_fault f
-fault_by (Recording f) = of_recording f
 
 -- ---- its text
 

@@ -42,15 +42,15 @@ passed gave source_failures took sink_failures = record {
 }
 
 -- a capture was written with a text up to a fault
-abbrev pub StopsAt : FileFault → List ℕ → Type 0 → Passed → Passed → Type 0
-StopsAt f text ended old new = StopsRead (new_text 16777216 text) f old.gave new.gave ended
+abbrev pub MigratesUpTo : FileFault → List ℕ → Type 0 → Passed → Passed → Type 0
+MigratesUpTo f text ended old new = StopsRead (new_text 16777216 text) f old.gave new.gave ended
     old.source_failures new.source_failures old.took new.took old.sink_failures new.sink_failures
 
 -- a capture was written with a text up to the fault that ended it, or neither read nor written
 abbrev pub MovesBy : Fault → List ℕ → Type 0 → Passed → Passed → Type 0
-MovesBy (fault.Refused (refusal.Capture f)) text ended old new = StopsAt f text ended old new
+MovesBy (fault.Refused (refusal.Capture f)) text ended old new = MigratesUpTo f text ended old new
 MovesBy (fault.Refused r) text ended old new = ⊥
-MovesBy fault.Device text ended old new = StopsAt file.Device text ended old new
+MovesBy fault.Device text ended old new = MigratesUpTo file.Device text ended old new
 MovesBy fault.Memory text ended old new = new ≡ old
 
 -- a text was read whole, and a capture was written with it up to a fault
@@ -58,7 +58,7 @@ pub record StopsMoving (f : FileFault) (Said : List ℕ → Type 0) (ended : Typ
     (old new : Passed) : Type 0 where
   pub text : List ℕ
   pub read : Said text
-  pub stopped : StopsAt f text ended old new
+  pub stopped : MigratesUpTo f text ended old new
 
 -- What a refused run did: where the capture is refused it was written up to its fault; and else it
 -- was neither read nor written.

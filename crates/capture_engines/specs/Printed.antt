@@ -2,31 +2,19 @@
 use Rattle.std.specs.Prelude.{ℕ, zero, suc, List, [], ◌∷◌, ◌++◌, Bool, true, false, Result, length}
 use Rattle.std.specs.Prelude.{map, slice_index}
 use Rattle.std.specs.List.{count_by, flat_map}
-use Rattle.path_receiver.specs.Answers.{taken_at}
+use Rattle.st_format.specs.Device.{capped}
+use Rattle.path_receiver.specs.Answers.{all_refusals, taken_at}
 use Rattle.path_receiver.specs.Frames.{State}
 use Rattle.path_receiver.specs.declared.answer.Refusal.{Refusal}
-use Rattle.path_receiver.specs.declared.answer.Refusal.TheVariants.{Header, WrongPayloadType}
-use Rattle.path_receiver.specs.declared.answer.Refusal.TheVariants.{WrongSource, Payload}
 use Rattle.path_receiver.specs.declared.answer.Taken.{Taken}
-use Rattle.payload_header.specs.declared.payload.PayloadFault.TheVariants as payload
-use Rattle.rtp_header.specs.declared.header.RtpFault.TheVariants as rtp
 use Rattle.run_outcome.specs.Line.{line_text}
-use Rattle.path_receiver.specs.Tallied.{fitting, is_outside, is_refusal, place_of}
+use Rattle.path_receiver.specs.Tallied.{is_outside, is_refusal, slot_of}
 use Rattle.run_outcome.specs.declared.line.Line.{Line}
 use Rattle.run_outcome.specs.declared.line.Line.TheVariants.{Delivered, OutsideCount, RefusedCount}
 use Rattle.path_receiver.specs.declared.tally.Tally.{Tally}
 use Rattle.run_outcome.specs.Frames.{frame_lines}
 
 -- ---- refusals
-
--- all refusals, in the order of their numbers
-abbrev pub refusals : List Refusal
-refusals =
-    Header rtp.ShortHeader ∷ Header rtp.BadVersion ∷ Header rtp.ShortExtension
-    ∷ Header rtp.BadPadding ∷ WrongPayloadType ∷ WrongSource ∷ Payload payload.ShortPayloadHeader
-    ∷ Payload payload.TooManySegments ∷ Payload payload.SecondField ∷ Payload payload.BadLength
-    ∷ Payload payload.BadOffset ∷ Payload payload.RowOutside ∷ Payload payload.ColumnsOutside
-    ∷ Payload payload.ShortData ∷ []
 
 -- a line with its end, where what it counts came at all
 abbrev pub counted_line : ℕ → Line → List ℕ
@@ -37,25 +25,25 @@ counted_line (suc n) line = line_text line ++ 10 ∷ []
 -- and how many datagrams were outside the window, if any (own)
 abbrev pub refusals_text : (Refusal → ℕ) → ℕ → List ℕ
 refusals_text refused outside =
-    flat_map (λ e. counted_line (refused e) (RefusedCount e (refused e))) refusals
+    flat_map (λ e. counted_line (refused e) (RefusedCount e (refused e))) all_refusals
     ++ counted_line outside (OutsideCount outside)
 
 -- the line of a refusal, by the counts of all
 abbrev pub refusal_line : List ℕ → Refusal → List ℕ
 refusal_line counts e =
-    counted_line (slice_index counts (place_of e))
-    (RefusedCount e (slice_index counts (place_of e)))
+    counted_line (slice_index counts (slot_of e))
+    (RefusedCount e (slice_index counts (slot_of e)))
 
 -- those of a tally's counts
 abbrev pub tally_text : Tally → List ℕ
-tally_text t = flat_map (refusal_line t.refused) refusals ++ counted_line t.outside
+tally_text t = flat_map (refusal_line t.refused) all_refusals ++ counted_line t.outside
     (OutsideCount t.outside)
 
 -- those of answers
 abbrev pub answers_text : List (Result Taken Refusal) → List ℕ
 answers_text answers =
-    refusals_text (λ e. fitting (count_by (is_refusal e) answers))
-    (fitting (count_by is_outside answers))
+    refusals_text (λ e. capped (count_by (is_refusal e) answers))
+    (capped (count_by is_outside answers))
 
 -- ---- what `receive` prints
 
@@ -74,5 +62,5 @@ received_text wanted delivered counts receiver =
 -- those of a receiver that was given these datagrams
 abbrev pub taken_text : Bool → State → List (List ℕ) → List ℕ
 taken_text wanted receiver datagrams =
-    received_text wanted (fitting (length datagrams))
+    received_text wanted (capped (length datagrams))
     (answers_text (map (taken_at receiver.opening) datagrams)) receiver

@@ -1,16 +1,17 @@
 -- What `send` writes.
-use Rattle.std.specs.Prelude.{◌≡◌, ℕ, ◌+◌, ◌-◌, ◌%◌, ◌^◌, min, List, [], ◌∷◌, ◌++◌, length}
-use Rattle.std.specs.Prelude.{⊤, Option, None, Some}
+use Rattle.std.specs.Prelude.{◌≡◌, ℕ, ◌+◌, ◌%◌, ◌^◌, List, [], ◌∷◌, ◌++◌, length}
+use Rattle.std.specs.Prelude.{⊤, Option}
 use Rattle.run_outcome.specs.Moments.{WasRead}
 use Rattle.st_format.specs.Picture.{Values}
 use Rattle.st_format.specs.declared.device.ByteSink.{Ghosts}
 use Rattle.st_format.specs.declared.format.Format.{Format}
+use Rattle.st_format.specs.Device.{capped}
 use Rattle.media_file.specs.Writer.{moment_after, written_text}
 use Rattle.packet_plan.specs.Plan.{RasterPlan}
 use Rattle.packet_plan.specs.Sender.{IsNext, IsSenderList, Sender, stamp_of}
 use Rattle.run_outcome.specs.Line.{line_text}
 use Rattle.run_outcome.specs.Pictures.{SaysPicture}
-use Rattle.run_outcome.specs.TextRefusals.{IsCaptureText}
+use Rattle.run_outcome.specs.TextRefusals.{SaysText}
 use Rattle.run_outcome.specs.declared.line.Line.TheVariants as line
 use Rattle.capture_engines.specs.Writing.{WritesPicture}
 use Rattle.capture_engines.specs.declared.sender.Sender.{Sender as Sends}
@@ -28,10 +29,6 @@ run_sender format wanted =
 
 -- ---- one picture
 
--- a count of datagrams, which stays at 2^64 - 1 once it is there
-abbrev pub counted : ℕ → ℕ
-counted n = min n (2 ^ 64 - 1)
-
 -- the number of the packet behind those of a picture
 abbrev pub number_behind : ℕ → RasterPlan → ℕ
 number_behind first plan = (first + length plan.packets) % 2 ^ 32
@@ -43,7 +40,7 @@ pub record SendsNext {A K : Type 0} {G : Ghosts K} (took : K → List ℕ) (p : 
   pub written : WritesPicture took p (stamp_of (run_sender old.plan.format old.wanted) k old.next)
       old.plan old.writer new.writer
   pub next : new.next ≡ number_behind old.next old.plan
-  pub count : new.sent ≡ counted (old.sent + length old.plan.packets)
+  pub count : new.sent ≡ capped (old.sent + length old.plan.packets)
   pub plan : new.plan ≡ old.plan
   pub wanted : new.wanted ≡ old.wanted
 
@@ -65,7 +62,7 @@ pub record HasSent {A K : Type 0} {G : Ghosts K} (took : K → List ℕ) (wanted
   pub paths : s.writer.place.paths ≡ wanted.paths
   pub moment : s.writer.place.moment ≡ moment_after wanted.paths 0 datagrams
   pub sent : SendsTo (run_sender s.plan.format wanted) 0 pictures wanted.first datagrams s.next
-  pub count : s.sent ≡ counted (length datagrams)
+  pub count : s.sent ≡ capped (length datagrams)
   pub taken : took s.writer.sink ≡ start ++ written_text wanted.paths text datagrams
 
 -- a sender that had sent k pictures sent these behind them
@@ -108,7 +105,7 @@ pub record TakesCapture (wanted : Sending) (text : List ℕ) (format : Format)
   pub datagrams : List (List ℕ)
   pub sent : IsSenderList datagrams (run_sender format wanted) wanted.first pictures
   pub taken : new ≡ old ++ written_text wanted.paths text datagrams
-  pub count_is : count ≡ counted (length datagrams)
+  pub count_is : count ≡ capped (length datagrams)
 
 -- so it is of pictures of the first one's format; where there is none, nothing is written
 abbrev pub TakesPictures : Sending → List ℕ → List Values → List ℕ → List ℕ → ℕ → Type 0
@@ -131,22 +128,13 @@ pub record SendsPictures {S : Type 0} (told : S × S → List ℕ → Type 0) (w
   pub say : SayPictures told sources later pictures
   pub taken : TakesPictures wanted text pictures old new count
 
--- the text of a capture: all that the SDP's source gave, up to its end, which describes a video; or
--- nothing, where there is none
-abbrev pub SaysSdp : {S : Type 0} → (S → List ℕ) → (S → Type 0) → Option S → Option S → List ℕ
-    → Type 0
-SaysSdp gave ended None later text = text ≡ []
-SaysSdp gave ended (Some sdp) None text = ⊥
-SaysSdp gave ended (Some sdp) (Some later) text =
-    (gave later ≡ gave sdp ++ text) × ended later × IsCaptureText text
-
 -- A sink took that text and those pictures, and to the output it was printed how many datagrams
 -- they are.
 pub record SendsAll {S : Type 0} (gave : S → List ℕ) (ended : S → Type 0) (wanted : Sending)
     (sdp sdp_later : Option S) (sources later : List S) (old new printed printed_new : List ℕ)
     : Type 0 where
   pub text : List ℕ
-  pub says : SaysSdp gave ended sdp sdp_later text
+  pub says : SaysText gave ended sdp sdp_later text
   pub count : ℕ
   pub pictures : SendsPictures (WasRead gave ended) wanted text sources later old new count
   pub line : printed_new ≡ printed ++ (line_text (line.Sent count) ++ 10 ∷ [])

@@ -1,9 +1,9 @@
 -- Which refusal ends a run of `send` (own). A list of sources is one of pairs: each source as it
 -- was before the run, and as it is behind it.
-use Rattle.std.specs.Prelude.{◌≡◌, ℕ, ◌<◌, ◌≤◌, ◌⊎◌, List, [], ◌∷◌, Option, Some}
+use Rattle.std.specs.Prelude.{◌≡◌, ℕ, ◌<◌, ◌≤◌, ◌⊎◌, List, [], ◌∷◌, Option}
 use Rattle.st_format.specs.History.{IsRead}
 use Rattle.st_format.specs.declared.format.Format.{Format}
-use Rattle.run_outcome.specs.TextRefusals.{IsTextRefusal}
+use Rattle.run_outcome.specs.TextRefusals.{IsTextOfRun}
 use Rattle.run_outcome.specs.declared.refusal.Refusal.{Refusal}
 use Rattle.run_outcome.specs.declared.refusal.Refusal.TheVariants as refusal
 use Rattle.run_outcome.specs.Pictures.{IsPictureRefusal, SaysPictureOf, IsPlanFault}
@@ -60,10 +60,8 @@ IsPicturesRefusal most told pictures r = ⊥
 -- given.
 abbrev pub IsSaidRefusal : {S : Type 0} → ℕ → Option S → Option S → (S × S → List ℕ → Type 0)
     → Refusal → Type 0
-IsSaidRefusal {S} count old new told refusal.SendPictures = 10000 < count
-IsSaidRefusal {S} count old new told r = (count ≤ 10000)
-    × ((was : S) × (now : S) × (old ≡ Some was) × (new ≡ Some now)
-    × IsTextRefusal refusal.SendSdp (told (was, now)) r)
+IsSaidRefusal count old new told refusal.SendPictures = 10000 < count
+IsSaidRefusal count old new told r = (count ≤ 10000) × IsTextOfRun told old new r
 
 -- the refusals of `send`: those, and of the pictures, which are few
 abbrev pub IsSendRefusal : {S : Type 0} → ℕ → ℕ → Option S → Option S

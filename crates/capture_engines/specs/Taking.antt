@@ -7,6 +7,7 @@ use Rattle.sdp_format.specs.Bytes.{lines}
 use Rattle.sdp_format.specs.Grammar.{IsDescribed}
 use Rattle.sdp_format.specs.Sections.{Description, video_sections}
 use Rattle.st_format.specs.Fields.{fields_of}
+use Rattle.st_format.specs.Device.{capped}
 use Rattle.flow.specs.declared.flows.Flows.{Flows}
 use Rattle.recording_reader.specs.Files.{text_of_file}
 use Rattle.run_outcome.specs.declared.refusal.Refusal.{Refusal}
@@ -22,7 +23,7 @@ use Rattle.run_outcome.specs.Timestamps.{AreTimestamps}
 use Rattle.capture_engines.specs.declared.receiving.Asked.{Asked}
 use Rattle.capture_engines.specs.declared.intake.Intake.{Intake}
 use Rattle.capture_engines.specs.Printed.{taken_text}
-use Rattle.path_receiver.specs.Tallied.{Tallies, fitting}
+use Rattle.path_receiver.specs.Tallied.{Tallies}
 
 -- the SDP text by which a receiver is open behind files: that by which it was open before them, or
 -- else that of the first
@@ -60,8 +61,8 @@ pub record TakesDatagrams {A : Type 0} (datagrams : List (List ℕ)) (before aft
       → Holds after.receiver (earlier ++ datagrams)
   pub tallied : (earlier : List (List ℕ)) → Counts before earlier
       → Counts after (earlier ++ datagrams)
-  pub delivered : (count : ℕ) → before.delivered ≡ fitting count
-      → after.delivered ≡ fitting (count + length datagrams)
+  pub delivered : (count : ℕ) → before.delivered ≡ capped count
+      → after.delivered ≡ capped (count + length datagrams)
 
 -- ---- files, one after the other
 
@@ -74,7 +75,7 @@ pub record HoldsBy {A : Type 0} (o : Asked A) (text : List ℕ) (s : Intake A)
   pub announced : AnnouncesStream text s.receiver.opening
   pub holds : Holds s.receiver datagrams
   pub tallied : Counts s datagrams
-  pub delivered : s.delivered ≡ fitting (length datagrams)
+  pub delivered : s.delivered ≡ capped (length datagrams)
 
 -- the same of an intake, or that none has begun, by no text
 abbrev pub Stands : {A : Type 0} → Asked A → Option (Intake A) → Option (List ℕ)

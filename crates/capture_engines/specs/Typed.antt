@@ -3,10 +3,11 @@ use Rattle.std.specs.Prelude.{◌≡◌, ℕ, Bool, true, false, List, [], ◌�
 use Rattle.run_outcome.specs.Line.{line_text}
 use Rattle.run_outcome.specs.Moments.{WasRead}
 use Rattle.run_outcome.specs.declared.line.Line.TheVariants as line
+use Rattle.run_outcome.specs.TextRefusals.{SaysText}
 use Rattle.sdp_format.specs.Bytes.{lines}
 use Rattle.sdp_format.specs.Grammar.{IsDescribed}
 use Rattle.sdp_format.specs.Sections.{Description, video_sections}
-use Rattle.capture_engines.specs.Sending.{SaysSdp, SendsAll, SendsPictures}
+use Rattle.capture_engines.specs.Sending.{SendsAll, SendsPictures}
 use Rattle.capture_engines.specs.declared.sender.Sending.{Sending}
 
 -- what is asked for, with another payload type
@@ -33,7 +34,7 @@ pub record SendsTyped {S : Type 0} (gave : S → List ℕ) (ended : S → Type 0
     (sdp sdp_later : Option S) (sources later : List S) (old new printed printed_new : List ℕ)
     : Type 0 where
   pub text : List ℕ
-  pub says : SaysSdp gave ended sdp sdp_later text
+  pub says : SaysText gave ended sdp sdp_later text
   pub typed : Sending
   pub typed_is : IsTypedBy wanted text typed
   pub count : ℕ

@@ -11,17 +11,13 @@ ghost use Rattle.recording_reader.specs.declared.way.Standing.TheVariants.{Reads
 ghost use Rattle.run_outcome.specs.Fault.{Accounts, counts};
 ghost use Rattle.run_outcome.specs.Refusing.{OfRefusal};
 
-use crate::way::of_reading;
-use media_file::FileFault;
+use media_file::{FileFault, MOST_RECORDS};
 use path_receiver::{Observer, Receiver, Tally};
 use recording_reader::DatagramReader;
-use run_outcome::{Fault, of_capture};
+use run_outcome::{Fault, of_capture, of_reading};
 use sdp_format::read_located;
 use st_format::{ByteSource, Path};
 use std::alloc::Allocator;
-
-/// The greatest number of datagrams of one file (own).
-const TURNS: u64 = 16_777_216;
 
 /// A receiver, and what it was given.
 #[derive(Drop)]
@@ -57,7 +53,6 @@ impl<A: Allocator + Copy> Intake<A> {
 }
 
 impl<A: Allocator> Intake<A> {
-    /// Takes a datagram.
     fn take(&mut self, path: Path, octets: &[u8])
         ensures { TakesDatagrams (octets.now ∷ []) self.old self.new }
     {
@@ -66,7 +61,6 @@ impl<A: Allocator> Intake<A> {
         self.delivered = self.delivered.saturating_add(1);
     }
 
-    /// Takes the datagram that a reader has at hand, where it has one.
     fn take_at_hand<B: Allocator, S: ByteSource>(&mut self, reader: &DatagramReader<B, S>)
         ensures { TakesDatagrams (octets_of (option_to_list reader.now.at_hand)) self.old
             self.new }
@@ -96,7 +90,7 @@ impl<A: Allocator> Intake<A> {
             (S.failures reader.new.source) ∷ []) }
         ensures names { S.names reader.new.source ≡ S.names reader.old.source }
     {
-        for _ in 0..TURNS {
+        for _ in 0..MOST_RECORDS {
             match reader.advance() {
                 Ok(true) => self.take_at_hand(reader),
                 Ok(false) => return Ok(()),

@@ -17,7 +17,6 @@ mod sending;
 mod typed;
 mod way;
 
-pub use datagram_link::DatagramLink;
 pub use looping::{Looping, loop_back};
 pub use memory_link::MemoryLink;
 pub use migrating::migrate;
@@ -29,4 +28,4 @@ pub use seen::{Seen, note_seen};
 pub use sender::Sending;
 pub use sending::{check_pictures, send};
 pub use typed::send_typed;
-pub use way::{Way, of_reading, unopened};
+pub use way::{Way, unopened};

@@ -12,11 +12,10 @@ ghost use Rattle.path_receiver.specs.Took.{CountsAll};
 ghost use Rattle.capture_engines.specs.Looped.{IsLoopRefusal};
 ghost use Rattle.capture_engines.specs.Looping.{Came, Loops, Prints, loop_opening};
 
-use datagram_link::DatagramLink;
 use packet_plan::{Plan, Stamp};
 use path_receiver::Receiver;
 use run_outcome::{Fault, Line, print, read_unpacked, room};
-use st_format::{ByteSink, ByteSource, Picture, Turn};
+use st_format::{ByteSink, ByteSource, DatagramLink, Picture, Turn};
 use std::alloc::Allocator;
 
 /// What the datagrams of the picture have in common (own).

@@ -6,9 +6,10 @@ ghost use Rattle.st_format.specs.Device.{CountsOne};
 ghost use Rattle.capture_engines.specs.Coming.{at_places};
 
 use crate::comings::Comings;
-use datagram_link::DatagramLink;
 use st_format::memory::MemoryDatagrams;
-use st_format::{DatagramSink, DatagramSource, MOST_DATAGRAM, Path, SinkFault, SourceFault, Turn};
+use st_format::{
+    DatagramLink, DatagramSink, DatagramSource, MOST_DATAGRAM, Path, SinkFault, SourceFault, Turn,
+};
 use std::alloc::{Allocator, Global};
 
 /// Takes each datagram into the next one of some slots, and gives in each turn the one that is to

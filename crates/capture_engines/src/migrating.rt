@@ -8,13 +8,10 @@ ghost use Rattle.run_outcome.specs.Text.{GivesText};
 ghost use Rattle.media_file.specs.Migrated.{MigratedRead};
 ghost use Rattle.st_format.specs.History.{IsRead};
 
-use media_file::migrate_capture;
+use media_file::{MOST_RECORDS, migrate_capture};
 use run_outcome::{Fault, Line, Refusal, of_capture, print, read_checked, room};
 use st_format::{ByteSink, ByteSource};
 use std::alloc::Allocator;
-
-/// The greatest number of records of a capture (own).
-const RECORDS: u64 = 16_777_216;
 
 /// Writes a capture of version 01 as one of version 02 with an SDP text, which is read first, and
 /// prints `records N` to `output`.
@@ -85,7 +82,7 @@ fn move_capture<A: Allocator, S: ByteSource, K: ByteSink>(
         ∷ counts (K.failures sink.old) (K.failures sink.new) ∷ []) }
 {
     let mut buf = room(alloc)?;
-    match migrate_capture(source, sink, said, &mut buf, RECORDS) {
+    match migrate_capture(source, sink, said, &mut buf, MOST_RECORDS) {
         Ok(count) => Ok(count),
         Err(fault) => Err(of_capture(fault)),
     }

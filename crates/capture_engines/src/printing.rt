@@ -3,7 +3,8 @@ ghost use Rattle.std.specs.Prelude.{◌≡◌, ◌∷◌, ◌++◌, [], IfErr, O
 ghost use Rattle.std.specs.List.{flat_map};
 ghost use Rattle.st_format.specs.Device.{GrowsPart};
 ghost use Rattle.run_outcome.specs.Fault.{Accounts, IfRefused, counts};
-ghost use Rattle.capture_engines.specs.Printed.{counted_line, refusal_line, refusals, tally_text};
+ghost use Rattle.path_receiver.specs.Answers.{all_refusals};
+ghost use Rattle.capture_engines.specs.Printed.{counted_line, refusal_line, tally_text};
 
 use path_receiver::{REFUSAL_COUNT, Tally, refusal_at};
 use run_outcome::{Fault, Line, print};
@@ -27,9 +28,9 @@ pub(crate) fn print_tally<O: ByteSink>(tally: &Tally, output: &mut O) -> Result<
 /// Prints how often each refusal came that came, of the counts of all.
 fn print_refusals<O: ByteSink>(refused: &[u64; REFUSAL_COUNT], output: &mut O) -> Result<(), Fault>
     ensures printed { OnOk result (O.took output.new ≡ O.took output.old
-        ++ flat_map (refusal_line refused.now) refusals) }
+        ++ flat_map (refusal_line refused.now) all_refusals) }
     ensures cut { OnErr result (GrowsPart (O.took output.old) (O.took output.new)
-        (flat_map (refusal_line refused.now) refusals)) }
+        (flat_map (refusal_line refused.now) all_refusals)) }
     ensures unrefused { IfErr result (λ f. IfRefused f ⊥) }
     ensures failures { Accounts result (counts (O.failures output.old) (O.failures output.new)
         ∷ []) }

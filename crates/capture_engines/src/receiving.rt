@@ -35,12 +35,9 @@ use crate::seen::{Seen, note_seen};
 use crate::way::{Way, unopened};
 use flow::Flows;
 use recording_reader::DatagramReader;
-use run_outcome::{Fault, Refusal, read_source, read_text, read_timestamps};
+use run_outcome::{Fault, MOST_TEXT, Refusal, read_source, read_text, read_timestamps};
 use st_format::{ByteSink, ByteSource};
 use std::alloc::Allocator;
-
-/// The greatest number of octets of an SDP's file (own).
-const SDP: usize = 16_777_216;
 
 /// What `receive` is asked for, beside its files.
 #[derive(Clone, Copy)]
@@ -138,7 +135,6 @@ where
     )
 }
 
-/// Reads the SDP's text, where a source of it is given.
 fn read_said<A: Allocator, S: ByteSource>(
     alloc: A,
     sdp: &mut Option<S>,
@@ -160,7 +156,6 @@ fn read_said<A: Allocator, S: ByteSource>(
     }
 }
 
-/// Reads the SDP's text.
 fn read_given<A: Allocator, S: ByteSource>(alloc: A, source: &mut S) -> Result<Vec<u8, A>, Fault>
     ensures said { IfOk result (λ text. (octets : List ℕ)
         → IsRead (S.gave source.old) (S.gave source.new) (S.ended source.new) octets
@@ -170,13 +165,12 @@ fn read_given<A: Allocator, S: ByteSource>(alloc: A, source: &mut S) -> Result<V
     ensures failures { Accounts result (counts (S.failures source.old) (S.failures source.new)
         ∷ []) }
 {
-    match read_text(alloc, source, SDP)? {
+    match read_text(alloc, source, MOST_TEXT)? {
         Some(text) => Ok(text),
         None => Err(Fault::Refused(Refusal::ReceiveSdp)),
     }
 }
 
-/// The octets of a text, where there is one.
 fn octets_of<A: Allocator>(said: &Option<Vec<u8, A>>) -> Option<&[u8]>
     ensures { option_copied result ≡ option_map (λ text. text.items) said.now }
 {
@@ -206,7 +200,6 @@ pub(crate) fn read_opening<A: Allocator + Copy>(
     Ok(Asked { window, ssrc })
 }
 
-/// Opens a receiver by the SDP text, where one is given.
 pub(crate) fn begin<A: Allocator + Copy>(
     alloc: A,
     opening: &Asked<A>,
@@ -227,7 +220,6 @@ pub(crate) fn begin<A: Allocator + Copy>(
     }
 }
 
-/// Opens a receiver by an SDP text.
 fn open_by<A: Allocator + Copy>(
     alloc: A,
     opening: &Asked<A>,
@@ -271,7 +263,7 @@ pub(crate) fn take_all<A: Allocator + Copy, S: ByteSource>(
     Ok(())
 }
 
-/// Takes the file of a place.
+/// Takes the file of a place. It alone is lent, so what is known of the others stays.
 fn take_at<A: Allocator + Copy, S: ByteSource>(
     alloc: A,
     opening: &Asked<A>,
@@ -385,7 +377,6 @@ fn take_opened<A: Allocator + Copy, S: ByteSource>(
     taken
 }
 
-/// Opens a receiver by a file's text.
 fn open_by_text<A: Allocator + Copy>(
     alloc: A,
     opening: &Asked<A>,

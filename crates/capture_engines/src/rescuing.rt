@@ -214,7 +214,6 @@ fn rescue_files<A: Allocator + Copy, S: ByteSource>(
     }
 }
 
-/// Writes a receiver's file.
 fn save<A: Allocator, K: ByteSink>(receiver: &Receiver<A>, state: &mut K) -> Result<(), Fault>
     ensures whole { OnOk result
         (K.took state.new ≡ K.took state.old ++ state_text (kept_of receiver.now)) }

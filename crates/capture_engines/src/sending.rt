@@ -10,14 +10,15 @@ ghost use Rattle.run_outcome.specs.declared.refusal.Refusal.TheVariants.{SendPic
 ghost use Rattle.capture_engines.specs.Sent.{FirstIs, FirstSays, IsSaidRefusal, IsPicturesRefusal};
 ghost use Rattle.capture_engines.specs.Sent.{IsRestRefusal, IsSendRefusal};
 ghost use Rattle.run_outcome.specs.Pictures.{IsPictureRefusal, SaysPicture};
-ghost use Rattle.capture_engines.specs.Sending.{SaysSdp, SendsAll, SendsEach, SendsFirstAndRest};
+ghost use Rattle.run_outcome.specs.TextRefusals.{SaysText};
+ghost use Rattle.capture_engines.specs.Sending.{SendsAll, SendsEach, SendsFirstAndRest};
 ghost use Rattle.capture_engines.specs.Sending.{SendsPictures, SendsRest};
 
 use crate::sender::{Sender, Sending};
 use media_file::CaptureWriter;
 use packet_plan::Plan;
 use pgroup_pack::PackedPicture;
-use run_outcome::{Fault, Line, Refusal, of_capture, print, read_checked, read_packed, room};
+use run_outcome::{Fault, Line, Refusal, of_capture, print, read_if_given, read_packed, room};
 use st_format::{ByteSink, ByteSource};
 use std::alloc::Allocator;
 
@@ -99,20 +100,14 @@ pub(crate) fn read_said<A: Allocator + Copy, S: ByteSource>(
 ) -> Result<Vec<u8, A>, Fault>
     ensures few { IfOk result (λ _. pictures ≤ 10000) }
     ensures text { IfOk result (λ said. vec_len said ≤ 65535) }
-    ensures says { IfOk result (λ said. SaysSdp S.gave S.ended sdp.old sdp.new said.items) }
+    ensures says { IfOk result (λ said. SaysText S.gave S.ended sdp.old sdp.new said.items) }
     ensures refusal { IfErr result (λ f. OfRefusal f
         (IsSaidRefusal pictures sdp.old sdp.new (WasRead S.gave S.ended))) }
     ensures failures { Accounts result (counts (failures_in S.failures sdp.old)
         (failures_in S.failures sdp.new) ∷ []) }
 {
     check_pictures(pictures)?;
-    match sdp {
-        None => Ok(Vec::new(alloc)),
-        Some(source) => match read_checked(alloc, source, Refusal::SendSdp) {
-            Ok(said) => Ok(said),
-            Err(fault) => Err(fault),
-        },
-    }
+    read_if_given(alloc, sdp)
 }
 
 /// Sends all pictures, and answers how many datagrams that are.

@@ -1,6 +1,6 @@
 //! How files are taken that begin as recordings of other tools, and what ends the reading of files.
 ghost use Rattle.std.specs.Prelude.{◌≡◌, ◌∷◌, [], ℕ, List, true};
-ghost use Rattle.capture_engines.specs.Files.{fault_by, flows_in, way_at};
+ghost use Rattle.capture_engines.specs.Files.{flows_in, way_at};
 ghost use Rattle.capture_engines.specs.Received.{IsCaptureRefusal, StopsFile};
 ghost use Rattle.recording_reader.specs.Kinds.{is_recording};
 ghost use Rattle.recording_reader.specs.Opening.{CountsOpening, HasGivenFour, IsByFlows};
@@ -11,8 +11,8 @@ ghost use Rattle.st_format.specs.History.{IsRead};
 
 use flow::Flows;
 use media_file::FileFault;
-use recording_reader::{FileOpeningFault, ReadingFault};
-use run_outcome::{Fault, Refusal, of_capture};
+use recording_reader::FileOpeningFault;
+use run_outcome::{Fault, Refusal, of_capture, of_reading};
 use st_format::{ByteSource, read_whole};
 
 /// How a file is taken that begins as a recording of another tool.
@@ -46,16 +46,6 @@ impl Way {
             Way::Flows(flows) => Some(flows),
             _ => None,
         }
-    }
-}
-
-/// A fault of a file of datagrams.
-pub fn of_reading(fault: ReadingFault) -> Fault
-    ensures { result ≡ fault_by fault }
-{
-    match fault {
-        ReadingFault::Capture(fault) => of_capture(fault),
-        ReadingFault::Recording(fault) => fault.into(),
     }
 }
 

@@ -8,7 +8,8 @@ use Rattle.std.proofs.lemmas.List.{get_or_append_left, length-append, length-tak
 use Rattle.std.proofs.lemmas.List.{take-append-le, take_all}
 use Rattle.std.proofs.lemmas.List.Elements.{All-append, All-cons, All-nil}
 use Rattle.std.specs.Prelude.{Any}
-use Rattle.capture_runs.specs.Looked.{Begins, HaveCapture, IsCapture, IsLooked, IsNoCapture}
+use Rattle.capture_runs.specs.Looked.{BeginsAsCapture, HaveCapture, IsCapture, IsLooked}
+use Rattle.capture_runs.specs.Looked.{IsNoCapture}
 use Rattle.capture_runs.specs.Looked.{is_capture}
 use Rattle.capture_runs.specs.Replayed.{replayed_ended, replayed_gave}
 use Rattle.capture_runs.specs.declared.replayed.Replayed.{Replayed}
@@ -31,13 +32,13 @@ first_six gave octets ended few all read =
     ]
 
 begins : (r : Replayed) (gave : List ℕ) → replayed_gave r ≡ gave → length gave ≤ 6
-    → (length gave < 6 → replayed_ended r) → Begins r (bytes_eq gave capture_name)
+    → (length gave < 6 → replayed_ended r) → BeginsAsCapture r (bytes_eq gave capture_name)
 begins r gave same few all octets read =
     ap (λ (l : List ℕ). bytes_eq l capture_name)
     (first_six gave octets (replayed_ended r) few all
     (subst (λ (l : List ℕ). IsRead [] l (replayed_ended r) octets) same read))
 
-looked_by : (is : Bool) (r : Replayed) → Begins r is → IsLooked is r
+looked_by : (is : Bool) (r : Replayed) → BeginsAsCapture r is → IsLooked is r
 looked_by true r b = b
 looked_by false r b = inl b
 
@@ -48,7 +49,7 @@ pub looked_front : (r : Replayed) (was front : List ℕ) (n : ℕ) (is : Bool) �
     → IsLooked is r
 looked_front r was front n is none gave within six all same =
     let count : length (take n front) ≡ n = length-take-le n front within in
-    looked_by is r (subst (λ (b : Bool). Begins r b) (sym same)
+    looked_by is r (subst (λ (b : Bool). BeginsAsCapture r b) (sym same)
     (begins r (take n front) (gave ∙ ap (λ (l : List ℕ). l ++ take n front) none) (omega arith)
     (λ few. all (omega arith))))
 

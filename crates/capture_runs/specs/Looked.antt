@@ -12,17 +12,17 @@ abbrev pub is_capture : List ℕ → Bool
 is_capture octets = bytes_eq (take 6 octets) capture_name
 
 -- whatever is behind what a file gave, it begins as a capture, or doesn't
-abbrev pub Begins : Replayed → Bool → Type 0
-Begins r is = (octets : List ℕ) → IsRead [] (replayed_gave r) (replayed_ended r) octets
+abbrev pub BeginsAsCapture : Replayed → Bool → Type 0
+BeginsAsCapture r is = (octets : List ℕ) → IsRead [] (replayed_gave r) (replayed_ended r) octets
     → is_capture octets ≡ is
 
 -- a file begins as a capture
 abbrev pub IsCapture : Replayed → Type 0
-IsCapture r = Begins r true
+IsCapture r = BeginsAsCapture r true
 
 -- it doesn't, or its device failed
 abbrev pub IsNoCapture : Replayed → Type 0
-IsNoCapture r = Begins r false ⊎ (0 < file_failures r.file)
+IsNoCapture r = BeginsAsCapture r false ⊎ (0 < file_failures r.file)
 
 abbrev pub IsLooked : Bool → Replayed → Type 0
 IsLooked true r = IsCapture r

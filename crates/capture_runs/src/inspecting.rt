@@ -26,7 +26,7 @@ use command_end::{Command, Devices, Hints, Ran};
 use command_line::InspectWords;
 use devices::OutputSink;
 use inspect_engine::Form as FlowForm;
-use recording_engines::Importing;
+use recording_engines::FlowWords;
 use run_outcome::{Fault, LineFault};
 use st_format::FormatFault;
 use std::io::Stdout;
@@ -41,7 +41,7 @@ pub struct InspectAsked<'a> {
     /// The SDP's file, where one is named.
     pub sdp: Option<&'a str>,
     /// The flows of recordings of other tools.
-    pub flows: Importing<'a>,
+    pub flows: FlowWords<'a>,
     /// The files of captures and recordings.
     pub recordings: &'a [&'a str],
     /// Whether it is told as objects of JSON.
@@ -82,7 +82,7 @@ impl<'a> InspectCommand<'a> {
         let asked = InspectAsked {
             target,
             sdp: words.sdp,
-            flows: Importing {
+            flows: FlowWords {
                 a: octets(words.a),
                 b: octets(words.b),
             },
@@ -107,7 +107,6 @@ impl<'a> InspectCommand<'a> {
     }
 }
 
-/// Where nothing is read.
 fn nothing_read<'a>(rt: &HostRuntime) -> Inspected<'a>
     ensures { AreFresh result }
 {
@@ -216,7 +215,6 @@ fn open_streams<'a>(
     Ok(())
 }
 
-/// The form of flows that is asked for.
 fn form_of_flows(is_json: bool) -> FlowForm
     ensures { result ≡ flow_form is_json }
 {
@@ -227,7 +225,6 @@ fn form_of_flows(is_json: bool) -> FlowForm
     }
 }
 
-/// The form of streams that is asked for.
 fn form_of_streams(is_json: bool) -> StreamForm
     ensures { result ≡ stream_form is_json }
 {
@@ -238,7 +235,6 @@ fn form_of_streams(is_json: bool) -> StreamForm
     }
 }
 
-/// Tells the flows of recordings.
 fn tell_flows(
     rt: &HostRuntime,
     is_json: bool,
@@ -256,7 +252,6 @@ fn tell_flows(
     inspect_engine::inspect(rt.alloc(), recordings.as_mut_slice(), form, output)
 }
 
-/// Tells what came of a stream.
 fn tell_stream(
     rt: &HostRuntime,
     wanted: Wanted,

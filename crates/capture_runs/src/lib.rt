@@ -3,20 +3,24 @@
 
 mod aim;
 mod differing;
+mod followed;
 mod inspecting;
 mod looking;
 mod looping;
 mod migrating;
 mod opening;
+mod pictured;
 mod receiving;
 mod replayed;
 mod replaying;
 mod room;
 mod sending;
+mod unplaced;
 mod window;
 
 pub use aim::{Aim, Inspected};
 pub use differing::{StreamFormat, said_otherwise};
+pub use followed::FollowCommand;
 pub use inspecting::{InspectAsked, InspectCommand};
 pub use looping::LoopCommand;
 pub use migrating::MigrateCommand;
@@ -24,4 +28,5 @@ pub use opening::Files;
 pub use receiving::ReceiveCommand;
 pub use replayed::{Keeping, Replayed};
 pub use sending::SendCommand;
+pub use unplaced::UnplacedOutput;
 pub use window::Found;

@@ -106,14 +106,12 @@ fn begins_capture(file: &mut Replayed<'_>) -> bool
     }
 }
 
-/// Whether octets are what a capture begins with.
 fn is_name(octets: &[u8]) -> bool
     ensures { result ≡ bytes_eq octets.now capture_name }
 {
     octets == CAPTURE
 }
 
-/// Puts one more file behind some.
 fn push_file<'a>(files: &mut Vec<Replayed<'a>>, file: Replayed<'a>) -> Result<(), Fault>
     ensures pushed { OnOk result (files.new.items ≡ files.old.items ++ file.entry ∷ []) }
     ensures each { OnOk result (vec_len files.new ≡ vec_len files.old + 1) }

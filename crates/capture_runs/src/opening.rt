@@ -1,6 +1,7 @@
-//! What `receive` and `inspect` read: the SDP, where one is named, and captures and recordings.
-ghost use Rattle.std.specs.Prelude.{◌≡◌, ◌⊎◌, [], All, IfErr, IfOk, IsFalse, None, OnOk, Some, length};
-ghost use Rattle.std.specs.Prelude.{vec_len};
+//! What `receive`, `inspect` and `follow` read: the SDP, where one is named, and captures and
+//! recordings.
+ghost use Rattle.std.specs.Prelude.{◌≡◌, ◌⊎◌, [], All, IfErr, IfOk, IsFalse, None, OnOk, Some};
+ghost use Rattle.std.specs.Prelude.{length, vec_len};
 ghost use Rattle.std.specs.Option.{option_copied};
 ghost use Rattle.capture_runs.specs.Looked.{IsFresh};
 ghost use Rattle.capture_runs.specs.Opened.{AreUnread, said_text};
@@ -20,8 +21,8 @@ use capture_engines::{Seen, Wanted};
 use command_end::find_output;
 use devices::{FileOutput, FileSource, Identity, Reading};
 use flow::Flows;
-use recording_engines::{Importing, ways_each};
-use run_outcome::{Fault, Refusal, Writer, read_text};
+use recording_engines::{FlowWords, ways_each};
+use run_outcome::{Fault, MOST_TEXT, Refusal, Writer, read_text};
 use window_finding::Sought;
 
 /// What `receive` reads, or `inspect` of a stream.
@@ -49,15 +50,12 @@ pub struct Files<'a> {
 pub struct Asked<'a> {
     pub wanted: Wanted<'a>,
     /// The flows of recordings of other tools.
-    pub flows: Importing<'a>,
+    pub flows: FlowWords<'a>,
     /// The SDP's file, where one is named.
     pub sdp: Option<&'a str>,
     /// The files of captures and recordings.
     pub recordings: &'a [&'a str],
 }
-
-/// The greatest number of octets of an SDP's file.
-const SDP: usize = 16_777_216;
 
 impl<'a> Files<'a> {
     /// Where nothing is read yet.
@@ -114,7 +112,6 @@ impl<'a> Files<'a> {
         }
     }
 
-    /// Reads the SDP, where one is named.
     pub(crate) fn read_sdp(
         &mut self,
         rt: &'a HostRuntime,
@@ -148,7 +145,7 @@ impl<'a> Files<'a> {
     pub(crate) fn find_ways(
         &mut self,
         rt: &HostRuntime,
-        flows: Importing<'_>,
+        flows: FlowWords<'_>,
         count: usize,
     ) -> Result<(), Fault>
         requires { AreUnread self.old }
@@ -220,7 +217,6 @@ impl<'a> Files<'a> {
         }
     }
 
-    /// The text of the SDP, where one was read.
     pub(crate) fn said(&self) -> Option<&[u8]> {
         text_of(&self.said)
     }
@@ -250,11 +246,21 @@ impl<'a> Files<'a> {
 
 /// Whether one of the files that are to be read is this one.
 pub(crate) fn is_asked(rt: &HostRuntime, asked: Asked<'_>, file: Option<Identity>) -> bool {
-    let is_sdp = match asked.sdp {
+    is_read(rt, asked.sdp, asked.recordings, file)
+}
+
+/// Whether the SDP's file or one of the recordings of these names is this one.
+pub(crate) fn is_read(
+    rt: &HostRuntime,
+    sdp: Option<&str>,
+    recordings: &[&str],
+    file: Option<Identity>,
+) -> bool {
+    let is_sdp = match sdp {
         Some(name) => FileSource::new(rt, name).is(file),
         None => false,
     };
-    is_sdp || is_recording(rt, asked.recordings, file)
+    is_sdp || is_recording(rt, recordings, file)
 }
 
 /// Whether one of the files of these names is this one.
@@ -267,20 +273,18 @@ fn is_recording(rt: &HostRuntime, names: &[&str], file: Option<Identity>) -> boo
     false
 }
 
-/// Reads an SDP's file.
 fn read_said(rt: &HostRuntime, file: &mut Replayed<'_>) -> Result<Vec<u8>, Fault>
     requires { replayed_gave file.old ≡ [] }
     ensures said { IfOk result (λ said. GivesText 16777216 [] (replayed_gave file.new)
         (replayed_ended file.new) said.items) }
     ensures refusal { IfErr result (λ f. OfRefusal f (IsTooLong (Some file.new))) }
 {
-    match read_text(rt.alloc(), file, SDP)? {
+    match read_text(rt.alloc(), file, MOST_TEXT)? {
         Some(said) => Ok(said),
         None => Err(Fault::Refused(Refusal::ReceiveSdp)),
     }
 }
 
-/// The octets of a text, where there is one.
 pub(crate) fn text_of(said: &Option<Vec<u8>>) -> Option<&[u8]>
     ensures { option_copied result ≡ said_text said.now }
 {

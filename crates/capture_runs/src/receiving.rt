@@ -28,7 +28,7 @@ use capture_engines::{Reception, Wanted, receive_files};
 use command_end::{Command, Devices, Hints, Ran};
 use command_line::ReceiveWords;
 use devices::{FileOutput, FileSink, OutputSink, Rest, Stream};
-use recording_engines::Importing;
+use recording_engines::FlowWords;
 use run_outcome::Fault;
 
 /// Takes the datagrams of captures and recordings into one receiver.
@@ -47,7 +47,6 @@ pub struct ReceiveCommand<'a> {
     pub is_sound: bool,
     /// What the receiver was given, once it is written.
     pub reception: Option<Reception>,
-    /// Whether memory was wanted.
     pub wants_memory: bool,
 }
 
@@ -104,7 +103,6 @@ impl ReceiveCommand<'_> {
     }
 }
 
-/// Receives.
 fn take(
     rt: &HostRuntime,
     wanted: Wanted<'_>,
@@ -163,7 +161,6 @@ fn take(
     )
 }
 
-/// Whether memory was wanted.
 fn is_memory(outcome: Result<(), Fault>) -> bool {
     match outcome {
         Err(Fault::Memory) => true,
@@ -171,7 +168,6 @@ fn is_memory(outcome: Result<(), Fault>) -> bool {
     }
 }
 
-/// What `receive` is asked for.
 fn asked<'a>(words: &'a ReceiveWords<'a>) -> Asked<'a> {
     Asked {
         wanted: Wanted {
@@ -179,7 +175,7 @@ fn asked<'a>(words: &'a ReceiveWords<'a>) -> Asked<'a> {
             ssrc: words.ssrc.as_bytes(),
             tells_refusals: words.refusals,
         },
-        flows: Importing {
+        flows: FlowWords {
             a: octets(words.a),
             b: octets(words.b),
         },
@@ -188,7 +184,6 @@ fn asked<'a>(words: &'a ReceiveWords<'a>) -> Asked<'a> {
     }
 }
 
-/// The octets of a text, where there is one.
 pub(crate) fn octets(text: Option<&str>) -> Option<&[u8]> {
     match text {
         Some(text) => Some(text.as_bytes()),
@@ -215,7 +210,8 @@ impl<'a> Command for ReceiveCommand<'a> {
     // recordings that were read, of these by their flows; what is printed counts those, and so does
     // what is kept. The window is that of the words, or, where they ask for the first timestamps,
     // of these, and the flows are those of the words or the SDP, as `is_new` says.
-    ghost does = { λ old new. ReceivesFiles (window_text old.files.found old.asked.wanted.window.now)
+    ghost does = { λ old new. ReceivesFiles
+        (window_text old.files.found old.asked.wanted.window.now)
         old.asked.wanted.ssrc.now (said_text old.files.said) old.files.ways.items ReplayedRead
         (zip old.files.recordings.items new.files.recordings.items)
         old.asked.wanted.tells_refusals (output_took old.output) (output_took new.output)

@@ -2,13 +2,10 @@
 use command_end::Room;
 use devices::FileSource;
 use media_file::CaptureReader;
-use run_outcome::read_timestamps;
+use run_outcome::{read_timestamps, room};
 use sdp_format::read_sdp;
 use st_format::Format;
 use std::alloc::Global;
-
-/// The greatest number of octets of a capture's text.
-const TEXT: usize = 65_535;
 
 /// What is asked of memory for the frames of the window, where it can be found: the format is said
 /// by the SDP's text, or else by that of the first capture, which is read once more.
@@ -29,11 +26,11 @@ pub(crate) fn room_of(
 /// How many octets a frame takes of the format that the first capture's text says.
 fn first_octets(rt: &HostRuntime, names: &[&str]) -> Option<u64> {
     let name = names.first()?;
-    let mut room = vec![in rt.alloc(); 0u8; TEXT].ok()?;
+    let mut text = room(rt.alloc()).ok()?;
     let mut source = FileSource::new(rt, name);
-    let reader = CaptureReader::open(&mut source, &mut room).ok()?;
+    let reader = CaptureReader::open(&mut source, &mut text).ok()?;
     let len = reader.text_len();
-    frame_octets(rt.alloc(), room.get(..len)?)
+    frame_octets(rt.alloc(), text.get(..len)?)
 }
 
 /// How many octets a frame takes of the format that a text says: those of its samples, and two for
@@ -43,7 +40,6 @@ fn frame_octets(alloc: Global, said: &[u8]) -> Option<u64> {
     Some(octets_of(&format))
 }
 
-/// How many octets a frame of a format takes.
 fn octets_of(format: &Format) -> u64 {
     let row = format.row_octets() as u64 + 2 * u64::from(format.row_groups());
     row.saturating_mul(u64::from(format.height()))

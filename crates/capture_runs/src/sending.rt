@@ -77,7 +77,6 @@ fn sending(words: &SendWords<'_>) -> Sending
     }
 }
 
-/// The paths that are named.
 fn paths(named: NamedPaths) -> Paths {
     match named {
         NamedPaths::OnlyA => Paths::OnlyA,

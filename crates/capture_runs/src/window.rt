@@ -75,7 +75,6 @@ pub(crate) fn find_in<'a>(
     })
 }
 
-/// Finds the first timestamps of files.
 fn find_timestamps<'a>(
     rt: &HostRuntime,
     sought: Sought,

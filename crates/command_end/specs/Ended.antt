@@ -28,7 +28,8 @@ pub record TellsEnd (outcome : Result (Unit {0}) Fault) (whole : Bool) (status :
 -- failed; at 4 memory was wanted.
 pub record EndsBy {C : Type 0} (IsNew : C → Type 0) (Does : C → C → Type 0)
     (IsRefused : C → C → Refusal → Type 0) (Owes : C → C → Result (Unit {0}) Fault → Type 0)
-    (Leaves : C → C → Type 0) (status : ℕ) (whole : Bool) (command : C) (told : List ℕ) (failed : ℕ) : Type 0 where
+    (Leaves : C → C → Type 0) (status : ℕ) (whole : Bool) (command : C) (told : List ℕ)
+    (failed : ℕ) : Type 0 where
   pub new : C
   pub is_new : IsNew new
   pub range : (status ≡ 0) ⊎ (status ≡ 1) ⊎ (status ≡ 3) ⊎ (status ≡ 4)

@@ -1,5 +1,6 @@
 //! A command over its devices: what it does, and how it ends.
-ghost use Rattle.std.specs.Prelude.{◌≡◌, ◌≢◌, ◌⊎◌, IfErr, IsErr, IsFalse, IsTrue, OnErr, OnOk, Result, ⊤};
+ghost use Rattle.std.specs.Prelude.{◌≡◌, ◌≢◌, ◌⊎◌, IfErr, IsErr, IsFalse, IsTrue, OnErr, OnOk};
+ghost use Rattle.std.specs.Prelude.{Result, ⊤};
 ghost use Rattle.command_end.specs.Ended.{EndsBy};
 ghost use Rattle.devices.specs.Passed.{output_failures, output_took};
 ghost use Rattle.run_outcome.specs.Refusing.{OfRefusal};

@@ -206,11 +206,13 @@ fn blamed_by(refusal: Refusal) -> Blamed {
         Refusal::ReceiveSource => Blamed::Word("--ssrc"),
         Refusal::SendPictures => Blamed::Word("the pictures"),
         Refusal::Job(_) | Refusal::ProcessJob => Blamed::Word("--job"),
-        Refusal::ProcessFrame => Blamed::Word("--ts"),
-        Refusal::ProcessFill => Blamed::Word("--fill"),
+        Refusal::ProcessFrame | Refusal::FrameTimestamp => Blamed::Word("--ts"),
+        Refusal::ProcessFill | Refusal::FollowFill | Refusal::FrameFill => Blamed::Word("--fill"),
+        Refusal::FrameForm | Refusal::ConvertForm => Blamed::Word("--as"),
         Refusal::ExportFlow | Refusal::ImportFlow => Blamed::Word("--a or --b"),
         Refusal::ImportPlaces => Blamed::Word("the recordings"),
         Refusal::OutputIsInput(Writer::Receive) => Blamed::Word("--state"),
+        Refusal::OutputIsInput(Writer::Convert) => Blamed::Word("OUT"),
         Refusal::OutputIsInput(_) => Blamed::Word("--out"),
         Refusal::SendSdp
         | Refusal::MigrateSdp
@@ -221,11 +223,13 @@ fn blamed_by(refusal: Refusal) -> Blamed {
         | Refusal::SendFormats
         | Refusal::MergeUnlike
         | Refusal::ProcessHold
+        | Refusal::FrameHold
         | Refusal::ImportRecords
         | Refusal::Capture(_)
         | Refusal::Picture(_)
         | Refusal::State(_)
-        | Refusal::Recording(_) => Blamed::Read,
+        | Refusal::Recording(_)
+        | Refusal::Form(_) => Blamed::Read,
     }
 }
 

@@ -28,6 +28,8 @@ enum Usage {
     Flag,
     /// An option with a value.
     Optional(&'static str),
+    /// An option with a value of a kind.
+    OptionalOf(&'static str, ValueParser<'static>),
     /// An option with a value, beside which the word of this name may not be given.
     OptionalUnless(&'static str, &'static str),
     /// An option with a value that has to be given.
@@ -63,8 +65,14 @@ const U64: ValueParser<'static> = ValueParser::Unsigned(0, 18_446_744_073_709_55
 /// The words for the paths of a capture.
 const PATHS: ValueParser<'static> = ValueParser::Names(&["a", "b", "both"]);
 
+/// The words for the forms in which a picture is read.
+const READ_FORMS: ValueParser<'static> = ValueParser::Names(&["picture", "y4m", "ppm"]);
+
+/// The words for the forms in which a picture is written.
+const FORMS: ValueParser<'static> = ValueParser::Names(&["picture", "y4m", "ppm", "raw"]);
+
 /// How many commands there are.
-const COMMANDS: usize = 13;
+const COMMANDS: usize = 16;
 
 /// The command of a place in the order of the help; `trace` where there is none. (One table of all
 /// takes as long to prove as half of the rest of this crate; arm by arm it takes little.)
@@ -82,6 +90,9 @@ fn nth_command(place: usize) -> Said {
         10 => INSPECT,
         11 => EXPORT,
         12 => MIGRATE,
+        13 => FOLLOW,
+        14 => CONVERT,
+        15 => PICTURE,
         _ => TRACE,
     }
 }
@@ -165,8 +176,8 @@ const INSPECT: Said = Said {
 
 const EXPORT: Said = Said {
     name: "export",
-    about: "Writes a capture's datagrams as a recording for other tools, a file of pcap, and prints \
-        how many",
+    about: "Writes a capture's datagrams as a recording for other tools, a file of pcap, and \
+        prints how many",
     words: &[EXPORTED],
 };
 
@@ -175,6 +186,12 @@ const MIGRATE: Said = Said {
     about: "Writes a capture of version 01 as one of version 02, with an SDP text, and prints \
         how many records it has",
     words: &[MIGRATED],
+};
+
+const CONVERT: Said = Said {
+    name: "convert",
+    about: "Writes a picture in another form: a picture's file, or a file for other tools",
+    words: &[CONVERTED],
 };
 
 /// The words of `sdp`.
@@ -333,6 +350,72 @@ const RECEIVED: &[Word] = &[
     },
 ];
 
+const FOLLOW: Said = Said {
+    name: "follow",
+    about: "Follows the stream that captures and recordings have, read side by side, and prints a \
+        line for every frame as it leaves",
+    words: &[FOLLOWED],
+};
+
+/// The words of `follow`.
+const FOLLOWED: &[Word] = &[
+    Word {
+        name: "sdp",
+        usage: Usage::Optional("FILE"),
+        help: "SDP text that says format and payload type, and where the datagrams of each path \
+            go; without it, the text of the first capture",
+    },
+    Word {
+        name: "a",
+        usage: Usage::Optional("[ADDR:]PORT"),
+        help: "Where the datagrams of path A go in recordings of other tools, in place of what the \
+            SDP says of both paths, as receive takes it",
+    },
+    Word {
+        name: "b",
+        usage: Usage::Optional("[ADDR:]PORT"),
+        help: "Where those of path B go, likewise",
+    },
+    Word {
+        name: "window",
+        usage: Usage::Default("N", U32, "8"),
+        help: "How many frames are waited for at once, 1 to 16",
+    },
+    Word {
+        name: "ssrc",
+        usage: Usage::Default("N", ValueParser::String, "any"),
+        help: "The one source to take datagrams of: a number, or any",
+    },
+    Word {
+        name: "eager",
+        usage: Usage::Flag,
+        help: "Let a frame leave as soon as it is the oldest and nothing of it is missing",
+    },
+    Word {
+        name: "out",
+        usage: Usage::Optional("FILE"),
+        help: "Where the frames are written as pictures: of YCbCr as YUV4MPEG2, of RGB as portable \
+            pixmaps; - is standard output, and the lines then go to standard error",
+    },
+    Word {
+        name: "fill",
+        usage: Usage::Optional("A,B,C"),
+        help: "For a sample that is missing or contested, a value of each component: Y, Cb and Cr, \
+            or R, G and B of RGB; without it black",
+    },
+    Word {
+        name: "hold",
+        usage: Usage::Flag,
+        help: "Give such a sample the value of the picture before, in the first one the fill's",
+    },
+    Word {
+        name: "recordings",
+        usage: Usage::Files("RECORDING"),
+        help: "Captures, and recordings of other tools, pcap or pcapng, read side by side by their \
+            timestamps; - is standard input",
+    },
+];
+
 /// The words of `merge`.
 const MERGED: &[Word] = &[
     Word {
@@ -400,6 +483,56 @@ const PROCESSED: &[Word] = &[
         name: "states",
         usage: Usage::Files("STATE"),
         help: "Receivers' files, one for each picture that the job takes",
+    },
+];
+
+const PICTURE: Said = Said {
+    name: "picture",
+    about: "Writes a frame of a receiver as a picture's file, for other tools and to look at",
+    words: &[PICTURED],
+};
+
+/// The words of `picture`.
+const PICTURED: &[Word] = &[
+    Word {
+        name: "ts",
+        usage: Usage::Number("TS", U32),
+        help: "The timestamp of the frame, in ticks of 90 kHz",
+    },
+    Word {
+        name: "fill",
+        usage: Usage::Optional("A,B,C"),
+        help: "For a sample that is missing or contested, a value of each component: Y, Cb and Cr, \
+            or R, G and B of RGB; without it, black",
+    },
+    Word {
+        name: "hold",
+        usage: Usage::Optional("FILE"),
+        help: "Picture whose values such samples take in place of the fill's",
+    },
+    Word {
+        name: "mark",
+        usage: Usage::Flag,
+        help: "Show a pixel with a missing sample magenta, one with a contested sample red, and \
+            the others as grey by their luma, or as they are of RGB: a picture of RGB, for which \
+            --fill and --hold say nothing",
+    },
+    Word {
+        name: "as",
+        usage: Usage::OptionalOf("FORM", FORMS),
+        help: "The form of what is written: picture, as send reads it; y4m, YUV4MPEG2; ppm, a \
+            portable pixmap; or raw, packed pgroups alone; without it that of FILE's ending, .y4m, \
+            .ppm or .raw, or else picture",
+    },
+    Word {
+        name: "out",
+        usage: Usage::Required("FILE"),
+        help: "Where the picture is written; - is standard output",
+    },
+    Word {
+        name: "state",
+        usage: Usage::File("STATE"),
+        help: "Receiver's file, as receive writes it; - is standard input",
     },
 ];
 
@@ -558,6 +691,42 @@ const EXPORTED: &[Word] = &[
     },
 ];
 
+/// The words of `convert`.
+const CONVERTED: &[Word] = &[
+    Word {
+        name: "from",
+        usage: Usage::OptionalOf("FORM", READ_FORMS),
+        help: "The form of IN: a picture's own file, a YUV4MPEG2 stream or a portable pixmap; \
+            without it, that of its ending .y4m or .ppm, and else a picture's own",
+    },
+    Word {
+        name: "as",
+        usage: Usage::OptionalOf("FORM", FORMS),
+        help: "The form of OUT: one of these, or packed pgroups alone; without it, that of its \
+            ending, which may also be .raw",
+    },
+    Word {
+        name: "nth",
+        usage: Usage::Default("N", U64, "0"),
+        help: "Which picture of a stream is taken, 0 for the first",
+    },
+    Word {
+        name: "rate",
+        usage: Usage::Default("N/D", ValueParser::String, "25/1"),
+        help: "The pictures a second of which a pixmap's is one, which it doesn't say",
+    },
+    Word {
+        name: "input",
+        usage: Usage::File("IN"),
+        help: "The file that is read; - is standard input",
+    },
+    Word {
+        name: "out",
+        usage: Usage::File("OUT"),
+        help: "The file that is written; - is standard output",
+    },
+];
+
 /// The recordings that are read.
 const RECORDINGS: Word = Word {
     name: "recordings",
@@ -647,6 +816,7 @@ fn formed<'a>(word: Arg<'a>, name: &'static str, form: Usage) -> Arg<'a> {
     match form {
         Usage::Flag => word.long(name).action(ArgAction::SetTrue),
         Usage::Optional(value) => option(word, name, value),
+        Usage::OptionalOf(value, kind) => option(word, name, value).value_parser(kind),
         Usage::Beside(value, _) | Usage::OptionalUnless(value, _) => option(word, name, value),
         Usage::Required(value) => option(word, name, value).required(true),
         Usage::Number(value, kind) => option(word, name, value).required(true).value_parser(kind),

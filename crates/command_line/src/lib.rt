@@ -9,7 +9,7 @@ mod words;
 
 pub use fault::{BadValue, WordsFault};
 pub use words::{
-    ExportWords, FormatWords, Given, ImportWords, InspectWords, LoopWords, MergeWords,
-    MigrateWords, NamedPaths, ProcessWords, ReceiveWords, SdpWords, SendWords, StampWords,
-    StartWords, Words, WriteWords, given_words, read_words,
+    ConvertWords, ExportWords, FollowWords, FormatWords, Given, ImportWords, InspectWords,
+    LoopWords, MergeWords, MigrateWords, NamedPaths, PictureWords, ProcessWords, ReceiveWords,
+    SdpWords, SendWords, StampWords, StartWords, Words, WriteWords, given_words, read_words,
 };

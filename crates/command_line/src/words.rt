@@ -48,6 +48,12 @@ pub enum Words<'a> {
     Export(ExportWords<'a>),
     /// Tell which streams recordings of other tools have.
     Inspect(InspectWords<'a>),
+    /// Follow a stream, and tell every frame of it.
+    Follow(FollowWords<'a>),
+    /// Write a picture in another form.
+    Convert(ConvertWords<'a>),
+    /// Write a frame of a receiver as a picture's file.
+    Picture(PictureWords<'a>),
 }
 
 /// The words behind `sdp`.
@@ -238,6 +244,65 @@ pub struct ExportWords<'a> {
     pub paced: Option<StartWords>,
 }
 
+/// The words behind `follow`.
+#[derive(Drop)]
+pub struct FollowWords<'a> {
+    /// The SDP's file, where one is named.
+    pub sdp: Option<&'a str>,
+    /// Where the datagrams of path A go in recordings of other tools, where that is said.
+    pub a: Option<&'a str>,
+    /// Where those of path B go, likewise.
+    pub b: Option<&'a str>,
+    /// How many frames the window has.
+    pub window: u32,
+    pub ssrc: &'a str,
+    /// Whether a frame leaves as soon as nothing of it is missing.
+    pub is_eager: bool,
+    /// The file of the pictures, where they are written.
+    pub out: Option<&'a str>,
+    /// The text of the fill, where one is given.
+    pub fill: Option<&'a str>,
+    /// Whether a sample without a value takes that of the picture before.
+    pub is_held: bool,
+    /// The files of captures and recordings.
+    pub recordings: Vec<&'a str>,
+}
+
+/// The words behind `convert`.
+#[derive(Clone, Copy)]
+pub struct ConvertWords<'a> {
+    /// The form of the file that is read, where that is said.
+    pub from: Option<&'a str>,
+    /// The form of the file that is written, where that is said.
+    pub form: Option<&'a str>,
+    /// Which picture of a stream counts: 0 is the first.
+    pub place: u64,
+    /// The rate of a pixmap's picture.
+    pub rate: &'a str,
+    /// The file that is read.
+    pub input: &'a str,
+    /// The file that is written.
+    pub out: &'a str,
+}
+
+/// The words behind `picture`.
+#[derive(Clone, Copy)]
+pub struct PictureWords<'a> {
+    /// The timestamp of the frame.
+    pub timestamp: u32,
+    pub fill: Option<&'a str>,
+    /// The held picture's file, where one is named.
+    pub hold: Option<&'a str>,
+    /// Whether what is missing and what is contested is marked.
+    pub is_marked: bool,
+    /// The word for the form of what is written, where one is given.
+    pub form: Option<&'a str>,
+    /// The file that is written.
+    pub out: &'a str,
+    /// The receiver's file.
+    pub state: &'a str,
+}
+
 /// When packets that are paced begin.
 #[derive(Clone, Copy)]
 pub struct StartWords {
@@ -285,6 +350,7 @@ fn command_words<'a>(
         "process" => Ok(Words::Process(process_words(alloc, given)?)),
         "import" => Ok(Words::Import(import_words(alloc, given)?)),
         "inspect" => Ok(Words::Inspect(inspect_words(alloc, given)?)),
+        "follow" => Ok(Words::Follow(follow_words(alloc, given)?)),
         _ => Ok(plain_words(name, given)),
     }
 }
@@ -297,6 +363,8 @@ fn plain_words<'a>(name: &str, given: &ArgMatches<'a>) -> Words<'a> {
         "migrate" => Words::Migrate(migrate_words(given)),
         "report" => Words::Report(word(given, "state")),
         "loop" => Words::Loop(loop_words(given)),
+        "convert" => Words::Convert(convert_words(given)),
+        "picture" => Words::Picture(picture_words(given)),
         // clap lets `trace` through, and nothing else.
         _ => Words::Trace,
     }
@@ -430,6 +498,21 @@ fn inspect_words<'a>(
     })
 }
 
+fn follow_words<'a>(alloc: Global, given: &ArgMatches<'a>) -> Result<FollowWords<'a>, AllocError> {
+    Ok(FollowWords {
+        sdp: given.get_str("sdp"),
+        a: given.get_str("a"),
+        b: given.get_str("b"),
+        window: number(given, "window"),
+        ssrc: word(given, "ssrc"),
+        is_eager: given.get_flag("eager"),
+        out: given.get_str("out"),
+        fill: given.get_str("fill"),
+        is_held: given.get_flag("hold"),
+        recordings: list(alloc, given, "recordings")?,
+    })
+}
+
 fn format_words<'a>(given: &ArgMatches<'a>) -> Option<FormatWords<'a>> {
     Some(FormatWords {
         format: given.get_str("format")?,
@@ -461,6 +544,29 @@ fn loop_words<'a>(given: &ArgMatches<'a>) -> LoopWords<'a> {
         picture: word(given, "picture"),
         max_octets: number(given, "max"),
         limit: given.get_one::<u64>("limit").unwrap_or(0),
+    }
+}
+
+fn convert_words<'a>(given: &ArgMatches<'a>) -> ConvertWords<'a> {
+    ConvertWords {
+        from: given.get_str("from"),
+        form: given.get_str("as"),
+        place: given.get_one::<u64>("nth").unwrap_or(0),
+        rate: word(given, "rate"),
+        input: word(given, "input"),
+        out: word(given, "out"),
+    }
+}
+
+fn picture_words<'a>(given: &ArgMatches<'a>) -> PictureWords<'a> {
+    PictureWords {
+        timestamp: number(given, "ts"),
+        fill: given.get_str("fill"),
+        hold: given.get_str("hold"),
+        is_marked: given.get_flag("mark"),
+        form: given.get_str("as"),
+        out: word(given, "out"),
+        state: word(given, "state"),
     }
 }
 

@@ -4,8 +4,9 @@ ghost use Rattle.std.specs.Prelude.{◌≡◌, ◌<◌, ◌↔◌, [], IfOk, IsT
 
 use crate::history::{Arrivals, Sendings};
 use crate::standing::Writing;
-use datagram_link::DatagramLink;
-use st_format::{DatagramSink, DatagramSource, MOST_DATAGRAM, Path, SinkFault, SourceFault, Turn};
+use st_format::{
+    DatagramLink, DatagramSink, DatagramSource, MOST_DATAGRAM, Path, SinkFault, SourceFault, Turn,
+};
 use std::io::{self, ErrorKind};
 use std::net::{Net, SocketAddr, UdpSocket};
 use std::time::Duration;

@@ -28,13 +28,13 @@ use Rattle.export_engine.specs.declared.places.Envelopes.{Envelopes}
 use Rattle.st_format.proofs.Gave.{grew_twice}
 
 -- what was written of a record more
-more_packets : (es : Envelopes) (xs : List Entry) (e : Entry)
+pub more_packets : (es : Envelopes) (xs : List Entry) (e : Entry)
     → packets_text es xs ++ packet_text es e ≡ packets_text es (xs ++ e ∷ [])
 more_packets es xs e =
     sym (flat_map-append (packet_text es) xs (e ∷ [])
     ∙ ap (λ (t : List ℕ). packets_text es xs ++ t) (append-nil (packet_text es e)))
 
-more_counted : (es : Envelopes) (xs : List Entry) (e : Entry)
+pub more_counted : (es : Envelopes) (xs : List Entry) (e : Entry)
     → packet_count es (xs ++ e ∷ []) ≡ packet_count es xs + packet_count es (e ∷ [])
 more_counted es xs e = sum_by-append (λ (d : Entry). cond (has_packet es d) 1 0) xs (e ∷ [])
 
@@ -116,7 +116,7 @@ packets_all limit left written es before now new took took' ended m same over = 
 
 -- ---- where it stops
 
-takes_whole : (f : FileFault) (took took' text : List ℕ) → took' ≡ took ++ text
+pub takes_whole : (f : FileFault) (took took' text : List ℕ) → took' ≡ took ++ text
     → TakesUpTo f took took' text
 takes_whole file.Device took took' text is = inl is
 takes_whole f took took' text is = is
@@ -139,7 +139,7 @@ pub no_entries : entries_in [] ≡ []
 unfolding entries_up_to
 no_entries = refl
 
-none_wrong : (first : ℕ) (part : List ℕ) (f : FileFault) → rest_at first part ≡ Err f
+pub none_wrong : (first : ℕ) (part : List ℕ) (f : FileFault) → rest_at first part ≡ Err f
     → entries_in (first ∷ part) ≡ []
 unfolding entries_up_to
 none_wrong first part f bad =

@@ -42,7 +42,7 @@ recording_wrong limit (Ok n) a b c text ended g is = tt
 recording_wrong limit (Err f) a b c text ended g is =
     capture_gave_wrong limit a b c text ended f g is
 
-takes_behind : (f : FileFault) (took mid took' head text : List ℕ) → mid ≡ took ++ head
+pub takes_behind : (f : FileFault) (took mid took' head text : List ℕ) → mid ≡ took ++ head
     → TakesUpTo f mid took' text → TakesUpTo f took took' (head ++ text)
 takes_behind file.Device took mid took' head text w (inl is) =
     inl (took_both took mid took' head text w is)

@@ -13,12 +13,10 @@ ghost use Rattle.export_engine.specs.Exported.{PrintsExported};
 
 use crate::packets::{ExportCounts, PACKET, write_recording};
 use crate::places::Envelopes;
+use media_file::MOST_RECORDS;
 use run_outcome::{Fault, Line, Refusal, of_capture, print, room};
 use st_format::{ByteSink, ByteSource};
 use std::alloc::{AllocError, Allocator};
-
-/// The greatest number of records of a capture (own).
-const RECORDS: u64 = 16_777_216;
 
 /// What `export` is asked for, beside its files: the texts of the flows of the paths, each to an
 /// address, as `239.1.1.1:5004` or `[ff3e::1]:5004`.
@@ -117,7 +115,14 @@ fn export_capture<A: Allocator + Copy, S: ByteSource, K: ByteSink>(
 {
     let mut buf = room(alloc)?;
     let mut packet = packet_room(alloc)?;
-    match write_recording(envelopes, capture, sink, &mut buf, &mut packet, RECORDS) {
+    match write_recording(
+        envelopes,
+        capture,
+        sink,
+        &mut buf,
+        &mut packet,
+        MOST_RECORDS,
+    ) {
         Ok(counts) => Ok(counts),
         Err(fault) => Err(of_capture(fault)),
     }

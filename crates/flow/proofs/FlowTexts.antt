@@ -27,7 +27,8 @@ use Rattle.interface_name.specs.declared.name.InterfaceName.{InterfaceName}
 use Rattle.interface_name.specs.Name.{IsInterfaceName, IsName, name_text}
 use Rattle.interface_name.proofs.Names.{name_again, name_once}
 use Rattle.st_format.specs.Words.{IsNumber, is_number, number}
-use Rattle.st_format.proofs.Decimals.{digits, passes}
+use Rattle.st_format.proofs.Decimals.{digits, and_parts}
+use Rattle.st_format.proofs.Forms.{number_by}
 use Rattle.flow.specs.declared.flows.Flow.{Flow}
 use Rattle.flow.specs.Flow.{IsFlow}
 use Rattle.flow.specs.FlowText.{Finds, IsFlowText, IsHost, IsInterfaceText, IsOther, IsPlaceOf}
@@ -54,10 +55,6 @@ module _ {X : Type 0} (Spells : List ℕ → X → Type 0) (text : List ℕ) whe
   missed none = λ y. (λ k. absurd (none y k), λ e. absurd (not_none y (sym e)))
 
 -- ---- ports
-
-and_parts : (a b : Bool) → (a && b) ≡ true → (a ≡ true) × (b ≡ true)
-and_parts true b e = (refl, e)
-and_parts false b e = (cc, cc)
 
 cond_some : {A : Type 0} (t : Bool) (o : Option A) (x : A) → cond t o None ≡ Some x → t ≡ true
 cond_some true o x e = refl
@@ -544,12 +541,6 @@ host_in_brackets text inside e no_v4 no_v6 =
     (subst (λ t. IsIpv6Text t a) (bracketed_once other inside (sym f ∙ e)) h)))
 
 -- ---- what is written is read again
-
-number_by : (text : List ℕ) (n : ℕ) → IsNumber text → digits_value 10 text ≡ n
-    → number text ≡ Some n
-unfolding number
-number_by text n is value =
-    ap (λ t. cond t (Some (digits_value 10 text)) None) (passes text is) ∙ ap Some value
 
 port_decimal : (port : ℕ) → port < 2 ^ 16 → IsPort (decimal port) port
 port_decimal port small =

@@ -29,7 +29,6 @@ pub struct Flows {
     pub b: Option<Flow>,
 }
 
-/// Whether octets are those of an address.
 fn is_address(address: IpAddr, octets: &[u8]) -> bool
     ensures { result ≡ is_address address octets.now }
 {
@@ -39,7 +38,6 @@ fn is_address(address: IpAddr, octets: &[u8]) -> bool
     }
 }
 
-/// Whether octets are those of an address, where one is named.
 fn is_named(address: Option<IpAddr>, octets: &[u8]) -> bool
     ensures { result ≡ is_named address octets.now }
 {

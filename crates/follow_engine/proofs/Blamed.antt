@@ -2,13 +2,13 @@
 use Rattle.std.proofs.Common.{◌≡◌, ◌∙◌, ◌<◌, ℕ, suc, Bool, true, false, not, inl, inr, List, [], ◌∷◌}
 use Rattle.std.proofs.Common.{Option, Some, Result, Ok, Err, ap, arith, eqb, length, refl, subst, sym}
 use Rattle.std.proofs.lemmas.Bool.{eq-eqb, eqb-true}
-use Rattle.recording_engines.specs.Faults.{reading_fault}
 use Rattle.recording_reader.specs.declared.fault.ReadingFault.{ReadingFault}
 use Rattle.run_outcome.specs.Fault.{Accounts, Blames, counts}
 use Rattle.run_outcome.specs.declared.fault.Fault.{Fault}
 use Rattle.run_outcome.specs.declared.fault.Fault.TheVariants.{Refused, Device, Memory}
 use Rattle.follow_engine.specs.Refused.{fault_in}
 use Rattle.follow_engine.proofs.Whole.{same_fault}
+use Rattle.run_outcome.specs.LowerFaults.{reading_fault}
 
 -- the first of three alone
 pub blames_files : (f : Fault) (a a' b c : ℕ) → Blames (counts a a' ∷ []) f

@@ -4,7 +4,7 @@ use Rattle.std.proofs.Common.{sym, ap, subst, ◌∙◌}
 use Rattle.std.specs.List.{AllByRecursion, zip}
 use Rattle.std.specs.Prelude.{MatchOption}
 use Rattle.flow.specs.declared.flows.Flows.{Flows}
-use Rattle.capture_engines.specs.Files.{fault_by, first_way, flows_in, other_ways}
+use Rattle.capture_engines.specs.Files.{first_way, flows_in, other_ways}
 use Rattle.capture_engines.specs.Received.{OneFileIs}
 use Rattle.media_file.specs.declared.fault.FileFault.TheVariants.{TooManyRecords}
 use Rattle.recording_engines.proofs.FileFaults.{of_file}
@@ -31,6 +31,7 @@ use Rattle.follow_engine.specs.Refused.{FirstRefuses, IsFileRefusal, IsFirstRefu
 use Rattle.follow_engine.specs.Refused.{fault_in}
 use Rattle.follow_engine.specs.Sides.{SideRead}
 use Rattle.follow_engine.proofs.Whole.{begun_by, first_said, same_fault}
+use Rattle.run_outcome.specs.LowerFaults.{reading_fault}
 
 -- ---- the text of the first
 
@@ -63,7 +64,7 @@ first_by gave ended ways (Some t) text olds news r opened first is = absurd is
 -- ---- the fault of one
 
 stops_by : {A S : Type 0} (f : Fault) (reading : ReadingFault) (sides : List (Side A S))
-    → f ≡ fault_by reading → OneSideAt reading sides → OfRefusal f (StopsFollowing sides)
+    → f ≡ reading_fault reading → OneSideAt reading sides → OfRefusal f (StopsFollowing sides)
 stops_by (Refused r) reading sides told at = inl (reading, sym told, at)
 stops_by Device reading sides told at = tt
 stops_by Memory reading sides told at = tt
@@ -80,7 +81,7 @@ fault_reader : {S : Type 0} (gave : S → List ℕ) (ended : S → Type 0) (b : 
     (octets : List ℕ) (r : FileReader S) (f : ReadingFault) (why : Refusal)
     → Some (begun_by r.flows r.before.gave r.text) ≡ Some b
     → HasGivenFile gave ended r → r.standing ≡ Failed f
-    → fault_by f ≡ Refused why
+    → reading_fault f ≡ Refused why
     → IsRead b.before (gave r.source) (ended r.source) octets → IsFileFault f octets
 fault_reader gave ended b octets r f why begun known at told read =
     let same : begun_by r.flows r.before.gave r.text ≡ b = cc in
@@ -95,7 +96,7 @@ fault_reader gave ended b octets r f why begun known at told read =
 
 fault_file : {A S : Type 0} (gave : S → List ℕ) (ended : S → Type 0) (b : Begun)
     (octets : List ℕ) (file : ImportFile A S) (f : ReadingFault) (why : Refusal)
-    → begun_at file ≡ Some b → IsKnown gave ended file → IsAt f file → fault_by f ≡ Refused why
+    → begun_at file ≡ Some b → IsKnown gave ended file → IsAt f file → reading_fault f ≡ Refused why
     → IsRead b.before (gave_by gave file) (ended_by ended file) octets → IsFileFault f octets
 fault_file gave ended b octets (Closed s) f why begun known at told read = absurd at
 fault_file gave ended b octets (Open r) f why begun known at told read =
@@ -105,7 +106,7 @@ fault_file gave ended b octets Taken f why begun known at told read = absurd at
 one_stops : {A S : Type 0} (gave : S → List ℕ) (ended : S → Type 0)
     (ways : List (Result Flows Refusal)) (olds mids news : List (Side A S)) (f : ReadingFault)
     (r : Refusal) → AreOpened gave ended ways olds mids → begun_each news ≡ begun_each mids
-    → AllByRecursion (λ x. IsKnown gave ended x.file) news → fault_by f ≡ Refused r
+    → AllByRecursion (λ x. IsKnown gave ended x.file) news → reading_fault f ≡ Refused r
     → OneSideAt f news
     → OneFileIs (λ w s. IsFileRefusal (SideRead gave ended s) r) ways (zip olds news)
 one_stops gave ended ways olds mids [] f r opened same known told at = absurd at

@@ -4,10 +4,9 @@ use Rattle.std.proofs.Common.{subst}
 use Rattle.std.proofs.Common.{◌∙◌, map}
 use Rattle.std.specs.List.{AllZip, zip}
 use Rattle.flow.specs.declared.flows.Flows.{Flows}
-use Rattle.capture_engines.specs.Files.{fault_by, first_way, flows_in, other_ways}
+use Rattle.capture_engines.specs.Files.{first_way, flows_in, other_ways}
 use Rattle.media_file.specs.Records.{Entry}
 use Rattle.recording_engines.proofs.Same.{no_less, no_more, same_head, same_tail}
-use Rattle.recording_engines.specs.Faults.{reading_fault}
 use Rattle.recording_engines.specs.Files.{IsKnown, ended_by, gave_by}
 use Rattle.recording_engines.specs.Joining.{Strand}
 use Rattle.recording_engines.specs.Strands.{strand_in}
@@ -27,6 +26,7 @@ use Rattle.side_by_side.specs.declared.side.Side.{Side}
 use Rattle.follow_engine.specs.Opened.{AreOpened, IsFirstText}
 use Rattle.follow_engine.specs.Order.{datagrams_in, strands_by}
 use Rattle.follow_engine.specs.Sides.{SideRead}
+use Rattle.run_outcome.specs.LowerFaults.{reading_fault}
 
 -- ---- one file
 
@@ -137,6 +137,6 @@ datagrams_from came entries is =
 -- ---- faults
 
 -- a fault of a file ends a run by one and the same fault, whichever engine names it
-pub same_fault : (f : ReadingFault) → fault_by f ≡ reading_fault f
+pub same_fault : (f : ReadingFault) → reading_fault f ≡ reading_fault f
 same_fault (Capture f) = refl
 same_fault (Recording f) = refl

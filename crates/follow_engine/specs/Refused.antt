@@ -1,7 +1,6 @@
 -- Which refusal ends a run of `follow` (own).
 use Rattle.std.specs.Prelude.{◌≡◌, ℕ, ◌⊎◌, List, [], ◌∷◌, Option, None, Some, MatchOption, Result}
 use Rattle.flow.specs.declared.flows.Flows.{Flows}
-use Rattle.capture_engines.specs.Files.{fault_by}
 use Rattle.capture_engines.specs.Received.{OneFileIs, StopsFile}
 use Rattle.media_file.specs.declared.fault.FileFault.TheVariants.{TooManyRecords}
 use Rattle.path_receiver.specs.Opening.{IsWindowSize}
@@ -18,6 +17,7 @@ use Rattle.sdp_format.specs.Grammar.{IsTextFault}
 use Rattle.sdp_format.specs.Sections.{video_sections}
 use Rattle.side_by_side.specs.Sides.{OneSideAt}
 use Rattle.side_by_side.specs.declared.side.Side.{Side}
+use Rattle.run_outcome.specs.LowerFaults.{reading_fault}
 
 -- ---- the words
 
@@ -50,16 +50,16 @@ FirstRefuses told (s ∷ ss) r =
 -- a fault of a file as what ends a run; where there is none, a device's
 abbrev pub fault_in : Option ReadingFault → Fault
 fault_in None = Device
-fault_in (Some f) = fault_by f
+fault_in (Some f) = reading_fault f
 
 -- what stops files that are read: one is at its fault; or there are more records than are counted
 abbrev pub StopsFollowing : {A S : Type 0} → List (Side A S) → Refusal → Type 0
-StopsFollowing sides r = ((f : ReadingFault) × (fault_by f ≡ Refused r) × OneSideAt f sides)
+StopsFollowing sides r = ((f : ReadingFault) × (reading_fault f ≡ Refused r) × OneSideAt f sides)
     ⊎ (r ≡ refusal.Capture TooManyRecords)
 
 -- so of what was read: one file has this as its first fault
 abbrev pub IsFileRefusal : (List ℕ → Type 0) → Refusal → Type 0
-IsFileRefusal told r = (f : ReadingFault) × (fault_by f ≡ Refused r)
+IsFileRefusal told r = (f : ReadingFault) × (reading_fault f ≡ Refused r)
     × ((octets : List ℕ) → told octets → IsFileFault f octets)
 
 -- ---- the run

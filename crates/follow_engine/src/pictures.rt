@@ -1,10 +1,11 @@
 //! What frames are shown to.
-ghost use Rattle.std.specs.Prelude.{◌≡◌, ℕ, OnErr, OnOk, ⊤};
+ghost use Rattle.std.specs.Prelude.{◌≡◌, ◌∷◌, [], ℕ, IfErr, OnErr, OnOk, ⊤};
 ghost use Rattle.following.specs.Following.{Handed};
-ghost use Rattle.st_format.specs.Device.{CountsFaults};
+ghost use Rattle.follow_engine.specs.Shown.{FailsIn, TakesIn};
+ghost use Rattle.run_outcome.specs.Fault.{Accounts, IfRefused, counts, failures_in};
 
 use frame_assembly::Frame;
-use st_format::DeviceFault;
+use run_outcome::Fault;
 use std::alloc::Allocator;
 
 /// Takes frames that leave a stream, each whole or not at all, to make pictures of them. What it
@@ -20,13 +21,15 @@ pub trait PictureSink {
     /// How many of its calls failed so far.
     ghost failures: { Self → ℕ };
 
-    /// Takes the frame of a timestamp, in 90 kHz ticks. An `Err` is one failure more.
-    fn show<A: Allocator>(&mut self, timestamp: u32, frame: &Frame<A>) -> Result<(), DeviceFault>
+    /// Takes the frame of a timestamp, in 90 kHz ticks. An `Err` is that a device failed or memory
+    /// was wanted; no frame is refused.
+    fn show<A: Allocator>(&mut self, timestamp: u32, frame: &Frame<A>) -> Result<(), Fault>
         ensures taken { OnOk result (takes self.old
             (record { timestamp = timestamp; frame = frame.now }) self.new) }
         ensures failed { OnErr result (fails self.old
             (record { timestamp = timestamp; frame = frame.now }) self.new) }
-        ensures counted { CountsFaults (failures self.old) (failures self.new) result };
+        ensures unrefused { IfErr result (λ f. IfRefused f ⊥) }
+        ensures failures { Accounts result (counts (failures self.old) (failures self.new) ∷ []) };
 }
 
 /// Takes frames, and keeps nothing of them.
@@ -38,7 +41,7 @@ impl PictureSink for NoPictures {
 
     ghost failures = { λ _. 0 };
 
-    fn show<A: Allocator>(&mut self, _: u32, _: &Frame<A>) -> Result<(), DeviceFault> {
+    fn show<A: Allocator>(&mut self, _: u32, _: &Frame<A>) -> Result<(), Fault> {
         Ok(())
     }
 }
@@ -50,7 +53,23 @@ impl<P: PictureSink> PictureSink for &mut P {
 
     ghost failures = { λ k. P.failures k.now };
 
-    fn show<A: Allocator>(&mut self, timestamp: u32, frame: &Frame<A>) -> Result<(), DeviceFault> {
+    fn show<A: Allocator>(&mut self, timestamp: u32, frame: &Frame<A>) -> Result<(), Fault> {
         PictureSink::show(&mut **self, timestamp, frame)
+    }
+}
+
+/// A sink that may be none: then frames go nowhere, and nothing fails.
+impl<P: PictureSink> PictureSink for Option<P> {
+    ghost takes = { λ k h l. TakesIn P.takes k h l };
+
+    ghost fails = { λ k h l. FailsIn P.fails k h l };
+
+    ghost failures = { λ k. failures_in P.failures k };
+
+    fn show<A: Allocator>(&mut self, timestamp: u32, frame: &Frame<A>) -> Result<(), Fault> {
+        match self {
+            Some(pictures) => pictures.show(timestamp, frame),
+            None => Ok(()),
+        }
     }
 }

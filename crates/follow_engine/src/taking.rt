@@ -10,9 +10,8 @@ ghost use Rattle.side_by_side.specs.Sides.{failures_each};
 
 use crate::pictures::PictureSink;
 use crate::running::Run;
-use capture_engines::of_reading;
 use media_file::FileFault;
-use run_outcome::{Fault, of_capture};
+use run_outcome::{Fault, of_capture, of_reading};
 use side_by_side::SideBySide;
 use st_format::{ByteSink, ByteSource, DatagramSource, Turn};
 use std::alloc::Allocator;

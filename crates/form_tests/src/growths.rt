@@ -1,9 +1,12 @@
 //! Pictures that are read and made with each growth refused in turn; and then with memory.
-use crate::checks::{met, source};
+use crate::checks::{met, sink, source};
+use follow_engine::PictureSink;
 use frame_assembly::Frame;
+use frame_sinks::{Filling, FormSink};
 use marked_view::marked_picture;
 use picture_forms::{FormFault, read_pixmap_raster, read_y4m_frame};
 use refusing::Refusing;
+use run_outcome::Fault;
 use st_format::{Depth, Format, Sampling};
 use std::alloc::{Allocator, Global};
 use std::test::Fail;
@@ -18,6 +21,8 @@ enum Making {
     Raster,
     /// The marked view of a frame.
     View,
+    /// What a sink writes of frames.
+    Shown(Filling),
 }
 
 /// Whether a frame of 2 by 1 pixels is read, or `None` where memory is wanted.
@@ -61,21 +66,44 @@ fn makes_view<A: Allocator>(global: Global, alloc: A) -> Result<Option<bool>, Fa
     }
 }
 
+/// Whether three frames are written, or `None` where memory is wanted.
+fn shows<A: Allocator + Copy>(
+    global: Global,
+    alloc: A,
+    filling: Filling,
+) -> Result<Option<bool>, Fail> {
+    let format = Format::new(Sampling::Ycc422, Depth::D10, 2, 1, 25, 1)?;
+    let frame = Frame::new(global, format)?;
+    let mut pictures = FormSink::new(alloc, filling, None, sink(global)?);
+    for timestamp in 0..3 {
+        match pictures.show(timestamp, &frame) {
+            Ok(()) => {}
+            Err(Fault::Memory) => return Ok(None),
+            Err(_) => return Ok(Some(false)),
+        }
+    }
+    Ok(Some(true))
+}
+
 impl Wanting for Making {
     fn answer(&self, global: Global, refusing: &Refusing<Global>) -> Result<Option<bool>, Fail> {
         match self {
             Making::Frame => reads_frame(global, refusing),
             Making::Raster => reads_raster(global, refusing),
             Making::View => makes_view(global, refusing),
+            Making::Shown(filling) => shows(global, refusing, *filling),
         }
     }
 }
 
-/// Each takes one growth.
+/// Each takes one growth, also of any number of frames; where pictures are held two.
 #[test]
 fn one_each(rt: HostRuntime) -> Result<(), Fail> {
-    for making in &[Making::Frame, Making::Raster, Making::View] {
+    let filled = Making::Shown(Filling::Fill);
+    for making in &[Making::Frame, Making::Raster, Making::View, filled] {
         met(&rt, growths(rt.alloc(), making)? == Some(1));
     }
+    let held = growths(rt.alloc(), &Making::Shown(Filling::Hold))?;
+    met(&rt, held == Some(2));
     Ok(())
 }

@@ -14,6 +14,7 @@ use Rattle.st_format.specs.Cell.{join, known_value}
 use Rattle.st_format.specs.Raster.{joined_cells}
 use Rattle.st_format.specs.Samples.{values_in}
 use Rattle.pgroup_pack.specs.Groups.{blanked_samples, blanked_from, differs_at}
+use Rattle.pgroup_pack.proofs.GroupLemmas.{past}
 use Rattle.frame_assembly.specs.Packed.{IsMark, IsPacked, Joins, cells_from, marked}
 use Rattle.frame_assembly.specs.Packed.{packed_cells}
 use Rattle.frame_assembly.proofs.PackedLemmas.{AreSizes, length-packed_cells, one_long}
@@ -235,11 +236,6 @@ one_cells n size m octets long =
     ap (take size) (sym (append-nil octets)) ∙ take_at octets [] size long in
     append-nil (cells_from m 0 (values_in n (take size octets)))
     ∙ ap (λ (os : List ℕ). cells_from m 0 (values_in n os)) e
-
-past : (xs : List ℕ) (k : ℕ) → length xs ≤ k → get_or xs k 0 ≡ 0
-past [] k le = refl
-past (x ∷ xs) zero le = absurd (omega arith)
-past (x ∷ xs) (suc k) le = past xs k (omega arith)
 
 same_past : (vs ws : List ℕ) (k : ℕ) → length vs ≤ k → length ws ≤ k → differs_at vs ws k ≡ 0
 same_past vs ws k le le1 =

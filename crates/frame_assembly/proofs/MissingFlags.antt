@@ -19,6 +19,7 @@ use Rattle.st_format.specs.Limits.{IsWidth}
 use Rattle.st_format.specs.Pgroup.{pixel_group}
 use Rattle.st_format.specs.Position.{group_start, row_groups}
 use Rattle.st_format.specs.Raster.{IsWhole, Raster}
+use Rattle.st_format.proofs.Columns.{some_samples}
 use Rattle.frame_assembly.specs.declared.state.GroupState.{GroupState}
 use Rattle.frame_assembly.specs.declared.state.GroupState.TheVariants.{Gone, Whole, Mixed}
 use Rattle.frame_assembly.specs.Marks.{is_group_present, state_of_mark}
@@ -50,20 +51,6 @@ group_long r row group whole lt below =
     whole ∙ sym (sample_count_groups r.format) ∙ ap (λ (n : ℕ). size * n) all ∙ split in
     length-take-le size (drop (group_start r.format row group) r.cells)
     (omega (arith, length-drop (group_start r.format row group) r.cells, total))
-
-pub some_samples : (s : Sampling) (d : Depth) → 0 < (pixel_group s d).samples
-some_samples Ycc422 D8 = omega arith
-some_samples Ycc422 D10 = omega arith
-some_samples Ycc422 D12 = omega arith
-some_samples Ycc422 D16 = omega arith
-some_samples Ycc444 D8 = omega arith
-some_samples Ycc444 D10 = omega arith
-some_samples Ycc444 D12 = omega arith
-some_samples Ycc444 D16 = omega arith
-some_samples Rgb D8 = omega arith
-some_samples Rgb D10 = omega arith
-some_samples Rgb D12 = omega arith
-some_samples Rgb D16 = omega arith
 
 pub group_some : (r : Raster) (row group : ℕ) → IsWhole r → row < r.format.height
     → group < row_groups r.format → 0 < length (group_cells r row group)

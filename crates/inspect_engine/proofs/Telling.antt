@@ -5,7 +5,7 @@ use Rattle.std.specs.List.{Any, flat_map, zip}
 use Rattle.recording_counts.specs.FlowCounts.{flow_counts}
 use Rattle.recording_counts.specs.declared.flow_count.FlowCount.{FlowCount}
 use Rattle.pcap_file.specs.Fields.{IfContent}
-use Rattle.pcap_file.specs.Runs.{packets_in}
+use Rattle.pcap_file.specs.Runs.{packets_in, most_packet}
 use Rattle.pcap_file.specs.declared.fault.RecordingFault.{RecordingFault}
 use Rattle.pcap_file.specs.declared.fault.RecordingFault.TheVariants.{Device, Truncated, BadMagic}
 use Rattle.pcap_file.specs.declared.fault.RecordingFault.TheVariants.{BadVersion, BadBlock}
@@ -20,14 +20,14 @@ use Rattle.inspect_engine.specs.Inspected.{IsFaultOf, NotesAll, NotesOctets}
 use Rattle.inspect_engine.specs.Inspected.{inspection_text}
 use Rattle.recording_counts.specs.LeftOut.{left_out_of}
 use Rattle.recording_counts.specs.declared.left_out.LeftOut.{LeftOut}
-use Rattle.inspect_engine.specs.Told.{Tells, room}
+use Rattle.inspect_engine.specs.Told.{Tells}
 use Rattle.inspect_engine.specs.declared.form.Form.{Form}
 use Rattle.inspect_engine.specs.declared.inspection.Inspection.{Inspection}
 
 -- what is printed of what was noted, from nothing on, is told of all packets
 pub tells_noted : {S A : Type 0} (form : Form) (told : S → List ℕ → Type 0) (recordings : List S) (cut : Bool)
     (old new : Inspection A) (shown shown' : List ℕ) → old.flows ≡ flow_counts []
-    → old.left_out ≡ left_out_of [] → NotesAll room told recordings cut old new
+    → old.left_out ≡ left_out_of [] → NotesAll most_packet told recordings cut old new
     → shown' ≡ shown ++ inspection_text form new.flows new.left_out
     → Tells form told recordings cut shown shown'
 tells_noted form told recordings cut old new shown shown' counted reasons notes printed = record {
@@ -35,7 +35,11 @@ tells_noted form told recordings cut old new shown shown' counted reasons notes 
       let n = notes.noted octets read in
       printed
       ∙ ap (λ (f : List FlowCount). shown ++ inspection_text form f new.left_out) (n.flows [] counted)
-      ∙ ap (λ (l : LeftOut). shown ++ inspection_text form (flow_counts (arrivals_of (flat_map (packets_in room) octets))) l)
+      ∙ ap
+      (λ (l : LeftOut).
+      shown
+      ++ inspection_text form
+      (flow_counts (arrivals_of (flat_map (packets_in most_packet) octets))) l)
       (n.left_out [] reasons);
   ends = notes.ends;
   cuts = notes.cuts;

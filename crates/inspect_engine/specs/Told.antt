@@ -3,7 +3,7 @@ use Rattle.std.specs.Prelude.{◌≡◌, ℕ, ◌⊎◌, Bool, true, List, ◌++
 use Rattle.std.specs.List.{AllZip, Any, flat_map, list_all, list_any}
 use Rattle.recording_counts.specs.FlowCounts.{flow_counts}
 use Rattle.pcap_file.specs.PcapReading.{Recorded}
-use Rattle.pcap_file.specs.Runs.{fault_in, packets_in}
+use Rattle.pcap_file.specs.Runs.{fault_in, packets_in, most_packet}
 use Rattle.pcap_file.specs.declared.fault.RecordingFault.TheVariants.{Truncated}
 use Rattle.run_outcome.specs.declared.refusal.Refusal.{Refusal}
 use Rattle.run_outcome.specs.declared.refusal.Refusal.TheVariants.{Recording}
@@ -11,10 +11,6 @@ use Rattle.inspect_engine.specs.Arrivals.{arrivals_of, omissions_of}
 use Rattle.inspect_engine.specs.Inspected.{IsFaultOf, inspection_text, is_cut, is_told}
 use Rattle.inspect_engine.specs.declared.form.Form.{Form}
 use Rattle.recording_counts.specs.LeftOut.{left_out_of}
-
--- the octets of a packet or a block that there is room for
-abbrev pub room : ℕ
-room = 1048576
 
 -- what is told of packets: their flows, and the packets without a datagram
 abbrev pub told_text : Form → List Recorded → List ℕ
@@ -26,11 +22,11 @@ told_text form packets =
 pub record Tells {S : Type 0} (form : Form) (told : S → List ℕ → Type 0) (recordings : List S)
     (cut : Bool) (shown shown' : List ℕ) : Type 0 where
   pub printed : (octets : List (List ℕ)) → AllZip told recordings octets
-      → shown' ≡ shown ++ told_text form (flat_map (packets_in room) octets)
+      → shown' ≡ shown ++ told_text form (flat_map (packets_in most_packet) octets)
   pub ends : (octets : List (List ℕ)) → AllZip told recordings octets
-      → list_all (λ o. is_told (fault_in room o)) octets ≡ true
+      → list_all (λ o. is_told (fault_in most_packet o)) octets ≡ true
   pub cuts : (octets : List (List ℕ)) → AllZip told recordings octets
-      → cut ≡ list_any (λ o. is_cut (fault_in room o)) octets
+      → cut ≡ list_any (λ o. is_cut (fault_in most_packet o)) octets
 
 -- The refusals of `inspect`: that a recording was cut short, and then all was printed; the fault of
 -- a recording, and then nothing was.
@@ -38,4 +34,4 @@ abbrev pub IsInspectRefusal : {S : Type 0} → Form → (S → List ℕ → Type
     → List ℕ → Refusal → Type 0
 IsInspectRefusal form told recordings shown shown' r =
     ((r ≡ Recording Truncated) × Tells form told recordings true shown shown')
-    ⊎ ((shown' ≡ shown) × Any (λ z. IsFaultOf room (told z) r) recordings)
+    ⊎ ((shown' ≡ shown) × Any (λ z. IsFaultOf most_packet (told z) r) recordings)

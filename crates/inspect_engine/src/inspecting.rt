@@ -2,6 +2,7 @@
 ghost use Rattle.std.specs.Prelude.{◌≡◌, ◌∷◌, [], IfErr, IfOk, OnOk, false, length, sum_by};
 ghost use Rattle.std.specs.Prelude.{vec_len};
 ghost use Rattle.std.specs.List.{zip};
+ghost use Rattle.pcap_file.specs.Runs.{most_packet};
 ghost use Rattle.run_outcome.specs.Fault.{Accounts, counts};
 ghost use Rattle.run_outcome.specs.Moments.{WasRead};
 ghost use Rattle.run_outcome.specs.Refusing.{OfRefusal};
@@ -11,19 +12,16 @@ use crate::form::Form;
 use crate::inspection::Inspection;
 use crate::printing::print_inspection;
 use crate::recordings::note_recordings;
-use pcap_file::RecordingFault;
+use pcap_file::{MOST_PACKET, RecordingFault};
 use run_outcome::{Fault, Refusal};
 use st_format::{ByteSink, ByteSource};
 use std::alloc::{AllocError, Allocator};
 
-/// How many octets a packet or a block of a recording may have (own).
-const ROOM: usize = 1_048_576;
-
 /// Room for the greatest packet or block of a recording that is read.
 fn room<A: Allocator>(alloc: A) -> Result<Vec<u8, A>, AllocError>
-    ensures { IfOk result (λ buf. vec_len buf ≡ 1048576) }
+    ensures { IfOk result (λ buf. vec_len buf ≡ most_packet) }
 {
-    vec![in alloc; 0u8; ROOM]
+    vec![in alloc; 0u8; MOST_PACKET]
 }
 
 /// Prints which flows of UDP recordings have, in the order in which they first came: of each the

@@ -108,7 +108,8 @@ impl Display for LeftOutJson {
         let bad_udp_length = self.0.bad_udp_length;
         write!(
             f,
-            "{{{first},\"NotUdp\":{not_udp},\"Fragment\":{fragment},\"BadUdpLength\":{bad_udp_length}}}"
+            "{{{first},\"NotUdp\":{not_udp},\"Fragment\":{fragment},\
+             \"BadUdpLength\":{bad_udp_length}}}"
         )
     }
 }

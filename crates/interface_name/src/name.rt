@@ -19,14 +19,12 @@ pub struct InterfaceName {
     octets: [u8; 64],
 }
 
-/// Whether an octet can stand in a name.
 fn is_name_octet(octet: u8) -> bool
     ensures { result ≡ is_name_octet octet }
 {
     b'!' <= octet && octet <= b'~' && octet != b'>' && octet != b'@'
 }
 
-/// Whether each octet of a text can stand in a name.
 fn are_name_octets(text: &[u8]) -> bool
     ensures { result ≡ list_all is_name_octet text.now }
 {
@@ -38,7 +36,6 @@ fn are_name_octets(text: &[u8]) -> bool
     true
 }
 
-/// The octets of a text, and zeros behind them.
 fn filled(text: &[u8]) -> [u8; 64]
     requires { length text.now ≤ 64 }
     ensures { result ≡ filled text.now }

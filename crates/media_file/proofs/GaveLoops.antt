@@ -243,7 +243,7 @@ no_record limit left before now mid new so_far first rest ended g begun given =
 
 -- ---- what is wrong at the front of octets
 
-by_fault : (f : FileFault) (r : Result (Entry × List ℕ) FileFault) → fault_by r ≡ Some f
+pub by_fault : (f : FileFault) (r : Result (Entry × List ℕ) FileFault) → fault_by r ≡ Some f
     → r ≡ Err f
 by_fault f (Ok x) is = cc
 by_fault f (Err e) is = cc

@@ -116,7 +116,7 @@ not_missing bits (Missing ∷ cs) had some = absurd had.0
 not_missing bits (Value v ∷ cs) had some = refl
 not_missing bits (Contested ∷ cs) had some = refl
 
-all_missing : (n : ℕ) → list_all is_missing (replicate n Missing) ≡ true
+pub all_missing : (n : ℕ) → list_all is_missing (replicate n Missing) ≡ true
 all_missing zero = refl
 all_missing (suc n) = all_missing n
 

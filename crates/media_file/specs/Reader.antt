@@ -1,8 +1,8 @@
 -- A reader of a capture as a source of datagrams (own).
-use Rattle.std.specs.Prelude.{◌≡◌, ℕ, ◌-◌, ◌^◌, min, List, [], ⊤, map, Option, None, Some}
+use Rattle.std.specs.Prelude.{◌≡◌, ℕ, List, [], ⊤, map, Option, None, Some}
 use Rattle.std.specs.Option.{option_map}
 use Rattle.std.specs.Io.KnownBytes.{IsAtEnd}
-use Rattle.st_format.specs.Device.{Told}
+use Rattle.st_format.specs.Device.{Told, capped}
 use Rattle.st_format.specs.Turns.{Due, Comes}
 use Rattle.st_format.specs.declared.device.SourceFault.{SourceFault}
 use Rattle.st_format.specs.declared.device.SourceFault.TheVariants.{Content}
@@ -46,7 +46,7 @@ last_fault_of (Failed f) = Some (source_fault f)
 -- a source gave the records that were delivered, of which at most 2^64 - 1 are counted
 pub record HasDelivered (delivered : ℕ) (old new : Option (List ℕ)) : Type 0 where
   pub count : ℕ
-  pub counted : delivered ≡ min count (2 ^ 64 - 1)
+  pub counted : delivered ≡ capped count
   pub gave : GivesRecords count old new
 
 -- a source was to give whole records, and then what is none by this fault

@@ -19,6 +19,9 @@ use crate::steps::{record_begins, record_rest};
 use st_format::{ByteSource, MOST_DATAGRAM};
 use std::alloc::{Allocator, Global};
 
+/// How many records of one file the engines read at most (own).
+pub const MOST_RECORDS: u64 = 16_777_216;
+
 /// What a capture says, of either version: a text and records.
 #[derive(Drop)]
 pub struct Capture<A: Allocator = Global> {

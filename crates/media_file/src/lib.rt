@@ -19,7 +19,7 @@ mod writer;
 mod writing;
 
 pub use block::{format_block, read_format};
-pub use capture::{Capture, read_capture};
+pub use capture::{Capture, MOST_RECORDS, read_capture};
 pub use fault::FileFault;
 pub use front::{Version, read_end, read_field, read_front, read_front_behind, read_kind};
 pub use migrating::migrate_capture;

@@ -8,10 +8,11 @@ use Rattle.std.proofs.lemmas.List.Sums.{sum_by-append, count_by-le-length}
 use Rattle.std.specs.BTreeMap.{BTreeMap}
 use Rattle.st_format.specs.declared.path.Path.{Path}
 use Rattle.st_format.specs.declared.path.Path.TheVariants.{A, B}
+use Rattle.st_format.specs.Turns.{is_path}
 use Rattle.media_file.specs.Records.{Entry}
 use Rattle.paced_export.specs.Counts.{AddsOne, AddsTo, Counts, count_of, counted}
 use Rattle.paced_export.specs.Counts.{counted_in}
-use Rattle.paced_export.specs.Counts.{first_timestamp, is_by, is_of}
+use Rattle.paced_export.specs.Counts.{first_timestamp, is_of}
 use Rattle.paced_export.specs.Pacing.{timestamp_in}
 use Rattle.paced_export.specs.declared.tally.FrameCounts.{FrameCounts}
 
@@ -27,7 +28,7 @@ more_counted : (path : Path) (ts : ℕ) (entries : List Entry) (e : Entry)
 more_counted path ts entries e =
     sum_by-append (λ (d : Entry). cond (is_of path ts d) 1 0) entries (e ∷ [])
 
-one_by : (path : Path) (ts : ℕ) (e : Entry) → is_by path e.path ≡ true
+one_by : (path : Path) (ts : ℕ) (e : Entry) → is_path path e.path ≡ true
     → timestamp_in e.octets ≡ ts → count_of path ts (e ∷ []) ≡ 1
 one_by path ts e by is = grind (arith, by, is)
 
@@ -35,13 +36,13 @@ none_at : (path : Path) (ts q : ℕ) (e : Entry) → timestamp_in e.octets ≡ t
     → count_of path q (e ∷ []) ≡ 0
 none_at path ts q e is other = grind (arith, is, other)
 
-none_by : (path : Path) (q : ℕ) (e : Entry) → is_by path e.path ≡ false
+none_by : (path : Path) (q : ℕ) (e : Entry) → is_path path e.path ≡ false
     → count_of path q (e ∷ []) ≡ 0
 none_by path q e by = grind (arith, by)
 
 -- of its own path, and of the other one
 mine_more : (path : Path) (old new : BTreeMap ℕ ℕ) (ts : ℕ) (entries : List Entry) (e : Entry)
-    → is_by path e.path ≡ true → timestamp_in e.octets ≡ ts → AddsOne old new ts
+    → is_path path e.path ≡ true → timestamp_in e.octets ≡ ts → AddsOne old new ts
     → ((q : ℕ) → counted_in old q ≡ count_of path q entries)
     → (q : ℕ) → counted_in new q ≡ count_of path q (entries ++ e ∷ [])
 mine_more path old new ts entries e by is adds was q =
@@ -62,7 +63,7 @@ mine_more path old new ts entries e by is adds was q =
     (cases_eq q ts)
 
 other_more : (path : Path) (old new : BTreeMap ℕ ℕ) (entries : List Entry) (e : Entry)
-    → is_by path e.path ≡ false → new ≡ old
+    → is_path path e.path ≡ false → new ≡ old
     → ((q : ℕ) → counted_in old q ≡ count_of path q entries)
     → (q : ℕ) → counted_in new q ≡ count_of path q (entries ++ e ∷ [])
 other_more path old new entries e by same was q =
@@ -96,16 +97,16 @@ counts_more old mid new A ts adds a b first entries e by is was = record {
       first_is ts mid.first new.first entries e is (adds.2 ∙ was.first) first;
   by_a = λ q.
       ap (λ (m : BTreeMap ℕ ℕ). counted_in m q) a
-      ∙ mine_more A old.a mid.a ts entries e (ap (is_by A) by) is adds.0 was.by_a q;
-  by_b = λ q. other_more B old.b new.b entries e (ap (is_by B) by) (b ∙ adds.1) was.by_b q;
+      ∙ mine_more A old.a mid.a ts entries e (ap (is_path A) by) is adds.0 was.by_a q;
+  by_b = λ q. other_more B old.b new.b entries e (ap (is_path B) by) (b ∙ adds.1) was.by_b q;
 }
 counts_more old mid new B ts adds a b first entries e by is was = record {
   first =
       first_is ts mid.first new.first entries e is (adds.2 ∙ was.first) first;
-  by_a = λ q. other_more A old.a new.a entries e (ap (is_by A) by) (a ∙ adds.1) was.by_a q;
+  by_a = λ q. other_more A old.a new.a entries e (ap (is_path A) by) (a ∙ adds.1) was.by_a q;
   by_b = λ q.
       ap (λ (m : BTreeMap ℕ ℕ). counted_in m q) b
-      ∙ mine_more B old.b mid.b ts entries e (ap (is_by B) by) is adds.0 was.by_b q;
+      ∙ mine_more B old.b mid.b ts entries e (ap (is_path B) by) is adds.0 was.by_b q;
 }
 
 -- ---- what the counts are

@@ -1,21 +1,17 @@
 -- A loop that writes the packets of records at their moments: at each moment the packets of those
 -- that it read.
-use Rattle.std.proofs.Common.{◌≡◌, ℕ, ◌+◌, ◌-◌, ◌≤◌, List, [], ◌∷◌, ◌++◌, length, inl, inr}
-use Rattle.std.proofs.Common.{append-nil, refl, sym, ap, ◌∙◌, subst, arith, Err}
-use Rattle.std.proofs.Common.{Option, Result}
-use Rattle.std.proofs.lemmas.Grind.{flat_map-append}
+use Rattle.std.proofs.Common.{◌≡◌, ℕ, ◌+◌, ◌-◌, ◌≤◌, List, [], ◌∷◌, ◌++◌, length, inr, Option}
+use Rattle.std.proofs.Common.{append-nil, refl, sym, ap, ◌∙◌, subst, arith}
 use Rattle.std.proofs.lemmas.List.{length-append}
-use Rattle.std.proofs.lemmas.List.Sums.{sum_by-append, count_by-le-length}
-use Rattle.std.specs.Prelude.{cond}
-use Rattle.st_format.specs.Device.{CountsOne, GrowsPart}
+use Rattle.std.proofs.lemmas.List.Sums.{count_by-le-length}
+use Rattle.st_format.specs.Device.{GrowsPart}
 use Rattle.media_file.specs.declared.fault.FileFault.{FileFault}
 use Rattle.media_file.specs.declared.fault.FileFault.TheVariants as file
 use Rattle.media_file.specs.Capture.{records_at}
-use Rattle.media_file.specs.Faults.{CountsFault, IsDevice}
+use Rattle.media_file.specs.Faults.{IsDevice}
 use Rattle.media_file.specs.Fields.{GaveFault}
-use Rattle.media_file.specs.Migrated.{CountsEither}
 use Rattle.media_file.specs.Given.{GivesWrong}
-use Rattle.media_file.specs.Reading.{entries_by, entries_in, entries_up_to, rest_at}
+use Rattle.media_file.specs.Reading.{entries_in, entries_up_to, rest_at}
 use Rattle.media_file.specs.Records.{AllFit, Entry, Fits, path_octet, record_text, records_text}
 use Rattle.media_file.specs.Records.{rest_text}
 use Rattle.media_file.proofs.Moved.{fit_more, one_text}
@@ -26,6 +22,7 @@ use Rattle.media_file.proofs.Written.{part_then, took_both}
 use Rattle.export_engine.specs.Packets.{has_packet, packet_count, packet_text, packets_text}
 use Rattle.export_engine.specs.Exported.{TakesUpTo}
 use Rattle.export_engine.specs.declared.places.Envelopes.{Envelopes}
+use Rattle.export_engine.proofs.PacketLoops.{more_packets, none_wrong, more_counted, takes_whole}
 use Rattle.st_format.specs.declared.path.Path.{Path}
 use Rattle.paced_export.specs.Counts.{Counts, counted}
 use Rattle.paced_export.specs.Paced.{paced, paced_entry}
@@ -35,17 +32,6 @@ use Rattle.paced_export.specs.declared.tally.FrameCounts.{FrameCounts}
 use Rattle.paced_export.proofs.CountLemmas.{counted_few}
 use Rattle.paced_export.proofs.PacedLists.{paced_length, paced_more}
 use Rattle.st_format.proofs.Gave.{grew_twice}
-
--- what was written of a record more
-more_packets : (es : Envelopes) (xs : List Entry) (e : Entry)
-    → packets_text es xs ++ packet_text es e ≡ packets_text es (xs ++ e ∷ [])
-more_packets es xs e =
-    sym (flat_map-append (packet_text es) xs (e ∷ [])
-    ∙ ap (λ (t : List ℕ). packets_text es xs ++ t) (append-nil (packet_text es e)))
-
-more_counted : (es : Envelopes) (xs : List Entry) (e : Entry)
-    → packet_count es (xs ++ e ∷ []) ≡ packet_count es xs + packet_count es (e ∷ [])
-more_counted es xs e = sum_by-append (λ (d : Entry). cond (has_packet es d) 1 0) xs (e ∷ [])
 
 -- what was written of a record more, at its moment
 paced_packets : (es : Envelopes) (p : Pace) (all : Path → ℕ → ℕ) (xs : List Entry) (e d : Entry)
@@ -154,10 +140,6 @@ pub seen_few : {Al : Type 0} (left written : ℕ) (es : Envelopes) (p : Pace)
 seen_few left written es p all seen before now took took' m path ts =
     omega (arith, m.few, counted_few seen m.entries m.counts path ts)
 
--- a record has one packet at most
-pub one_packet : (n : ℕ) (es : Envelopes) (e : Entry) → n ≡ packet_count es (e ∷ []) → n ≤ 1
-one_packet n es e is = omega (arith, is, count_by-le-length (has_packet es) (e ∷ []))
-
 -- the end
 pub paced_all : {Al : Type 0} (left written : ℕ) (es : Envelopes) (p : Pace)
     (all : Path → ℕ → ℕ) (seen : FrameCounts Al)
@@ -183,11 +165,6 @@ paced_all left written es p all seen before now new took took' ended m same over
 
 -- ---- where it stops
 
-takes_whole : (f : FileFault) (took took' text : List ℕ) → took' ≡ took ++ text
-    → TakesUpTo f took took' text
-takes_whole file.Device took took' text is = inl is
-takes_whole f took took' text is = is
-
 -- behind whole records stands what is none
 stops_at : {Al : Type 0} (left written : ℕ) (es : Envelopes) (p : Pace) (all : Path → ℕ → ℕ)
     (seen : FrameCounts Al) (f : FileFault) (before now new took took' rest : List ℕ)
@@ -205,13 +182,6 @@ stops_at left written es p all seen f before now new took took' rest m grown non
 pub no_entries : entries_in [] ≡ []
 unfolding entries_up_to
 no_entries = refl
-
-none_wrong : (first : ℕ) (part : List ℕ) (f : FileFault) → rest_at first part ≡ Err f
-    → entries_in (first ∷ part) ≡ []
-unfolding entries_up_to
-none_wrong first part f bad =
-    ap (λ (r : Result (Entry × List ℕ) FileFault). entries_by r
-    (entries_up_to (length part))) bad
 
 -- the source failed before a record
 pub stops_before : {Al : Type 0} (left written : ℕ) (es : Envelopes) (p : Pace)
@@ -304,20 +274,6 @@ stops_counting left written es p all seen before now mid new took took' took'' f
     m.taken w
     ∙ ap (λ (t : List ℕ). took ++ t)
     (paced_packets es p all m.entries e d (paces m.entries m.counts)))
-
--- the source's fault alone
-pub source_counted : (f : FileFault) (s s' t h k : ℕ) → s' ≡ s → k ≡ h → CountsFault f s' t
-    → CountsEither f s t h k
-source_counted file.Device s s' t h k same works fails =
-    inl (subst (λ (n : ℕ). CountsOne n t) same fails, works)
-source_counted file.NoMemory s s' t h k same works fails = (fails ∙ same, works)
-source_counted file.BadName s s' t h k same works fails = (fails ∙ same, works)
-source_counted file.BadVersion s s' t h k same works fails = (fails ∙ same, works)
-source_counted file.Truncated s s' t h k same works fails = (fails ∙ same, works)
-source_counted file.BadField s s' t h k same works fails = (fails ∙ same, works)
-source_counted file.TrailingBytes s s' t h k same works fails = (fails ∙ same, works)
-source_counted file.MixedGroup s s' t h k same works fails = (fails ∙ same, works)
-source_counted file.TooManyRecords s s' t h k same works fails = (fails ∙ same, works)
 
 -- what the source gave where the sink or the memory failed
 pub written_wrong : {Al : Type 0} (left written : ℕ) (es : Envelopes) (p : Pace)

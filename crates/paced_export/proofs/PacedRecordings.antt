@@ -1,6 +1,6 @@
 -- The recording of a capture: its head behind the capture's front, and the packets behind it; and
 -- the records of a first reading.
-use Rattle.std.proofs.Common.{◌≡◌, ◌≤◌, ℕ, ◌+◌, ◌-◌, List, [], ◌∷◌, ◌++◌, inl, inr, Result, Ok, Err}
+use Rattle.std.proofs.Common.{◌≡◌, ◌≤◌, ℕ, ◌+◌, ◌-◌, List, [], ◌∷◌, ◌++◌, inr, Result, Ok, Err}
 use Rattle.std.proofs.Common.{append-nil, sym, ap, ◌∙◌, length, arith, refl}
 use Rattle.std.specs.Prelude.{IfErr, IfOk}
 use Rattle.std.proofs.lemmas.List.{length-append}
@@ -14,14 +14,13 @@ use Rattle.media_file.specs.Fields.{GaveFault}
 use Rattle.st_format.specs.Given.{GaveValue}
 use Rattle.media_file.specs.Fronts.{front_at}
 use Rattle.media_file.specs.Records.{Entry, Fits, path_octet, rest_text}
-use Rattle.media_file.proofs.Gave.{fault_device}
 use Rattle.media_file.proofs.GaveCaptures.{capture_gave, capture_gave_wrong}
 use Rattle.media_file.proofs.GaveLoops.{GoesGave, gave_end, gave_first, gave_record}
-use Rattle.media_file.proofs.Written.{part_then, took_both}
-use Rattle.export_engine.specs.Exported.{TakesUpTo}
+use Rattle.media_file.proofs.Written.{took_both}
 use Rattle.export_engine.specs.Packets.{packets_text}
 use Rattle.export_engine.specs.declared.packets.ExportCounts.{ExportCounts}
 use Rattle.export_engine.specs.declared.places.Envelopes.{Envelopes}
+use Rattle.export_engine.proofs.Recordings.{takes_behind}
 use Rattle.paced_export.specs.Counts.{Counts, counted}
 use Rattle.paced_export.specs.Paced.{paced}
 use Rattle.paced_export.specs.PacedExported.{CountsRecords, PacesCapture, PacesRecords, StopsPaced}
@@ -55,14 +54,6 @@ pub recording_wrong : (r : Result ExportCounts FileFault) (a b c text : List ℕ
 recording_wrong (Ok n) a b c text ended g is = tt
 recording_wrong (Err f) a b c text ended g is =
     capture_gave_wrong 16777216 a b c text ended f g is
-
-takes_behind : (f : FileFault) (took mid took' head text : List ℕ) → mid ≡ took ++ head
-    → TakesUpTo f mid took' text → TakesUpTo f took took' (head ++ text)
-takes_behind file.Device took mid took' head text w (inl is) =
-    inl (took_both took mid took' head text w is)
-takes_behind file.Device took mid took' head text w (inr p) =
-    inr (part_then took mid took' head text w p)
-takes_behind f took mid took' head text w is = took_both took mid took' head text w is
 
 pub recording_stops : (es : Envelopes) (p : Pace) (all : Path → ℕ → ℕ)
     (r : Result ExportCounts FileFault)
@@ -99,11 +90,6 @@ head_stops es p all a b text ended took took' g part =
       none = no_entries;
       taken = inr part;
     })
-
-pub head_wrong : (limit : ℕ) (a b text : List ℕ) (ended : Type 0) → GaveValue front_at a b text
-    → GaveFault (capture_walk limit) a b ended file.Device
-head_wrong limit a b text ended g =
-    fault_device (capture_walk limit) a b g.part ended file.Device tt g.grown
 
 -- ---- the first reading
 

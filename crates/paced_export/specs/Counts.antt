@@ -1,24 +1,18 @@
 -- How many records the frames of a capture have (own).
-use Rattle.std.specs.Prelude.{◌≡◌, ◌≢◌, ℕ, ◌+◌, ◌==◌, ◌&&◌, Bool, true, false, unwrap_or, count_by}
+use Rattle.std.specs.Prelude.{◌≡◌, ◌≢◌, ℕ, ◌+◌, ◌==◌, ◌&&◌, Bool, unwrap_or, count_by}
 use Rattle.std.specs.Prelude.{List, [], ◌∷◌, Option, None, Some}
 use Rattle.std.specs.BTreeMap.{BTreeMap, get}
 use Rattle.std.specs.Ordering.{nat_cmp}
+use Rattle.st_format.specs.Turns.{is_path}
 use Rattle.st_format.specs.declared.path.Path.{Path}
 use Rattle.st_format.specs.declared.path.Path.TheVariants.{A, B}
 use Rattle.media_file.specs.Records.{Entry}
 use Rattle.paced_export.specs.Pacing.{timestamp_in}
 use Rattle.paced_export.specs.declared.tally.FrameCounts.{FrameCounts}
 
--- the record came by the path
-abbrev pub is_by : Path → Path → Bool
-is_by A A = true
-is_by A B = false
-is_by B A = false
-is_by B B = true
-
 -- a record is of a path, and has a timestamp
 abbrev pub is_of : Path → ℕ → Entry → Bool
-is_of path ts e = is_by path e.path && timestamp_in e.octets == ts
+is_of path ts e = is_path path e.path && timestamp_in e.octets == ts
 
 -- how many records of a path have a timestamp
 abbrev pub count_of : Path → ℕ → List Entry → ℕ

@@ -12,14 +12,11 @@ ghost use Rattle.paced_export.specs.PacedRefused.{IsAheadRefusal, IsRateRefusal}
 
 use crate::moments::{active_time, timestamp_in};
 use crate::tally::FrameCounts;
-use media_file::{FileFault, read_front, record_begins, record_rest};
+use media_file::{FileFault, MOST_RECORDS, read_front, record_begins, record_rest};
 use run_outcome::{Fault, of_capture, room};
 use sdp_format::read_located;
 use st_format::ByteSource;
 use std::alloc::Allocator;
-
-/// The greatest number of records of a capture (own).
-pub(crate) const RECORDS: u64 = 16_777_216;
 
 /// What a first reading of a capture tells of its frames.
 #[derive(Drop)]
@@ -67,7 +64,7 @@ fn read_frames<A: Allocator + Copy, S: ByteSource>(
     };
     let active = active_said(alloc, &buf[..count])?;
     let mut counts = FrameCounts::new(alloc);
-    match count_records(source, buf, &mut counts, RECORDS) {
+    match count_records(source, buf, &mut counts, MOST_RECORDS) {
         Ok(()) => Ok(Ahead { active, counts }),
         Err(fault) => Err(of_capture(fault)),
     }

@@ -10,12 +10,11 @@ ghost use Rattle.paced_export.specs.PacedExported.{PacesCapture, PacesRecords, S
 ghost use Rattle.paced_export.specs.PacedExported.{StopsPacing};
 ghost use Rattle.paced_export.specs.Pacing.{timestamp_in};
 
-use crate::counting::RECORDS;
 use crate::moments::timestamp_in;
 use crate::pace::Pace;
 use crate::tally::FrameCounts;
 use export_engine::{Envelopes, ExportCounts, write_head, write_packet};
-use media_file::{FileFault, RecordHead, read_front, record_begins, record_rest};
+use media_file::{FileFault, MOST_RECORDS, RecordHead, read_front, record_begins, record_rest};
 use st_format::{ByteSink, ByteSource};
 use std::alloc::Allocator;
 
@@ -121,7 +120,7 @@ fn write_records<A: Allocator + Copy, S: ByteSource, K: ByteSink>(
         (λ f. CountsEither f (S.failures source.old) (S.failures source.new) (K.failures sink.old)
         (K.failures sink.new)) }
 {
-    let mut left = RECORDS;
+    let mut left = MOST_RECORDS;
     let mut written = 0u64;
     while let Some(first) = record_begins(source)? {
         if left == 0 {
@@ -136,6 +135,6 @@ fn write_records<A: Allocator + Copy, S: ByteSource, K: ByteSink>(
     }
     Ok(ExportCounts {
         written,
-        left_out: RECORDS - left - written,
+        left_out: MOST_RECORDS - left - written,
     })
 }

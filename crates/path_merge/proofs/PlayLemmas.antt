@@ -23,7 +23,8 @@ use Rattle.path_merge.specs.Played.{ArePictures, IsPlayed}
 use Rattle.path_merge.specs.Sent.{AreSentBy, sender_of, texts_from}
 use Rattle.path_merge.specs.Admitted.{AreAdmittedTo, IsAdmitted, IsFirstBad}
 use Rattle.path_merge.specs.Reached.{Scene}
-use Rattle.path_merge.specs.Stage.{StopsAt, IsFollowedBy, FollowsAll, FollowsTo, IsStage, NeverFits}
+use Rattle.path_merge.specs.Stage.{RefusesAt, IsFollowedBy, FollowsAll, FollowsTo, IsStage}
+use Rattle.path_merge.specs.Stage.{NeverFits}
 use Rattle.path_merge.proofs.Places.{below_or_at, get_below}
 use Rattle.std.proofs.lemmas.Bool.Decides.{leb_tells}
 
@@ -69,7 +70,7 @@ follows_next plan stamp pictures events place e old mid new there so_far one s s
 pub fails_here : {A : Type 0} (plan : RasterPlan) (stamp : Stamp) (pictures : List Values)
     (events : List Event) (place : ℕ) (e : Event) (old mid : Stage A)
     → slice_get events place ≡ Some e → FollowsTo plan stamp pictures events place old mid
-    → NeverFits plan stamp pictures e mid → StopsAt plan stamp pictures events place old
+    → NeverFits plan stamp pictures e mid → RefusesAt plan stamp pictures events place old
 fails_here plan stamp pictures events place e old mid there so_far never s some is =
     let a = so_far s some is in
     record {

@@ -16,7 +16,7 @@ use Rattle.packet_plan.specs.Sent.{is_empty}
 use Rattle.packet_plan.specs.Text.{datagram_text, datagram_texts}
 use Rattle.path_merge.specs.declared.schedule.sending.Next.{Next}
 use Rattle.path_merge.specs.Sent.{sender_of, texts_from}
-use Rattle.path_merge.specs.Steps.{after_packet, text_at, texts_behind, to_come}
+use Rattle.path_merge.specs.Steps.{after_packet, datagram_at, texts_behind, to_come}
 
 drop_at : {X : Type 0} (xs : List X) (i : ℕ) (d : X) → i < length xs
     → drop i xs ≡ get_or xs i d ∷ drop (suc i) xs
@@ -82,10 +82,10 @@ pub next_made : (plan : RasterPlan) (stamp own : Stamp) (pictures : List Values)
     (d : Values) (octets : List ℕ)
     → next.picture < length pictures → next.index < length plan.packets
     → own ≡ stamp_of (sender_of plan stamp) next.picture next.first
-    → octets ≡ text_at plan (get_or pictures next.picture d) own next.index
+    → octets ≡ datagram_at plan (get_or pictures next.picture d) own next.index
     → new ≡ after_packet (length plan.packets) next
     → to_come plan stamp pictures next ≡ octets ∷ to_come plan stamp pictures new
-unfolding text_at
+unfolding datagram_at
 next_made plan stamp own pictures next new d octets lt below is_own text moved =
     let p : Values = get_or pictures next.picture d in
     let here : drop next.picture pictures ≡ p ∷ drop (next.picture + 1) pictures =

@@ -93,7 +93,7 @@ FollowsAll plan stamp pictures events old new =
     FollowsTo plan stamp pictures events (length events) old new
 
 -- the first that is not admitted stands at this place
-abbrev pub StopsAt : {A : Type 0} → RasterPlan → Stamp → List Values → List Event → ℕ
+abbrev pub RefusesAt : {A : Type 0} → RasterPlan → Stamp → List Values → List Event → ℕ
     → Stage A → Type 0
-StopsAt plan stamp pictures events place old = (s : Scene) → 0 < length s.opening.window →
+RefusesAt plan stamp pictures events place old = (s : Scene) → 0 < length s.opening.window →
     IsStage plan stamp pictures s [] old → IsFirstBad place s events

@@ -85,6 +85,6 @@ after_packet count next =
     else record { picture = next.picture; index = next.index + 1; first = next.first }
 
 -- the datagram of a packet of a plan
-unfoldable pub text_at : RasterPlan → Values → Stamp → ℕ → List ℕ
-text_at plan picture stamp index =
+unfoldable pub datagram_at : RasterPlan → Values → Stamp → ℕ → List ℕ
+datagram_at plan picture stamp index =
     datagram_text picture stamp index (index + 1 == length plan.packets) (packet_at plan index)

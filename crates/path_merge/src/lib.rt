@@ -11,6 +11,7 @@ pub use path_receiver::{
     Received, Receiver, Refusal, Refusals, SlideFault, Taken, Tally, WindowFrames, receive,
     receive_each, refusal_at,
 };
+pub use schedule::check::MOST_PICTURES;
 pub use schedule::event::Event;
 pub use schedule::played::{Handed, Played};
 pub use schedule::playing::play;

@@ -1,5 +1,5 @@
 //! Schedules of receivers: what any list of Sends, Arrives, Slides and Merges does to their frames.
-mod check;
+pub mod check;
 pub mod event;
 mod opening;
 pub mod played;

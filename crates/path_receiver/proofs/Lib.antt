@@ -16,3 +16,4 @@ pub mod Failed
 pub mod Lives
 pub mod Listed
 pub mod Tallies
+pub mod Slots

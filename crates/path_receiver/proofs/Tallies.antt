@@ -7,6 +7,7 @@ use Rattle.std.proofs.lemmas.List.{get_or-set_other, get_or-set_same, length-set
 use Rattle.std.proofs.lemmas.List.Sums.{sum_by-append}
 use Rattle.std.proofs.Common.{append_assoc, append-nil}
 use Rattle.std.specs.List.{AllByRecursion, count_by, fold}
+use Rattle.st_format.specs.Device.{capped}
 use Rattle.path_receiver.specs.Answers.{refusal_number}
 use Rattle.path_receiver.specs.declared.answer.Refusal.{Refusal}
 use Rattle.path_receiver.specs.declared.answer.Refusal.TheVariants as why
@@ -18,8 +19,8 @@ use Rattle.payload_header.specs.declared.payload.PayloadFault.TheVariants as pay
 use Rattle.rtp_header.specs.Faults.{rtp_fault_number}
 use Rattle.rtp_header.specs.declared.header.RtpFault.{RtpFault}
 use Rattle.rtp_header.specs.declared.header.RtpFault.TheVariants as rtp
-use Rattle.path_receiver.specs.Tallied.{Tallies, TalliesMore, count_after, fitting, is_kept}
-use Rattle.path_receiver.specs.Tallied.{is_outside, is_refusal, place_of, tally_after}
+use Rattle.path_receiver.specs.Tallied.{Tallies, TalliesMore, count_after, is_kept}
+use Rattle.path_receiver.specs.Tallied.{is_outside, is_refusal, slot_of, tally_after}
 use Rattle.path_receiver.specs.declared.tally.Tally.{Tally}
 
 -- ---- numbers of refusals
@@ -67,15 +68,15 @@ none_counted p xs x is =
     ∙ ap (λ (b : Bool). count_by p xs + (0 + cond b 1 0)) is ∙ omega arith
 
 -- a count that fits, and one more
-fitting_more : (count n m : ℕ) → count ≡ fitting n → m ≡ n + 1 → count_after count ≡ fitting m
+fitting_more : (count n m : ℕ) → count ≡ capped n → m ≡ n + 1 → count_after count ≡ capped m
 fitting_more count n m is more = omega (arith, is, more)
 
 -- the count of a refusal behind one that came
 refused_more : (f e : Refusal) (counts : List ℕ) (answers : List (Result Taken Refusal))
     → length counts ≡ 14
-    → get_or counts (place_of e) 0 ≡ fitting (count_by (is_refusal e) answers)
-    → get_or (set counts (place_of f) (count_after (get_or counts (place_of f) 0))) (place_of e) 0
-    ≡ fitting (count_by (is_refusal e) (answers ++ Err f ∷ []))
+    → get_or counts (slot_of e) 0 ≡ capped (count_by (is_refusal e) answers)
+    → get_or (set counts (slot_of f) (count_after (get_or counts (slot_of f) 0))) (slot_of e) 0
+    ≡ capped (count_by (is_refusal e) (answers ++ Err f ∷ []))
 refused_more f e counts answers places before =
     elim (eqb_tells (refusal_number f) (refusal_number e)) [
       | inl same ↦ of_it f e counts answers places before same.0 same.1
@@ -84,37 +85,37 @@ refused_more f e counts answers places before =
   where
     of_it : (f e : Refusal) (counts : List ℕ) (answers : List (Result Taken Refusal))
         → length counts ≡ 14
-        → get_or counts (place_of e) 0 ≡ fitting (count_by (is_refusal e) answers)
+        → get_or counts (slot_of e) 0 ≡ capped (count_by (is_refusal e) answers)
         → eqb (refusal_number f) (refusal_number e) ≡ true → refusal_number f ≡ refusal_number e
-        → get_or (set counts (place_of f) (count_after (get_or counts (place_of f) 0))) (place_of e)
-        0 ≡ fitting (count_by (is_refusal e) (answers ++ Err f ∷ []))
+        → get_or (set counts (slot_of f) (count_after (get_or counts (slot_of f) 0))) (slot_of e)
+        0 ≡ capped (count_by (is_refusal e) (answers ++ Err f ∷ []))
     of_it f e counts answers places before test same =
-        let at : place_of f ≡ place_of e = ap (λ (n : ℕ). n - 1) same in
+        let at : slot_of f ≡ slot_of e = ap (λ (n : ℕ). n - 1) same in
         let placed : IsPlaced (refusal_number f) = refusal_placed f in
-        let inside : place_of f < length counts = omega (arith, placed.some, placed.most, places) in
+        let inside : slot_of f < length counts = omega (arith, placed.some, placed.most, places) in
         let now : List ℕ =
-        set counts (place_of f) (count_after (get_or counts (place_of f) 0)) in
+        set counts (slot_of f) (count_after (get_or counts (slot_of f) 0)) in
         ap (λ (i : ℕ). get_or now i 0) (sym at)
-        ∙ get_or-set_same counts (place_of f) (count_after (get_or counts (place_of f) 0)) 0 inside
+        ∙ get_or-set_same counts (slot_of f) (count_after (get_or counts (slot_of f) 0)) 0 inside
         ∙ ap (λ (i : ℕ). count_after (get_or counts i 0)) at
-        ∙ fitting_more (get_or counts (place_of e) 0) (count_by (is_refusal e) answers)
+        ∙ fitting_more (get_or counts (slot_of e) 0) (count_by (is_refusal e) answers)
         (count_by (is_refusal e) (answers ++ Err f ∷ [])) before
         (one_counted (is_refusal e) answers (Err f) test)
 
     of_other : (f e : Refusal) (counts : List ℕ) (answers : List (Result Taken Refusal))
-        → get_or counts (place_of e) 0 ≡ fitting (count_by (is_refusal e) answers)
+        → get_or counts (slot_of e) 0 ≡ capped (count_by (is_refusal e) answers)
         → eqb (refusal_number f) (refusal_number e) ≡ false → refusal_number f ≢ refusal_number e
-        → get_or (set counts (place_of f) (count_after (get_or counts (place_of f) 0))) (place_of e)
-        0 ≡ fitting (count_by (is_refusal e) (answers ++ Err f ∷ []))
+        → get_or (set counts (slot_of f) (count_after (get_or counts (slot_of f) 0))) (slot_of e)
+        0 ≡ capped (count_by (is_refusal e) (answers ++ Err f ∷ []))
     of_other f e counts answers before test other =
         let one : IsPlaced (refusal_number f) = refusal_placed f in
         let two : IsPlaced (refusal_number e) = refusal_placed e in
-        let apart : place_of e ≢ place_of f =
+        let apart : slot_of e ≢ slot_of f =
         λ at. other (omega (arith, at, one.some, two.some)) in
-        get_or-set_other counts (place_of f) (place_of e)
-        (count_after (get_or counts (place_of f) 0)) 0 apart
+        get_or-set_other counts (slot_of f) (slot_of e)
+        (count_after (get_or counts (slot_of f) 0)) 0 apart
         ∙ before
-        ∙ ap (λ (n : ℕ). fitting n) (sym (none_counted (is_refusal e) answers (Err f) test))
+        ∙ ap (λ (n : ℕ). capped n) (sym (none_counted (is_refusal e) answers (Err f) test))
 
 -- ---- tallies
 
@@ -124,10 +125,10 @@ pub tallied_more : (t : Tally) (answer : Result Taken Refusal)
 tallied_more t (Ok (Kept number)) answers before = record {
   places = before.places;
   refused = λ e. before.refused e
-      ∙ ap (λ (n : ℕ). fitting n)
+      ∙ ap (λ (n : ℕ). capped n)
       (sym (none_counted (is_refusal e) answers (Ok (Kept number)) refl));
   outside = before.outside
-      ∙ ap (λ (n : ℕ). fitting n)
+      ∙ ap (λ (n : ℕ). capped n)
       (sym (none_counted is_outside answers (Ok (Kept number)) refl));
   kept = fitting_more t.kept (count_by is_kept answers)
       (count_by is_kept (answers ++ Ok (Kept number) ∷ [])) before.kept
@@ -136,20 +137,20 @@ tallied_more t (Ok (Kept number)) answers before = record {
 tallied_more t (Ok Outside) answers before = record {
   places = before.places;
   refused = λ e. before.refused e
-      ∙ ap (λ (n : ℕ). fitting n) (sym (none_counted (is_refusal e) answers (Ok Outside) refl));
+      ∙ ap (λ (n : ℕ). capped n) (sym (none_counted (is_refusal e) answers (Ok Outside) refl));
   outside = fitting_more t.outside (count_by is_outside answers)
       (count_by is_outside (answers ++ Ok Outside ∷ [])) before.outside
       (one_counted is_outside answers (Ok Outside) refl);
   kept = before.kept
-      ∙ ap (λ (n : ℕ). fitting n) (sym (none_counted is_kept answers (Ok Outside) refl));
+      ∙ ap (λ (n : ℕ). capped n) (sym (none_counted is_kept answers (Ok Outside) refl));
 }
 tallied_more t (Err f) answers before = record {
-  places = length-set t.refused (place_of f) (count_after (get_or t.refused (place_of f) 0))
+  places = length-set t.refused (slot_of f) (count_after (get_or t.refused (slot_of f) 0))
       ∙ before.places;
   refused = λ e. refused_more f e t.refused answers before.places (before.refused e);
   outside = before.outside
-      ∙ ap (λ (n : ℕ). fitting n) (sym (none_counted is_outside answers (Err f) refl));
-  kept = before.kept ∙ ap (λ (n : ℕ). fitting n) (sym (none_counted is_kept answers (Err f) refl));
+      ∙ ap (λ (n : ℕ). capped n) (sym (none_counted is_outside answers (Err f) refl));
+  kept = before.kept ∙ ap (λ (n : ℕ). capped n) (sym (none_counted is_kept answers (Err f) refl));
 }
 
 pub tallies_more : (old new : Tally) (answer : Result Taken Refusal) → new ≡ tally_after answer old
@@ -173,7 +174,7 @@ pub tallies_none : (t : Tally) → length t.refused ≡ 14
     → AllByRecursion (λ count. count ≡ 0) t.refused → t.outside ≡ 0 → t.kept ≡ 0 → Tallies t []
 tallies_none t places none outside kept = record {
   places = places;
-  refused = λ e. zero_at t.refused (place_of e) none;
+  refused = λ e. zero_at t.refused (slot_of e) none;
   outside = outside;
   kept = kept;
 }

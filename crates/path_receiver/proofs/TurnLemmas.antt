@@ -73,7 +73,7 @@ one_more s t u ds d opening before now =
 
 -- ---- turns
 
-datagrams_of-append : (xs ys : List Due)
+pub datagrams_of-append : (xs ys : List Due)
     → datagrams_of (xs ++ ys) ≡ datagrams_of xs ++ datagrams_of ys
 datagrams_of-append [] ys = refl
 datagrams_of-append (Comes path octets ∷ xs) ys =

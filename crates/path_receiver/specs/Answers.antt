@@ -4,7 +4,9 @@ use Rattle.std.specs.Prelude.{Result, Ok, Err, codes}
 use Rattle.std.specs.List.{list_any}
 use Rattle.st_format.specs.declared.path.Path.{Path}
 use Rattle.payload_header.specs.Faults.{payload_fault_name, payload_fault_number}
+use Rattle.payload_header.specs.declared.payload.PayloadFault.TheVariants as payload
 use Rattle.rtp_header.specs.Faults.{rtp_fault_name, rtp_fault_number}
+use Rattle.rtp_header.specs.declared.header.RtpFault.TheVariants as rtp
 use Rattle.path_receiver.specs.declared.answer.Refusal.{Refusal}
 use Rattle.path_receiver.specs.declared.answer.Refusal.TheVariants.{Header, WrongPayloadType}
 use Rattle.path_receiver.specs.declared.answer.Refusal.TheVariants.{WrongSource, Payload}
@@ -47,6 +49,15 @@ refusal_number (Header e) = rtp_fault_number e
 refusal_number WrongPayloadType = 5
 refusal_number WrongSource = 6
 refusal_number (Payload e) = 6 + payload_fault_number e
+
+-- all refusals, in the order of their numbers
+abbrev pub all_refusals : List Refusal
+all_refusals =
+    Header rtp.ShortHeader ∷ Header rtp.BadVersion ∷ Header rtp.ShortExtension
+    ∷ Header rtp.BadPadding ∷ WrongPayloadType ∷ WrongSource ∷ Payload payload.ShortPayloadHeader
+    ∷ Payload payload.TooManySegments ∷ Payload payload.SecondField ∷ Payload payload.BadLength
+    ∷ Payload payload.BadOffset ∷ Payload payload.RowOutside ∷ Payload payload.ColumnsOutside
+    ∷ Payload payload.ShortData ∷ []
 
 -- their names, as `name` answers them (own)
 abbrev pub refusal_name : Refusal → List ℕ

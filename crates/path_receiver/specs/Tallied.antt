@@ -1,7 +1,8 @@
 -- What a tally counts (own).
-use Rattle.std.specs.Prelude.{◌≡◌, ℕ, ◌+◌, ◌-◌, ◌^◌, ◌==◌, Bool, true, false, min, List, []}
+use Rattle.std.specs.Prelude.{◌≡◌, ℕ, ◌+◌, ◌-◌, ◌==◌, Bool, true, false, List, []}
 use Rattle.std.specs.Prelude.{◌∷◌, ◌++◌, length, Result, Ok, Err, slice_index, slice_set}
 use Rattle.std.specs.List.{count_by}
+use Rattle.st_format.specs.Device.{capped}
 use Rattle.path_receiver.specs.Answers.{refusal_number}
 use Rattle.path_receiver.specs.declared.answer.Refusal.{Refusal}
 use Rattle.path_receiver.specs.declared.answer.Taken.{Taken}
@@ -10,11 +11,11 @@ use Rattle.path_receiver.specs.declared.tally.Tally.{Tally}
 
 -- one more, but at most 2^64 - 1
 abbrev pub count_after : ℕ → ℕ
-count_after count = min (count + 1) (2 ^ 64 - 1)
+count_after count = capped (count + 1)
 
 -- where a refusal's count stands
-abbrev pub place_of : Refusal → ℕ
-place_of e = refusal_number e - 1
+abbrev pub slot_of : Refusal → ℕ
+slot_of e = refusal_number e - 1
 
 -- Of an answer one count is one more, and every other stays: that of its refusal, that of the
 -- datagrams outside the window, or that of those that were kept.
@@ -25,7 +26,7 @@ tally_after (Ok Outside) t =
     record { refused = t.refused; outside = count_after t.outside; kept = t.kept }
 tally_after (Err e) t =
     record {
-      refused = slice_set t.refused (place_of e) (count_after (slice_index t.refused (place_of e)));
+      refused = slice_set t.refused (slot_of e) (count_after (slice_index t.refused (slot_of e)));
       outside = t.outside;
       kept = t.kept;
     }
@@ -49,18 +50,14 @@ is_kept (Ok (Kept number)) = true
 is_kept (Ok Outside) = false
 is_kept (Err e) = false
 
--- as many as fit 64 bits
-abbrev pub fitting : ℕ → ℕ
-fitting count = min count (2 ^ 64 - 1)
-
 -- A tally counts these answers: of each refusal how many of them are that refusal, how many were
 -- outside the window, and how many were kept; each count stays at 2^64 - 1 once it is there.
 pub record Tallies (t : Tally) (answers : List (Result Taken Refusal)) : Type 0 where
   pub places : length t.refused ≡ 14
   pub refused : (e : Refusal)
-      → slice_index t.refused (place_of e) ≡ fitting (count_by (is_refusal e) answers)
-  pub outside : t.outside ≡ fitting (count_by is_outside answers)
-  pub kept : t.kept ≡ fitting (count_by is_kept answers)
+      → slice_index t.refused (slot_of e) ≡ capped (count_by (is_refusal e) answers)
+  pub outside : t.outside ≡ capped (count_by is_outside answers)
+  pub kept : t.kept ≡ capped (count_by is_kept answers)
 
 -- it counts one answer more than it counted
 abbrev pub TalliesMore : Tally → Tally → Result Taken Refusal → Type 0

@@ -1,7 +1,8 @@
 -- What `receive` does with the turns of a source (own).
-use Rattle.std.specs.Prelude.{◌≡◌, ℕ, ◌+◌, ◌-◌, ◌^◌, ◌<◌, ◌++◌, min, Bool, true, false, List, []}
+use Rattle.std.specs.Prelude.{◌≡◌, ℕ, ◌+◌, ◌<◌, ◌++◌, Bool, true, false, List, []}
 use Rattle.std.specs.Prelude.{◌∷◌, drop, fold, length, map, Option, Result, Ok, Err}
 use Rattle.std.specs.List.{flat_map}
+use Rattle.st_format.specs.Device.{capped}
 use Rattle.st_format.specs.declared.path.Path.{Path}
 use Rattle.st_format.specs.Turns.{Due, Comes, Nothing, GivesTurns, HasEnded, came_of, datagrams_of}
 use Rattle.path_receiver.specs.declared.receiving.ReceiveFault.{ReceiveFault}
@@ -83,4 +84,4 @@ delivered_in (Err e) = e.delivered
 -- so many more, but at most 2^64 - 1
 pub record CountsAll (count old new : ℕ) : Type 0 where
   pub none : count ≡ 0 → new ≡ old
-  pub some : 0 < count → new ≡ min (old + count) (2 ^ 64 - 1)
+  pub some : 0 < count → new ≡ capped (old + count)

@@ -36,7 +36,6 @@ impl Tally {
         }
     }
 
-    /// Counts the answer to one datagram.
     fn count(&mut self, answer: Result<Taken, Refusal>)
         ensures { self.new ≡ tally_after answer self.old }
     {
@@ -47,7 +46,6 @@ impl Tally {
         }
     }
 
-    /// Counts a datagram that was refused.
     fn note_refusal(&mut self, refusal: Refusal)
         ensures { self.new ≡ tally_after (Err refusal) self.old }
     {

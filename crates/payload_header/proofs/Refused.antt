@@ -23,7 +23,7 @@ use Rattle.st_format.specs.Reading.{◌>>=◌}
 use Rattle.payload_header.specs.Reading.{fault_or, segments_at, counted_octets, data_at}
 use Rattle.payload_header.specs.Reading.{payload_walk}
 use Rattle.st_format.specs.Reading.{Gives}
-use Rattle.payload_header.specs.Faults.{BeginsWith, AllGoOn, LacksHeader, GoesOn, HasHeaders}
+use Rattle.payload_header.specs.Faults.{BeginsWith, AllGoOn, LacksHeader, GoesPastThree, HasHeaders}
 use Rattle.payload_header.specs.Faults.{HasPayloadFault, LacksData, IsRefusedPayload}
 use Rattle.payload_header.specs.View.{said_payload}
 use Rattle.payload_header.proofs.Taken.{IsText, text_at, Heads, headers_take}
@@ -353,7 +353,7 @@ lacks_header f octets l =
     ∙ ap (λ (r : Read). r >>= after_headers f l.begins.extended)
     (headers_short most_segments l.headers l.more l.go_on l.begins.headers_fit l.few l.short)
 
-goes_on : (f : Format) (octets : List ℕ) → GoesOn octets
+goes_on : (f : Format) (octets : List ℕ) → GoesPastThree octets
     → payload_walk f octets ≡ Err TooManySegments
 goes_on f octets g =
     begun f octets g.headers g.more g.begins

@@ -60,7 +60,7 @@ pub record LacksHeader (octets : List ℕ) : Type 0 where
   pub short : length more < 6
 
 -- three headers, all of which say that another follows (SMPTE ST 2110-20, packets)
-pub record GoesOn (octets : List ℕ) : Type 0 where
+pub record GoesPastThree (octets : List ℕ) : Type 0 where
   pub headers : List Header
   pub more : List ℕ
   pub begins : BeginsWith octets headers more
@@ -118,7 +118,7 @@ pub record LacksData (octets : List ℕ) (f : Format) : Type 0 where
 -- Why octets are refused. ShortPayloadHeader also stands for less than an extended number.
 abbrev pub IsRefusedPayload : List ℕ → Format → PayloadFault → Type 0
 IsRefusedPayload octets f ShortPayloadHeader = (length octets < 2) ⊎ LacksHeader octets
-IsRefusedPayload octets f TooManySegments = GoesOn octets
+IsRefusedPayload octets f TooManySegments = GoesPastThree octets
 IsRefusedPayload octets f SecondField = HasPayloadFault octets f SecondField
 IsRefusedPayload octets f BadLength = HasPayloadFault octets f BadLength
 IsRefusedPayload octets f BadOffset = HasPayloadFault octets f BadOffset

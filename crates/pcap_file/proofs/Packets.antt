@@ -27,7 +27,7 @@ yes p = Ok p
 abbrev no : RecordingFault → Read
 no f = Err f
 
-abbrev head : Option ℕ → ℕ → ℕ → ℕ → Option InterfaceName → PacketHead
+abbrev pub head : Option ℕ → ℕ → ℕ → ℕ → Option InterfaceName → PacketHead
 head time link captured original interface =
     record {
       time = time;
@@ -37,7 +37,7 @@ head time link captured original interface =
       interface = interface;
     }
 
-same_head : (a k : Option ℕ) (b c d l m n : ℕ) (e o : Option InterfaceName) → a ≡ k → b ≡ l
+pub same_head : (a k : Option ℕ) (b c d l m n : ℕ) (e o : Option InterfaceName) → a ≡ k → b ≡ l
     → c ≡ m → d ≡ n → e ≡ o → head a b c d e ≡ head k l m n o
 same_head a k b c d l m n e o p q r s t =
     ap (λ (x : Option ℕ). head x b c d e) p ∙ ap (λ (x : ℕ). head k x c d e) q

@@ -11,7 +11,6 @@ use Rattle.st_format.proofs.Readings.{bind_ok}
 use Rattle.pcap_file.specs.declared.fault.RecordingFault.{RecordingFault}
 use Rattle.pcap_file.specs.declared.fault.RecordingFault.TheVariants.{PacketTooLong, Truncated}
 use Rattle.pcap_file.specs.declared.pcap.PacketHead.{PacketHead}
-use Rattle.interface_name.specs.declared.name.InterfaceName.{InterfaceName}
 use Rattle.pcap_file.specs.declared.pcap.PcapHead.{PcapHead}
 use Rattle.pcap_file.specs.Orders.{long_at}
 use Rattle.pcap_file.specs.Fields.{field_at}
@@ -19,6 +18,7 @@ use Rattle.st_format.specs.Given.{field_by}
 use Rattle.pcap_file.specs.Pcap.{IsRecordHead, record_head_of, unit_of}
 use Rattle.pcap_file.specs.PcapReading.{IsRecord, Recorded, head_at, head_by, octets_at}
 use Rattle.pcap_file.specs.PcapReading.{packet_behind, record_at}
+use Rattle.pcap_file.proofs.Packets.{head, same_head}
 
 abbrev pub Field : Type 0
 Field = Result (List ℕ × List ℕ) RecordingFault
@@ -81,23 +81,6 @@ unfolding field_by
 cuts n o xs rest h = cuts_at n o xs rest (ltb (length o) n) refl h
 
 -- ---- the head of a record
-
-abbrev head : Option ℕ → ℕ → ℕ → ℕ → Option InterfaceName → PacketHead
-head time link captured original interface =
-    record {
-      time = time;
-      link = link;
-      captured = captured;
-      original = original;
-      interface = interface;
-    }
-
-same_head : (a k : Option ℕ) (b c d l m n : ℕ) (e o : Option InterfaceName) → a ≡ k → b ≡ l
-    → c ≡ m → d ≡ n → e ≡ o → head a b c d e ≡ head k l m n o
-same_head a k b c d l m n e o p q r s t =
-    ap (λ (x : Option ℕ). head x b c d e) p ∙ ap (λ (x : ℕ). head k x c d e) q
-    ∙ ap (λ (x : ℕ). head k l x d e) r ∙ ap (λ (x : ℕ). head k l m x e) s
-    ∙ ap (head k l m n) t
 
 head_is : (file : PcapHead) (front : List ℕ) (p : PacketHead) → IsRecordHead file front p
     → record_head_of file front ≡ p

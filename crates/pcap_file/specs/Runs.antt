@@ -36,6 +36,10 @@ pub record Seen : Type 0 where
 abbrev pub most_blocks : ℕ
 most_blocks = 0xffff_ffff_ffff_ffff
 
+-- The octets of a packet or a block that a reader of files has room for (own)
+abbrev pub most_packet : ℕ
+most_packet = 1048576
+
 -- in the classic layout, or in blocks
 abbrev pub in_pcap : PcapHead → ℕ → Seen
 in_pcap file left = record { laid = InPcap file; left = left }

@@ -117,7 +117,6 @@ pub fn read_section(order: ByteOrder, body: &[u8]) -> Result<(), RecordingFault>
     Ok(())
 }
 
-/// The value of the first option of this code.
 fn option_of(order: ByteOrder, octets: &[u8], code: u16) -> Result<Option<&[u8]>, RecordingFault>
     ensures exact { Gives (λ x. option_copied x) result (option_at order code octets.now) }
     ensures named { IfErr result IsContent }
@@ -285,7 +284,6 @@ fn time_at(interface: &Interface, units: u64) -> Option<u64>
     None
 }
 
-/// The interface of a number.
 fn interface_at(interfaces: &[Interface], number: usize) -> Option<Interface>
     ensures { result ≡ slice_get interfaces.now number }
 {

@@ -42,7 +42,6 @@ pub(crate) fn skip<S: ByteSource>(
     Ok(())
 }
 
-/// The order that four octets say.
 fn order_in(octets: &[u8]) -> Result<ByteOrder, RecordingFault>
     requires { length octets.now ≡ 4 }
     ensures { result ≡ order_or (order_of octets.now) }
@@ -53,7 +52,6 @@ fn order_in(octets: &[u8]) -> Result<ByteOrder, RecordingFault>
     }
 }
 
-/// Reads the order of a section.
 pub(crate) fn read_order<S: ByteSource>(source: &mut S) -> Result<ByteOrder, RecordingFault>
     ensures read { IfOk result
         (λ order. Takes order_at (S.to_give source.old) (S.to_give source.new) order) }
@@ -285,7 +283,6 @@ pub(crate) fn read_section_block<S: ByteSource>(
     Ok(order)
 }
 
-/// Whether a block of this type is read.
 fn is_read(kind: u32) -> bool
     ensures { result ≡ is_read kind }
 {

@@ -59,7 +59,6 @@ fn reason_4(header: &[u8], there: usize) -> Option<NoDatagram>
     None
 }
 
-/// Reads a packet of IPv4.
 #[tactic(auto, unfolding(crate::specs::Reading::packet_4_at))]
 fn read_4(octets: &[u8]) -> Result<PacketView<'_>, NoDatagram>
     ensures { Gives seen_packet result (packet_4_at octets.now) }
@@ -138,7 +137,6 @@ fn carried(first: u8, octets: &[u8]) -> Result<&[u8], NoDatagram>
     ending(next, rest)
 }
 
-/// Reads a packet of IPv6.
 #[tactic(auto, unfolding(crate::specs::Reading::packet_6_at))]
 fn read_6(octets: &[u8]) -> Result<PacketView<'_>, NoDatagram>
     ensures { Gives seen_packet result (packet_6_at octets.now) }

@@ -125,7 +125,6 @@ fn version_of_packet(packet: &[u8]) -> Option<IpVersion>
     None
 }
 
-/// Whether octets begin with the type of a tag.
 fn begins_tag(octets: &[u8]) -> bool
     ensures { result ≡ begins_tag octets.now }
 {
@@ -165,7 +164,6 @@ fn type_place(octets: &[u8], count: usize) -> usize
     count + tag_octets(&octets[count..])
 }
 
-/// Where the packet begins.
 fn packet_place(link: Link, octets: &[u8]) -> usize
     ensures { result ≡ packet_place link octets.now }
 {

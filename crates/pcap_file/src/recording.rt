@@ -21,6 +21,9 @@ use crate::pcap_reading::next_record;
 use crate::section::{Section, Step, next_block};
 use st_format::ByteSource;
 
+/// How many octets of a packet or a block a reader of files has room for (own).
+pub const MOST_PACKET: usize = 1_048_576;
+
 /// How a recording lies in its file, and what was read of that so far: what stands before what is
 /// to come, and how many records or blocks may still come.
 #[derive(Drop)]
@@ -193,7 +196,6 @@ pub fn open_recording<S: ByteSource>(
     lay_behind(source, &four, buf)
 }
 
-/// Reads the next record of the classic layout.
 fn pcap_step<S: ByteSource>(
     source: &mut S,
     file: &PcapHead,
@@ -224,7 +226,6 @@ fn pcap_step<S: ByteSource>(
     }
 }
 
-/// Reads the next block.
 fn block_step<S: ByteSource>(
     source: &mut S,
     section: &mut Section,
@@ -251,7 +252,6 @@ fn block_step<S: ByteSource>(
     next_block(source, section, buf)
 }
 
-/// Reads the next record or block.
 fn step<S: ByteSource>(
     source: &mut S,
     layout: &mut Layout,

@@ -76,7 +76,6 @@ fn ip_front(total: u16, checksum: u16) -> [u8; 12]
     front
 }
 
-/// Writes a header of IPv4.
 fn write_ip(buf: &mut [u8], envelope: &Envelope, total: u16, checksum: u16)
     requires { length buf.old ≡ 20 }
     ensures { buf.new ≡ ip_text envelope.now total checksum }
@@ -88,7 +87,6 @@ fn write_ip(buf: &mut [u8], envelope: &Envelope, total: u16, checksum: u16)
     destination.copy_from_slice(&envelope.destination);
 }
 
-/// The checksum of a header of IPv4.
 fn ip_checksum(envelope: &Envelope, total: u16) -> u16
     ensures { result ≡ ip_checksum envelope.now total }
 {

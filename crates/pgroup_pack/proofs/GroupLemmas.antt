@@ -46,7 +46,7 @@ alike_more left right i word so_far alike = record {
   behind = λ k le. so_far.behind k (omega arith);
 }
 
-past : (xs : List ℕ) (k : ℕ) → length xs ≤ k → get_or xs k 0 ≡ 0
+pub past : (xs : List ℕ) (k : ℕ) → length xs ≤ k → get_or xs k 0 ≡ 0
 past [] k le = refl
 past (x ∷ xs) zero le = absurd (omega arith)
 past (x ∷ xs) (suc k) le = past xs k (omega arith)

@@ -34,7 +34,7 @@ use Rattle.st_format.specs.Samples.{values_in}
 use Rattle.pgroup_pack.proofs.Values.{length-values_in, values_in-append}
 use Rattle.pgroup_pack.specs.Groups.{differs_at, blanked_samples, blanked_from, AreContested}
 use Rattle.pgroup_pack.specs.Groups.{samples_of}
-use Rattle.pgroup_pack.proofs.GroupLemmas.{length-blanked_from}
+use Rattle.pgroup_pack.proofs.GroupLemmas.{length-blanked_from, past}
 
 -- ---- bits of shifted numbers
 
@@ -453,11 +453,6 @@ three_blanked bits xs first second now a b c k lt = elim (cases_lt k 16) [
 ]
 
 -- ---- groups that are contested
-
-past : (xs : List ℕ) (k : ℕ) → length xs ≤ k → get_or xs k 0 ≡ 0
-past [] k le = refl
-past (x ∷ xs) zero le = absurd (omega arith)
-past (x ∷ xs) (suc k) le = past xs k (omega arith)
 
 get_or-blanked_from : (mask i : ℕ) (vs : List ℕ) (k : ℕ) → k < length vs
     → get_or (blanked_from mask i vs) k 0 ≡ (if bit_at mask (i + k) == 1 then 0 else get_or vs k 0)

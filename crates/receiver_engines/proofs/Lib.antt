@@ -10,4 +10,3 @@ pub mod Late
 pub mod LateTakings
 pub mod Meaning
 pub mod Parts
-pub mod SaidRuns

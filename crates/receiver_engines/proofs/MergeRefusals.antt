@@ -3,7 +3,7 @@ use Rattle.std.proofs.Common.{◌≡◌, ℕ, ◌+◌, ◌<◌, List, inl, inr, 
 use Rattle.std.proofs.Common.{◌∙◌}
 use Rattle.path_receiver.specs.Frames.{State}
 use Rattle.receiver_engines.specs.MergeAllRefused.{IsJoinRefusal, IsMergeAllRefusal, IsUnlike}
-use Rattle.receiver_engines.specs.MergeAllRefused.{StopsAt}
+use Rattle.receiver_engines.specs.MergeAllRefused.{StopsMerge}
 use Rattle.receiver_engines.specs.MergeRefused.{AreUnlike, IsMergeRefusal}
 use Rattle.receiver_engines.specs.MergedAll.{JoinsEach}
 use Rattle.receiver_engines.specs.Merging.{GivesReceiver, IsAgain, SaysReceiver}
@@ -38,7 +38,7 @@ pub stops_here : {S : Type 0} (told : S → List ℕ → Type 0) (others : List 
     (start before : State) (r : Refusal) → k < length others
     → JoinsEach told (take k others) start before
     → ((d : S) → IsJoinRefusal before (told (get_or others k d)) r)
-    → StopsAt start told others (λ t. IsJoinRefusal start t r)
+    → StopsMerge start told others (λ t. IsJoinRefusal start t r)
 stops_here {S} told others k start before r lt each refused =
     let i : IsItem others k = item_at others k lt in
     record {
@@ -58,7 +58,7 @@ stops_here {S} told others k start before r lt each refused =
 
 stops_so : {S : Type 0} (s : State) (told : S → List ℕ → Type 0) (others : List S)
     (P Q : (List ℕ → Type 0) → Type 0) → ((t : List ℕ → Type 0) → P t → Q t)
-    → StopsAt s told others P → StopsAt s told others Q
+    → StopsMerge s told others P → StopsMerge s told others Q
 stops_so s told others P Q then stops = record {
   front = stops.front;
   at = stops.at;
@@ -100,7 +100,7 @@ first_refused first told others r is = absurd is
 pub other_refused : {S : Type 0} (first : List ℕ → Type 0) (told : S → List ℕ → Type 0)
     (others : List S) (s : State) → SaysReceiver first s
     → ((r : State) → GivesReceiver first r → IsAgain r s) → (r : Refusal)
-    → StopsAt s told others (λ t. IsJoinRefusal s t r) → IsMergeAllRefusal first told others r
+    → StopsMerge s told others (λ t. IsJoinRefusal s t r) → IsMergeAllRefusal first told others r
 other_refused first told others s says same (why.State f) stops = inr (s, says, stops)
 other_refused first told others s says same why.MergeUnlike stops = (
   s,

@@ -12,7 +12,7 @@ use Rattle.run_outcome.specs.declared.refusal.Refusal.TheVariants as refusal
 
 -- Of what was read of one of the sources this holds, and those before it are the files of receivers
 -- that are opened as a first one is.
-pub record StopsAt {S : Type 0} (s : State) (told : S → List ℕ → Type 0) (others : List S)
+pub record StopsMerge {S : Type 0} (s : State) (told : S → List ℕ → Type 0) (others : List S)
     (Is : (List ℕ → Type 0) → Type 0) : Type 0 where
   pub front : List S
   pub at : S
@@ -36,10 +36,10 @@ IsJoinRefusal s told refusal.MergeUnlike = IsUnlike s told
 IsJoinRefusal s told r = ⊥
 
 -- what was read of the first source is the file of a receiver, and of one of the others this holds
-abbrev pub StopsBehind : {S : Type 0} → (List ℕ → Type 0) → (S → List ℕ → Type 0) → List S
+abbrev pub StopsMergeBehind : {S : Type 0} → (List ℕ → Type 0) → (S → List ℕ → Type 0) → List S
     → ((List ℕ → Type 0) → Type 0) → Type 0
-StopsBehind first told others Is =
-    (s : State) × SaysReceiver first s × StopsAt s told others Is
+StopsMergeBehind first told others Is =
+    (s : State) × SaysReceiver first s × StopsMerge s told others Is
 
 -- The refusals of `merge` in their order: of the first file; then of the others, one after the
 -- other, of its file and of the first and it.
@@ -47,7 +47,7 @@ abbrev pub IsMergeAllRefusal : {S : Type 0} → (List ℕ → Type 0) → (S →
     → Refusal → Type 0
 IsMergeAllRefusal first told others (refusal.State f) =
     IsStateRefusal first (refusal.State f)
-    ⊎ StopsBehind first told others (λ t. IsStateRefusal t (refusal.State f))
+    ⊎ StopsMergeBehind first told others (λ t. IsStateRefusal t (refusal.State f))
 IsMergeAllRefusal first told others refusal.MergeUnlike =
-    StopsBehind first told others (AreUnlike first)
+    StopsMergeBehind first told others (AreUnlike first)
 IsMergeAllRefusal first told others r = ⊥

@@ -1,10 +1,9 @@
 -- What `process` sends (own).
 use Rattle.std.specs.Prelude.{◌≡◌, ℕ, ◌+◌, ◌^◌, ◌%◌, List, [], ◌∷◌, ◌++◌, Option, length, take, ◌<◌}
-use Rattle.std.specs.Prelude.{Result, Ok, Err, None, Some}
+use Rattle.std.specs.Prelude.{Result, Ok, Err}
 use Rattle.run_outcome.specs.Line.{line_text}
 use Rattle.run_outcome.specs.declared.line.Line.TheVariants.{Sent}
 use Rattle.run_outcome.specs.LowerFaults.{of_job, of_plan}
-use Rattle.run_outcome.specs.TextRefusals.{IsCaptureText}
 use Rattle.run_outcome.specs.declared.fault.Fault.{Fault}
 use Rattle.run_outcome.specs.declared.fault.Fault.TheVariants.{Device}
 use Rattle.key_mix.specs.declared.faults.SendJobFault.{SendJobFault}
@@ -104,14 +103,3 @@ pub record SendsSaidPart (text : List ℕ) (size : ℕ) (stamp : Stamp) (old new
 -- so with an empty text
 abbrev pub SendsPart : ℕ → Stamp → List ℕ → List ℕ → Type 0
 SendsPart size stamp old new = SendsSaidPart [] size stamp old new
-
--- ---- with a text
-
--- the text of a capture: all that the SDP's source gave, up to its end, which describes a video; or
--- nothing, where there is none
-abbrev pub SaysText : {S : Type 0} → (S → List ℕ) → (S → Type 0) → Option S → Option S → List ℕ
-    → Type 0
-SaysText gave ended None later text = text ≡ []
-SaysText gave ended (Some sdp) None text = ⊥
-SaysText gave ended (Some sdp) (Some later) text =
-    (gave later ≡ gave sdp ++ text) × ended later × IsCaptureText text

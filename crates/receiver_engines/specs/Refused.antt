@@ -19,7 +19,7 @@ use Rattle.receiver_engines.specs.declared.processing.Processing.{Processing}
 use Rattle.receiver_engines.specs.Inputs.{AreFramesAt, IsFill, IsHeldFor, raster_formats}
 use Rattle.receiver_engines.specs.JobText.{IsJobText}
 use Rattle.receiver_engines.specs.Reading.{SayReceivers, SaysHeld}
-use Rattle.run_outcome.specs.TextRefusals.{IsTextRefusal}
+use Rattle.run_outcome.specs.TextRefusals.{IsTextOfRun}
 
 -- ---- what the job is given
 
@@ -123,12 +123,6 @@ IsRunRefusal told states hold w (refusal.State f) =
 IsRunRefusal told states hold w (refusal.Picture f) =
     SaysJob w × AreReceivers told states × IsHeldRefusal told hold (refusal.Picture f)
 IsRunRefusal told states hold w r = IsRefusalOfRead told states hold w r
-
--- the refusals of the text for a capture, where one is given
-abbrev pub IsTextOfRun : {S : Type 0} → (S × S → List ℕ → Type 0) → Option S → Option S → Refusal
-    → Type 0
-IsTextOfRun {S} told old new r = (was : S) × (now : S) × (old ≡ Some was) × (new ≡ Some now)
-    × IsTextRefusal refusal.SendSdp (told (was, now)) r
 
 -- so of a run with a text, which is read behind the job's: of those, and of the run
 abbrev pub IsSaidRunRefusal : {S : Type 0} → (S × S → List ℕ → Type 0) → Option S → Option S

@@ -14,8 +14,11 @@ mod reading;
 mod reporting;
 mod states;
 
+pub use fill_text::read_fill;
 pub use job_offers::offered_by_job;
 pub use merging::merge;
 pub use merging_all::merge_all;
 pub use processing::{Processing, check_job, process, process_said};
+pub use reading::read_held;
 pub use reporting::report;
+pub use states::read_receiver;

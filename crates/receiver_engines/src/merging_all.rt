@@ -6,7 +6,8 @@ ghost use Rattle.st_format.specs.History.{IsRead};
 ghost use Rattle.run_outcome.specs.Fault.{Accounts, IfRefused, counts};
 ghost use Rattle.run_outcome.specs.Moments.{WasRead};
 ghost use Rattle.run_outcome.specs.Refusing.{OfRefusal};
-ghost use Rattle.receiver_engines.specs.MergeAllRefused.{IsJoinRefusal, IsMergeAllRefusal, StopsAt};
+ghost use Rattle.receiver_engines.specs.MergeAllRefused.{IsJoinRefusal, IsMergeAllRefusal};
+ghost use Rattle.receiver_engines.specs.MergeAllRefused.{StopsMerge};
 ghost use Rattle.receiver_engines.specs.MergedAll.{JoinsAll, JoinsEach, JoinsOne, MergesAll};
 ghost use Rattle.receiver_engines.specs.MergedAll.{PrintsAll};
 ghost use Rattle.receiver_engines.specs.Merging.{Saves, SavesPart};
@@ -100,7 +101,7 @@ fn join_each<A: Allocator + Copy, S: ByteSource>(
     ensures joined { OnOk result (JoinsEach (WasRead S.gave S.ended) (zip others.old others.new)
         merged.old merged.new) }
     ensures ended { OnOk result (All S.ended others.new) }
-    ensures refusal { IfErr result (λ f. OfRefusal f (λ r. StopsAt merged.old
+    ensures refusal { IfErr result (λ f. OfRefusal f (λ r. StopsMerge merged.old
         (WasRead S.gave S.ended) (zip others.old others.new)
         (λ t. IsJoinRefusal merged.old t r))) }
     ensures failures { Accounts result (counts (sum_by S.failures others.old)

@@ -1,6 +1,6 @@
 //! The engine of `process`.
 ghost use Rattle.std.specs.Prelude.{◌≡◌, ◌≤◌, ◌∷◌, [], ◌-◌, ◌+◌, IfErr, IfOk, OnErr, OnOk, length};
-ghost use Rattle.std.specs.Prelude.{ℕ, List, sum_by, vec_len};
+ghost use Rattle.std.specs.Prelude.{ℕ, List, sum_by};
 ghost use Rattle.std.specs.List.{AllByRecursion, zip};
 ghost use Rattle.run_outcome.specs.Moments.{WasRead, pair};
 ghost use Rattle.run_outcome.specs.Fault.{Accounts, IfRefused, counts, failures_in};
@@ -9,12 +9,13 @@ ghost use Rattle.key_mix.specs.Sending.{HasBase, IsSendFault, IsSendable, IsSent
 ghost use Rattle.key_mix.specs.Sending.{settled_inputs};
 ghost use Rattle.key_mix.specs.declared.Job.{Job};
 ghost use Rattle.run_outcome.specs.declared.refusal.Refusal.TheVariants.{ProcessJob};
+ghost use Rattle.run_outcome.specs.TextRefusals.{SaysText};
 ghost use Rattle.receiver_engines.specs.JobText.{IsJobText};
-ghost use Rattle.receiver_engines.specs.Processing.{PrintsSent, SaysText, SendsFiles, SendsPart};
+ghost use Rattle.receiver_engines.specs.Processing.{PrintsSent, SendsFiles, SendsPart};
 ghost use Rattle.receiver_engines.specs.Processing.{SendsSaidFiles, SendsSaidJob, SendsSaidPart};
 ghost use Rattle.receiver_engines.specs.Processing.{TakesSaid, WritesJob, of_send_job};
 ghost use Rattle.receiver_engines.specs.Refused.{IsJobOrPlanRefusal, IsJobRefusal, IsRunRefusal};
-ghost use Rattle.receiver_engines.specs.Refused.{IsSaidRunRefusal, IsTextOfRun};
+ghost use Rattle.receiver_engines.specs.Refused.{IsSaidRunRefusal};
 
 use crate::inputs::{check_held, fill_for, frames_at, inputs_of};
 use crate::job_text::read_job;
@@ -23,7 +24,7 @@ use crate::reading::{read_held, read_receivers};
 use key_mix::{Job, JobInput, SendJobFault, send_job};
 use packet_plan::{PlanFault, Stamp};
 use path_receiver::Receiver;
-use run_outcome::{Fault, Line, Refusal, print, read_checked};
+use run_outcome::{Fault, Line, Refusal, print, read_if_given};
 use st_format::{ByteSink, ByteSource, Picture};
 use std::alloc::Allocator;
 
@@ -158,30 +159,9 @@ where
         ∷ counts (O.failures output.old) (O.failures output.new) ∷ []) }
 {
     check_job(wanted.job)?;
-    let said = read_said(alloc, sdp)?;
+    let said = read_if_given(alloc, sdp)?;
     let sent = process_files(alloc, wanted, &said, states, hold, sink)?;
     print(Line::Sent(u64::from(sent)), output)
-}
-
-/// Reads the capture's text, where there is one; else it is empty.
-fn read_said<A: Allocator + Copy, S: ByteSource>(
-    alloc: A,
-    sdp: &mut Option<S>,
-) -> Result<Vec<u8, A>, Fault>
-    ensures few { IfOk result (λ said. vec_len said ≤ 65535) }
-    ensures says { IfOk result (λ said. SaysText S.gave S.ended sdp.old sdp.new said.items) }
-    ensures refusal { IfErr result (λ f. OfRefusal f
-        (IsTextOfRun (WasRead S.gave S.ended) sdp.old sdp.new)) }
-    ensures failures { Accounts result (counts (failures_in S.failures sdp.old)
-        (failures_in S.failures sdp.new) ∷ []) }
-{
-    match sdp {
-        None => Ok(Vec::new(alloc)),
-        Some(source) => match read_checked(alloc, source, Refusal::SendSdp) {
-            Ok(said) => Ok(said),
-            Err(fault) => Err(fault),
-        },
-    }
 }
 
 /// Reads the job and the files, sends the job's picture into a capture of this text, and answers

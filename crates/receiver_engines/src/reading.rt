@@ -69,6 +69,10 @@ fn read_at<A: Allocator + Copy, S: ByteSource>(
 }
 
 /// Reads the picture that is to be held, if a file of one is named.
+///
+/// # Errors
+///
+/// As [`read_unpacked`] has them.
 pub fn read_held<A: Allocator, S: ByteSource>(
     alloc: A,
     hold: &mut Option<S>,

@@ -18,8 +18,11 @@ use std::alloc::Allocator;
 
 /// Reads a receiver's file, up to the source's end. What the source gave is just that file.
 ///
-/// Refused where the file is (`state`), with its first fault.
-pub(crate) fn read_receiver<A: Allocator + Copy, S: ByteSource>(
+/// # Errors
+///
+/// A refusal (`Refusal::State`) where the octets are no receiver's file, with its first fault; and
+/// else that a device or the allocator failed.
+pub fn read_receiver<A: Allocator + Copy, S: ByteSource>(
     alloc: A,
     source: &mut S,
 ) -> Result<Receiver<A>, Fault>

@@ -31,6 +31,7 @@ use Rattle.st_format.proofs.Octets.{all_octets}
 use Rattle.media_file.proofs.Splits.{AreOctets-back}
 use Rattle.st_format.proofs.Octets.{AreOctets-drop, AreOctets-take}
 use Rattle.media_file.proofs.Splits.{AreOctets-tail}
+use Rattle.media_file.proofs.Grouped.{all_missing}
 
 -- ---- octets that are cut off
 
@@ -89,10 +90,6 @@ unfolding group_text
 text_chosen s cells gone plain e f =
     ap (λ (b : Bool). text_by b (eqb (mask_of cells) 0) s cells) e
     ∙ ap (λ (b : Bool). text_by gone b s cells) f
-
-all_missing : (n : ℕ) → list_all is_missing (replicate n Missing) ≡ true
-all_missing zero = refl
-all_missing (suc n) = all_missing n
 
 gone_text : (s : Shape) → 0 ∷ [] ≡ group_text s (replicate s.samples Missing)
 gone_text s =

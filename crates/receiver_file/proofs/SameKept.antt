@@ -21,6 +21,7 @@ use Rattle.receiver_file.specs.StateReading.{state_walk}
 use Rattle.receiver_file.proofs.Again.{kept_in, only_state, state_again}
 use Rattle.receiver_file.proofs.Savable.{writable_saved}
 use Rattle.receiver_file.proofs.Stamped.{kept_stamps}
+use Rattle.receiver_file.proofs.StateRuns.{kept_by}
 
 -- ---- frames of the same groups
 
@@ -138,16 +139,6 @@ loaded_holds (Ok x) s datagrams h p =
     p.1 ∙ h ∙ ap (λ (o : Opening). frames_of o datagrams) (sym p.0)
 
 -- ---- equal files
-
-abbrev kept_by : Opening → List Raster → Kept
-kept_by o rs =
-    record {
-      format = fields_of o.format;
-      payload_type = o.payload_type;
-      ssrc = o.ssrc;
-      frames =
-          kept_frames (fields_of o.format) o.window rs;
-    }
 
 pub equal_kept : (r s : State) → r.opening ≡ s.opening → r.frames ≡ s.frames
     → state_text (kept_of r) ≡ state_text (kept_of s)

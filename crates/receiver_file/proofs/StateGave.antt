@@ -29,27 +29,13 @@ use Rattle.receiver_file.proofs.Giving.{whole_end, whole_then}
 use Rattle.receiver_file.proofs.SameKept.{loaded_same}
 use Rattle.receiver_file.proofs.Savable.{writable_saved}
 use Rattle.receiver_file.proofs.StateFaults.{wrong_state}
-use Rattle.receiver_file.proofs.Valued.{value_cut, value_gives, valued}
+use Rattle.receiver_file.proofs.Valued.{value_cut, value_gives}
+use Rattle.receiver_file.proofs.StateRuns.{kept, behind_frames, behind_head, behind_format}
+use Rattle.receiver_file.proofs.StateRuns.{behind_name, kept_by}
 use Rattle.st_format.proofs.Gave.{fault_one}
-use Rattle.st_format.proofs.Parsing.{gives_then, then_reads}
+use Rattle.st_format.proofs.Parsing.{gives_then}
 
 -- ---- the parts
-
-abbrev kept : Fields → Head → List Held → Unit {0} → Result Kept FileFault
-kept f h hs end =
-    Ok (record { format = f; payload_type = h.payload_type; ssrc = h.ssrc; frames = hs })
-
-abbrev behind_frames : Fields → Head → List Held → List ℕ → Result (Kept × List ℕ) FileFault
-behind_frames f h hs octets = valued nothing_at (kept f h hs) octets
-
-abbrev behind_head : Fields → Head → List ℕ → Result (Kept × List ℕ) FileFault
-behind_head f h octets = then_reads (all_held_at f h.count []) (behind_frames f h) octets
-
-abbrev behind_format : Fields → List ℕ → Result (Kept × List ℕ) FileFault
-behind_format f octets = then_reads head_at (behind_head f) octets
-
-abbrev behind_name : Unit {0} → List ℕ → Result (Kept × List ℕ) FileFault
-behind_name u octets = then_reads block_at behind_format octets
 
 pub gave_name : (a b : List ℕ) (ended : Type 0) (e : FileFault) → GaveFault name_at a b ended e
     → GaveFault state_walk a b ended e
@@ -113,16 +99,6 @@ gave_all a b c d x y ended f h hs n m k l same over =
     (value_gives nothing_at (kept f h hs) mid left tt all q refl)) l same over)))
 
 -- ---- the receiver that is made
-
-abbrev kept_by : Opening → List Raster → Kept
-kept_by o rs =
-    record {
-      format = fields_of o.format;
-      payload_type = o.payload_type;
-      ssrc = o.ssrc;
-      frames =
-          kept_frames (fields_of o.format) o.window rs;
-    }
 
 pub gave_made : (a b : List ℕ) (ended : Type 0) (f : Format) (h : Head) (w : List ℕ)
     (rs : List Raster) (r : Result State FileFault)

@@ -23,20 +23,20 @@ use Rattle.media_file.specs.Faults.{file_fault_origin}
 
 -- ---- the parts
 
-abbrev kept : Fields → Head → List Held → Unit {0} → Result Kept FileFault
+abbrev pub kept : Fields → Head → List Held → Unit {0} → Result Kept FileFault
 kept f h hs end =
     Ok (record { format = f; payload_type = h.payload_type; ssrc = h.ssrc; frames = hs })
 
-abbrev behind_frames : Fields → Head → List Held → List ℕ → Result (Kept × List ℕ) FileFault
+abbrev pub behind_frames : Fields → Head → List Held → List ℕ → Result (Kept × List ℕ) FileFault
 behind_frames f h hs octets = valued nothing_at (kept f h hs) octets
 
-abbrev behind_head : Fields → Head → List ℕ → Result (Kept × List ℕ) FileFault
+abbrev pub behind_head : Fields → Head → List ℕ → Result (Kept × List ℕ) FileFault
 behind_head f h octets = then_reads (all_held_at f h.count []) (behind_frames f h) octets
 
-abbrev behind_format : Fields → List ℕ → Result (Kept × List ℕ) FileFault
+abbrev pub behind_format : Fields → List ℕ → Result (Kept × List ℕ) FileFault
 behind_format f octets = then_reads head_at (behind_head f) octets
 
-abbrev behind_name : Unit {0} → List ℕ → Result (Kept × List ℕ) FileFault
+abbrev pub behind_name : Unit {0} → List ℕ → Result (Kept × List ℕ) FileFault
 behind_name u octets = then_reads block_at behind_format octets
 
 pub state_name : (old : Option (List ℕ)) (e : FileFault) → Fails name_at old e
@@ -97,7 +97,7 @@ state_gives old a b c d new f h hs n m k l p =
 
 -- ---- the receiver that is made
 
-abbrev kept_by : Opening → List Raster → Kept
+abbrev pub kept_by : Opening → List Raster → Kept
 kept_by o rs =
     record {
       format = fields_of o.format;

@@ -19,11 +19,9 @@ use crate::taking::ROOM;
 use arrayvec::ArrayVec;
 use frame_assembly::Frame;
 use media_file::FileFault;
+use path_receiver::MOST_TIMESTAMPS;
 use st_format::{ByteSource, Format};
 use std::alloc::Allocator;
-
-/// The most timestamps that a window has (own).
-pub(crate) const MOST_TIMESTAMPS: usize = 16;
 
 /// What a file says of a window: timestamps, and a frame for each.
 #[derive(Drop)]

@@ -5,13 +5,14 @@ ghost use Rattle.std.specs.List.{zip};
 ghost use Rattle.devices.specs.Passed.{file_ended, file_failures, file_gave, file_took};
 ghost use Rattle.devices.specs.Passed.{IsInPlace, IsUnplaced, output_failures, output_took};
 ghost use Rattle.devices.specs.Passed.{writing_failures};
-ghost use Rattle.receiver_engines.specs.Processing.{PrintsSent, SaysText, SendsSaidFiles};
+ghost use Rattle.receiver_engines.specs.Processing.{PrintsSent, SendsSaidFiles};
 ghost use Rattle.receiver_engines.specs.Refused.{IsSaidRunRefusal};
 ghost use Rattle.run_outcome.specs.Fault.{Accounts, IfRefused, counts, failures_in};
 ghost use Rattle.run_outcome.specs.Moments.{WasRead, pair};
 ghost use Rattle.run_outcome.specs.Refusing.{OfRefusal};
 ghost use Rattle.run_outcome.specs.declared.refusal.Refusal.TheVariants.{OutputIsInput};
 ghost use Rattle.run_outcome.specs.declared.refusal.Writer.TheVariants.{Process};
+ghost use Rattle.run_outcome.specs.TextRefusals.{SaysText};
 ghost use Rattle.receiver_runs.specs.Asked.{IsProcessOf, IsProcessingOf};
 ghost use Rattle.receiver_runs.specs.Untouched.{AreUntouched};
 

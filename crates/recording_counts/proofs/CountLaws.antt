@@ -11,11 +11,12 @@ use Rattle.std.specs.FinSet.{len-insert}
 use Rattle.std.specs.FinSet.{nat_cmp-IsAntisymmetric}
 use Rattle.std.specs.Option.{option_map_or}
 use Rattle.std.specs.Ordering.{nat_cmp}
+use Rattle.st_format.specs.Device.{capped}
 use Rattle.recording_counts.specs.declared.path_count.Came.{Came}
 use Rattle.recording_counts.specs.declared.path_count.Came.TheVariants.{Repeated}
 use Rattle.recording_counts.specs.declared.path_count.PathCount.{PathCount}
 use Rattle.recording_counts.specs.PathCounts.{came, came_after, count_of, is_late, late_after, one_more}
-use Rattle.recording_counts.specs.Numbering.{capped, highest_of, joined, lowest_of}
+use Rattle.recording_counts.specs.Numbering.{highest_of, joined, lowest_of}
 
 pub capped_one : (b : Bool) (m : ℕ) → one_more (capped m) b ≡ capped (m + cond b 1 0)
 capped_one true m = omega arith

@@ -10,7 +10,7 @@ use Rattle.std.proofs.lemmas.List.Sums.{fold-append}
 use Rattle.std.proofs.Math.Seq.{take-set-lt}
 use Rattle.arrayvec.specs.ArrayVec.{ArrayVec}
 use Rattle.rtp_header.specs.Grammar.{Rtp}
-use Rattle.recording_counts.specs.Numbering.{capped}
+use Rattle.st_format.specs.Device.{capped}
 use Rattle.recording_counts.specs.Streams.{is_same}
 use Rattle.recording_counts.specs.Tables.{place_of}
 use Rattle.recording_counts.specs.declared.packet.StreamKey.{StreamKey}

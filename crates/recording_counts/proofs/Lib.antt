@@ -5,7 +5,7 @@ mod TreeLaws
 pub mod CountLaws
 pub mod Keys
 mod BothLaws
-mod StreamLaws
+pub mod StreamLaws
 pub mod Kept
 pub mod Said
 pub mod Wide

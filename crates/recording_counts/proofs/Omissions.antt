@@ -4,7 +4,7 @@ use Rattle.std.proofs.Common.{◌++◌, count_by, length, ap, sym, refl, arith, 
 use Rattle.std.proofs.lemmas.List.Sums.{sum_by-append, sum_by-cons}
 use Rattle.pcap_file.specs.declared.datagram.NoDatagram.TheVariants.{NotIp, CutShort, BadIpHeader}
 use Rattle.pcap_file.specs.declared.datagram.NoDatagram.TheVariants.{NotUdp, Fragment, BadUdpLength}
-use Rattle.recording_counts.specs.Numbering.{capped}
+use Rattle.st_format.specs.Device.{capped}
 use Rattle.recording_counts.specs.LeftOut.{is_omission, left_out_of, sum_of, times}
 use Rattle.recording_counts.specs.declared.left_out.LeftOut.{LeftOut}
 use Rattle.recording_counts.specs.declared.omission.Omission.{Omission}

@@ -10,7 +10,8 @@ use Rattle.std.specs.Option.{option_map_or}
 use Rattle.rtp_header.specs.Grammar.{Rtp}
 use Rattle.rtp_header.specs.Reading.{rtp_walk}
 use Rattle.rtp_header.specs.declared.header.RtpFault.{RtpFault}
-use Rattle.recording_counts.specs.Numbering.{capped, highest_of, lowest_of}
+use Rattle.st_format.specs.Device.{capped}
+use Rattle.recording_counts.specs.Numbering.{highest_of, lowest_of}
 use Rattle.recording_counts.proofs.CountLaws.{highest_more, lowest_more}
 use Rattle.recording_counts.specs.declared.rtp_count.RtpCount.{RtpCount}
 use Rattle.recording_counts.specs.declared.rtp_streams.Streams.{Streams}

@@ -12,6 +12,7 @@ use Rattle.std.specs.FinSet.{nat_cmp-IsAntisymmetric, same_set}
 use Rattle.std.specs.List.{filter}
 use Rattle.std.specs.Option.{option_map_or}
 use Rattle.std.specs.Ordering.{nat_cmp}
+use Rattle.st_format.specs.Device.{capped}
 use Rattle.recording_counts.specs.declared.packet.Packet.{Packet}
 use Rattle.recording_counts.specs.declared.packet.StreamKey.{StreamKey}
 use Rattle.recording_counts.specs.declared.path_count.PathCount.{PathCount}
@@ -19,14 +20,14 @@ use Rattle.recording_counts.specs.declared.stream.StreamCount.{StreamCount}
 use Rattle.recording_counts.specs.declared.path_count.Came.{Came}
 use Rattle.recording_counts.specs.declared.path_count.Came.TheVariants.{Late, New}
 use Rattle.recording_counts.specs.PathCounts.{came, came_after, count_of, is_repeated, one_more}
-use Rattle.recording_counts.specs.Numbering.{Numbered, capped, highest_of, number_after, numbered}
+use Rattle.recording_counts.specs.Numbering.{Numbered, highest_of, number_after, numbered}
 use Rattle.recording_counts.specs.Numbering.{numbered_after, numbered_behind}
 use Rattle.recording_counts.specs.Streams.{is_a, numbers_by_a, numbers_by_b, stream_counted}
 use Rattle.recording_counts.specs.Streams.{stream_of}
 use Rattle.recording_counts.proofs.BothLaws.{both_more, both_more_second}
 use Rattle.recording_counts.proofs.CountLaws.{capped_one, highest_more}
 
-numbered_more : (before : List Numbered) (own : List Packet) (p : Packet)
+pub numbered_more : (before : List Numbered) (own : List Packet) (p : Packet)
     → numbered_after before (own ++ p ∷ [])
     ≡ numbered_after before own ++ numbered_behind (numbered_after before own) p ∷ []
 numbered_more before [] p = refl

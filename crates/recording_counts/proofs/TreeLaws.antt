@@ -16,7 +16,8 @@ use Rattle.std.specs.FinSet.{contains}
 use Rattle.std.specs.List.{Contains}
 use Rattle.std.specs.Ordering.{is_gt, nat_cmp}
 use Rattle.std.specs.declared.cmp.Ordering.TheVariants.{Equal, Less}
-use Rattle.recording_counts.specs.Runs.{Apart, AreRuns, Begins, HasOneMore, Holds, IsLastFrom, IsPut, all_runs, begin_of}
+use Rattle.recording_counts.specs.Runs.{Apart, AreRuns, BeginsRun, HasOneMore, Holds, IsLastFrom}
+use Rattle.recording_counts.specs.Runs.{IsPut, all_runs, begin_of}
 use Rattle.recording_counts.specs.Runs.{in_run, is_in, numbers_of, reaches, run_of, runs_of}
 use Rattle.recording_counts.specs.declared.number_set.Run.{Run}
 use Rattle.recording_counts.proofs.RunLaws.{contains_runs, one_more}
@@ -111,7 +112,7 @@ module _ (limit : ℕ) (m : Tree) (n : ℕ) (apart : Apart limit m) where
 
   -- a number that is in no run, and the run that it is put to
   pub begins : (r : Option Run) → IsLastFrom n m r → reaches r n ≡ false
-      → Begins (begin_of r n) n m
+      → BeginsRun (begin_of r n) n m
   begins None l h =
       record {
         bound = omega arith;
@@ -128,7 +129,7 @@ module _ (limit : ℕ) (m : Tree) (n : ℕ) (apart : Apart limit m) where
       own_run : r.first ≤ r.last
       own_run = apart.each r.first r.last l.0
 
-      by : (b : Bool) → (r.last + 1 == n) ≡ b → Begins (cond b r.first n) n m
+      by : (b : Bool) → (r.last + 1 == n) ≡ b → BeginsRun (cond b r.first n) n m
       by true e =
           let next : r.last + 1 ≡ n = eqb-true _ _ e in
           record {
@@ -200,7 +201,7 @@ joined_alone first n old new le none put =
     }
 
 module _ (limit first n last : ℕ) (old new : Tree) (apart : Apart limit old)
-    (begins : Begins first n old) (joined : IsJoined first n last old new) where
+    (begins : BeginsRun first n old) (joined : IsJoined first n last old new) where
   reach : n ≤ last
   reach =
       ⊎_elim (λ alone. let e : last ≡ n = alone.1 in omega arith)
@@ -484,7 +485,7 @@ module _ (top : Run) (m : Tree) (n : ℕ) (are : AreRuns (Some top) m) where
 
   -- a number right below the top run, which then begins where the run before it did
   pub led : (new : Tree) (first : ℕ) → n + 1 ≡ top.first → (Holds m n → ⊥)
-      → Begins first n m → IsOrdered nat_cmp new → at new first ≡ None
+      → BeginsRun first n m → IsOrdered nat_cmp new → at new first ≡ None
       → ((q : ℕ) → q ≢ first → at new q ≡ at m q)
       → IsPut (Some top) m n (Some (record { first = first; last = top.last })) new
   led new first next none begins ordered gone others =
@@ -540,7 +541,7 @@ module _ (top : Run) (m : Tree) (n : ℕ) (are : AreRuns (Some top) m) where
       only q (inr (k, l, g, le, ge)) other = inr (k, l, (was k l g).0, le, ge)
 
   -- where the number is a run of its own, nothing begins at it
-  pub alone : Begins n n m → at m n ≡ None
+  pub alone : BeginsRun n n m → at m n ≡ None
   alone begins = by (at m n) refl
     where
       by : (o : Option ℕ) → at m n ≡ o → o ≡ None

@@ -1,12 +1,14 @@
 -- What is counted of datagrams.
-use Rattle.std.specs.Prelude.{ℕ, ◌/◌, ◌==◌, ◌&&◌, Bool, nat_le, if◌then◌else◌, List, [], ◌∷◌, Option}
+use Rattle.std.specs.Prelude.{ℕ, ◌/◌, ◌==◌, ◌&&◌, Bool, nat_le, if◌then◌else◌, List, [], ◌∷◌}
+use Rattle.std.specs.Prelude.{Option}
 use Rattle.std.specs.Prelude.{Result, Ok, Err, length, map, sum_by, count_by, slice_index}
 use Rattle.std.specs.List.{filter_map, flat_map}
 use Rattle.std.specs.declared.net.socket_addr.SocketAddr.{SocketAddr}
 use Rattle.rtp_header.specs.Grammar.{Rtp}
 use Rattle.rtp_header.specs.Reading.{rtp_walk}
 use Rattle.rtp_header.specs.declared.header.RtpFault.{RtpFault}
-use Rattle.recording_counts.specs.Numbering.{capped, highest_of, lowest_of}
+use Rattle.st_format.specs.Device.{capped}
+use Rattle.recording_counts.specs.Numbering.{highest_of, lowest_of}
 use Rattle.recording_counts.specs.declared.flow_count.FlowCount.{FlowCount}
 use Rattle.recording_counts.specs.declared.rtp_count.RtpCount.{RtpCount}
 use Rattle.recording_counts.specs.declared.times.Times.{Times}

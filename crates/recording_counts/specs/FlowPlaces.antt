@@ -6,14 +6,14 @@ use Rattle.std.specs.declared.cmp.Ordering.{Ordering}
 use Rattle.std.specs.declared.net.socket_addr.SocketAddr.{SocketAddr}
 use Rattle.std.specs.Net.Socket.{socket_ip, socket_port}
 use Rattle.arrayvec.specs.ArrayVec.{ArrayVec}
-use Rattle.recording_counts.specs.Flows.{ip_octets}
+use Rattle.flow.specs.Flow.{address_octets}
 
 -- the port, and the octets of the address
 abbrev pub FlowKey : Type 0
 FlowKey = ℕ × ArrayVec ℕ
 
 abbrev pub flow_key_of : SocketAddr → FlowKey
-flow_key_of d = (socket_port d, record { items = ip_octets (socket_ip d) })
+flow_key_of d = (socket_port d, record { items = address_octets (socket_ip d) })
 
 -- whether two are one, and their order
 abbrev pub is_same_key : FlowKey → FlowKey → Bool

@@ -1,8 +1,8 @@
 -- Streams of RTP in a flow: packets of one payload type and one source. RFC 3550, 5.1
 use Rattle.std.specs.Prelude.{ℕ, ◌^◌, nat_lt, if◌then◌else◌, List, [], ◌∷◌, length, map, take, fold}
 use Rattle.rtp_header.specs.Grammar.{Rtp}
+use Rattle.st_format.specs.Device.{capped}
 use Rattle.recording_counts.specs.declared.packet.StreamKey.{StreamKey}
-use Rattle.recording_counts.specs.Numbering.{capped}
 use Rattle.recording_counts.specs.Streams.{is_same}
 use Rattle.recording_counts.specs.Tables.{counted_by}
 use Rattle.recording_counts.specs.Timestamps.{ticks_from}

@@ -5,7 +5,7 @@ use Rattle.std.specs.Fmt.{decimal}
 use Rattle.pcap_file.specs.declared.datagram.NoDatagram.TheVariants.{NotIp, CutShort, BadIpHeader}
 use Rattle.pcap_file.specs.declared.datagram.NoDatagram.TheVariants.{NotUdp, Fragment, BadUdpLength}
 use Rattle.pcap_file.specs.Reasons.{reason_name, reason_number}
-use Rattle.recording_counts.specs.Numbering.{capped}
+use Rattle.st_format.specs.Device.{capped}
 use Rattle.recording_counts.specs.declared.left_out.LeftOut.{LeftOut}
 use Rattle.recording_counts.specs.declared.omission.Omission.{Omission}
 use Rattle.recording_counts.specs.declared.omission.Omission.TheVariants.{NoDatagram, OtherFlow}

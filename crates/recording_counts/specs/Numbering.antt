@@ -3,6 +3,7 @@ use Rattle.std.specs.Prelude.{◌≡◌, ℕ, ◌+◌, ◌-◌, ◌*◌, ◌/◌
 use Rattle.std.specs.Prelude.{if◌then◌else◌}
 use Rattle.std.specs.Prelude.{List, [], ◌∷◌, ◌++◌, map, Option, Some, None}
 use Rattle.std.specs.Option.{option_map_or}
+use Rattle.st_format.specs.Device.{capped}
 use Rattle.st_format.specs.declared.path.Path.{Path}
 use Rattle.recording_counts.specs.declared.packet.Packet.{Packet}
 
@@ -12,10 +13,6 @@ pub record IsNearest (round highest low number : ℕ) : Type 0 where
   pub bits : number % round ≡ low
   pub above : highest ≤ number + round / 2
   pub below : number < highest + round / 2
-
--- a count and a number stay at their greatest (own)
-abbrev pub capped : ℕ → ℕ
-capped n = min n (2 ^ 64 - 1)
 
 -- how far low bits are ahead of a number's
 abbrev pub ahead : ℕ → ℕ → ℕ → ℕ

@@ -5,10 +5,11 @@ use Rattle.std.specs.Prelude.{Option, length}
 use Rattle.std.specs.FinSet.{contains, from_list, len}
 use Rattle.std.specs.Option.{option_map_or}
 use Rattle.std.specs.Ordering.{nat_cmp}
+use Rattle.st_format.specs.Device.{capped}
 use Rattle.recording_counts.specs.declared.path_count.Came.{Came}
 use Rattle.recording_counts.specs.declared.path_count.Came.TheVariants.{Late, New, Repeated}
 use Rattle.recording_counts.specs.declared.path_count.PathCount.{PathCount}
-use Rattle.recording_counts.specs.Numbering.{capped, highest_of, lowest_of}
+use Rattle.recording_counts.specs.Numbering.{highest_of, lowest_of}
 
 -- how a number comes that is new or not, behind others of which this is the highest
 abbrev pub came_after : Bool → Option ℕ → ℕ → Came

@@ -68,7 +68,7 @@ IsLastFrom n runs (Some r) =
 
 -- A number that is in no run makes with those right before it a run that begins at this one, and
 -- the others lie apart from that.
-pub record Begins (first n : ℕ) (runs : BTreeMap ℕ ℕ) : Type 0 where
+pub record BeginsRun (first n : ℕ) (runs : BTreeMap ℕ ℕ) : Type 0 where
   pub bound : first ≤ n
   pub own : (last : ℕ) → get nat_cmp runs first ≡ Some last → last + 1 ≡ n
   pub joined : first < n → IsSome (get nat_cmp runs first)

@@ -6,11 +6,12 @@ use Rattle.std.specs.Ordering.{nat_cmp, ordering_then}
 use Rattle.std.specs.declared.cmp.Ordering.{Ordering}
 use Rattle.st_format.specs.declared.path.Path.{Path}
 use Rattle.st_format.specs.declared.path.Path.TheVariants.{A, B}
+use Rattle.st_format.specs.Device.{capped}
 use Rattle.recording_counts.specs.declared.packet.Packet.{Packet}
 use Rattle.recording_counts.specs.declared.packet.StreamKey.{StreamKey}
 use Rattle.recording_counts.specs.declared.stream.StreamCount.{StreamCount}
 use Rattle.recording_counts.specs.PathCounts.{count_of}
-use Rattle.recording_counts.specs.Numbering.{Numbered, capped, highest_of, numbered}
+use Rattle.recording_counts.specs.Numbering.{Numbered, highest_of, numbered}
 use Rattle.recording_counts.specs.Tables.{counted_by}
 
 -- whether a path is A

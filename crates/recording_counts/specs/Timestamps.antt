@@ -3,10 +3,10 @@ use Rattle.std.specs.Prelude.{ℕ, ◌+◌, ◌-◌, ◌%◌, ◌^◌, Bool, not
 use Rattle.std.specs.List.{filter, list_any}
 use Rattle.std.specs.Ordering.{nat_cmp, ordering_then}
 use Rattle.std.specs.declared.cmp.Ordering.{Ordering}
+use Rattle.st_format.specs.Device.{capped}
 use Rattle.recording_counts.specs.declared.packet.Packet.{Packet}
 use Rattle.recording_counts.specs.declared.packet.TimestampKey.{TimestampKey}
 use Rattle.recording_counts.specs.declared.timestamp.TimestampCount.{TimestampCount}
-use Rattle.recording_counts.specs.Numbering.{capped}
 use Rattle.recording_counts.specs.Streams.{is_a, is_same, key_cmp, key_of}
 use Rattle.recording_counts.specs.Tables.{counted_by}
 

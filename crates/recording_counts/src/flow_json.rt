@@ -1,6 +1,7 @@
 //! What is counted of a flow, as an object of JSON for other tools.
 ghost use Rattle.std.specs.Prelude.{Some};
-ghost use Rattle.recording_counts.specs.FlowJson.{count_json, moment_json, numbers_json, objects_json};
+ghost use Rattle.recording_counts.specs.FlowJson.{count_json, moment_json, numbers_json};
+ghost use Rattle.recording_counts.specs.FlowJson.{objects_json};
 ghost use Rattle.recording_counts.specs.FlowJson.{other_json, rate_json, stream_json, streams_json};
 ghost use Rattle.recording_counts.specs.FlowJson.{times_json, truth_json};
 
@@ -132,7 +133,8 @@ impl fmt::Display for StreamObject {
         let last = self.0.last;
         write!(
             f,
-            "{{\"payload_type\":{payload_type},\"source\":{source},\"datagrams\":{datagrams},\"first_timestamp\":{first},\"last_timestamp\":{last}}}"
+            "{{\"payload_type\":{payload_type},\"source\":{source},\"datagrams\":{datagrams},\
+             \"first_timestamp\":{first},\"last_timestamp\":{last}}}"
         )
     }
 }

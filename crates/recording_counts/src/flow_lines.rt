@@ -1,8 +1,10 @@
 //! What is counted of a flow, as text for a person.
 ghost use Rattle.std.specs.Prelude.{◌≡◌, ◌<◌, Some};
-ghost use Rattle.recording_counts.specs.FlowLines.{count_text, moment_text, nine_digits, others_text};
+ghost use Rattle.recording_counts.specs.FlowLines.{count_text, moment_text, nine_digits};
+ghost use Rattle.recording_counts.specs.FlowLines.{others_text};
 ghost use Rattle.recording_counts.specs.FlowLines.{rate_text, rtcp_text, stream_text, streams_text};
-ghost use Rattle.recording_counts.specs.FlowLines.{hundredths, hundredths_text, times_text, two_digits};
+ghost use Rattle.recording_counts.specs.FlowLines.{hundredths, hundredths_text, times_text};
+ghost use Rattle.recording_counts.specs.FlowLines.{two_digits};
 
 use crate::flow_count::FlowCount;
 use crate::rtp_stream::RtpStream;
@@ -35,7 +37,8 @@ impl fmt::Display for FlowCount {
         let times = TimesLine(self.times, octets);
         write!(
             f,
-            "flow {destination}\n  datagrams {datagrams}, octets {octets}, RTP {rtp}{rtcp}{streams}{times}"
+            "flow {destination}\n  datagrams {datagrams}, octets {octets}, \
+             RTP {rtp}{rtcp}{streams}{times}"
         )
     }
 }
@@ -118,7 +121,8 @@ impl fmt::Display for StreamLine {
         let last = self.0.last;
         write!(
             f,
-            "\n  payload type {payload_type}, source {source}: datagrams {datagrams}, timestamps {first} to {last}"
+            "\n  payload type {payload_type}, source {source}: datagrams {datagrams}, \
+             timestamps {first} to {last}"
         )
     }
 }

@@ -1,9 +1,9 @@
 //! Packets that are left out, counted.
 ghost use Rattle.std.specs.Prelude.{◌≡◌, ◌++◌, ◌∷◌, ◌+◌, ◌-◌, ◌^◌, List, [], Some, length, min};
 ghost use Rattle.std.specs.Prelude.{if◌then◌else◌};
+ghost use Rattle.st_format.specs.Device.{capped};
 ghost use Rattle.recording_counts.specs.declared.omission.Omission.{Omission as Reason};
 ghost use Rattle.recording_counts.specs.LeftOut.{each_of, is_omission, left_out_of};
-ghost use Rattle.recording_counts.specs.Numbering.{capped};
 ghost use Rattle.recording_counts.specs.LeftOut.{left_out_text, reason_text, sum_of};
 
 use crate::omission::Omission;

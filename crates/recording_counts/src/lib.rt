@@ -39,7 +39,7 @@ pub use number_set::{NumberSet, Run};
 pub use numbering::number_after;
 pub use omission::Omission;
 pub use packet::{Packet, StreamKey, TimestampKey};
-pub use path_count::{Came, PathCount};
+pub use path_count::{Came, PathCount, greatest};
 pub use rtp_count::{RtpCount, is_rtcp};
 pub use rtp_stream::RtpStream;
 pub use rtp_streams::{MOST_STREAMS, Streams};

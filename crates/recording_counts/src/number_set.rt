@@ -2,7 +2,8 @@
 ghost use Rattle.std.specs.Prelude.{◌≡◌, ◌+◌, ◌^◌, ◌<◌, ℕ, false, not};
 ghost use Rattle.std.specs.Prelude.{IfOk, OnErr, OnOk, Some};
 ghost use Rattle.std.specs.FinSet as set;
-ghost use Rattle.recording_counts.specs.Runs.{Apart, AreRuns, Begins, HasOneMore, IsLastFrom, IsPut};
+ghost use Rattle.recording_counts.specs.Runs.{Apart, AreRuns, BeginsRun, HasOneMore, IsLastFrom};
+ghost use Rattle.recording_counts.specs.Runs.{IsPut};
 ghost use Rattle.recording_counts.specs.Runs.{begin_of, reaches};
 
 use std::alloc::{AllocError, Allocator};
@@ -176,7 +177,7 @@ fn put_between<A: Allocator + Clone>(
     first: u64,
     number: u64,
 ) -> Result<(), AllocError>
-    requires begins { Begins first number runs.old }
+    requires begins { BeginsRun first number runs.old }
     requires fits { number + 1 < 2 ^ 64 }
     ensures put { OnOk result ((limit : ℕ) → number + 1 < limit → Apart limit runs.old
         → Apart limit runs.new × HasOneMore runs.old number runs.new) }

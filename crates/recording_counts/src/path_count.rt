@@ -123,7 +123,7 @@ fn least(lowest: Option<u64>, number: u64) -> u64
 }
 
 /// The higher one of a number and the highest before it, if there is one.
-pub(crate) fn greatest(highest: Option<u64>, number: u64) -> u64
+pub fn greatest(highest: Option<u64>, number: u64) -> u64
     ensures { result ≡ option_map_or (λ h. max h number) highest number }
 {
     match highest {

@@ -4,7 +4,6 @@ use Rattle.std.proofs.Common.{refl, sym, ap, subst, ◌∙◌, append_assoc, ari
 use Rattle.std.specs.List.{AllByRecursion, AllZip, zip}
 use Rattle.flow.specs.declared.flows.Flows.{Flows}
 use Rattle.recording_counts.specs.LeftOut.{left_out_of}
-use Rattle.recording_counts.specs.Numbering.{capped}
 use Rattle.recording_counts.specs.declared.omission.Omission.{Omission}
 use Rattle.media_file.specs.Fronts.{front_text}
 use Rattle.media_file.specs.Records.{Entry, records_text}
@@ -15,6 +14,7 @@ use Rattle.run_outcome.specs.declared.line.Line.{Line}
 use Rattle.run_outcome.specs.declared.line.Line.TheVariants as line
 use Rattle.run_outcome.specs.declared.refusal.Refusal.{Refusal}
 use Rattle.st_format.specs.declared.path.Path.TheVariants.{A, B}
+use Rattle.st_format.specs.Device.{capped}
 use Rattle.recording_reader.specs.declared.fault.ReadingFault.{ReadingFault}
 use Rattle.recording_engines.specs.Files.{AllOpened, AllReady, AreLeftOut, IsAt, IsKnown}
 use Rattle.recording_engines.specs.Files.{IsReady, begun_of, ended_by, gave_by, next_of}

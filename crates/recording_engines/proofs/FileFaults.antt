@@ -1,8 +1,7 @@
 -- The first fault of a file, and what it is as a fault that ends a run.
-use Rattle.std.proofs.Common.{◌≡◌, ℕ, zero, suc, ◌-◌, ◌^◌, ◌≤◌, inl, inr, List, [], ◌∷◌, ◌++◌}
+use Rattle.std.proofs.Common.{◌≡◌, ℕ, zero, suc, ◌-◌, ◌≤◌, inl, inr, List, [], ◌∷◌, ◌++◌}
 use Rattle.std.proofs.Common.{Bool, true, false, Option, None, Some, Result, Ok, Err, length}
 use Rattle.std.proofs.Common.{append-nil, append_assoc, arith, refl, sym, ap, ◌∙◌}
-use Rattle.std.proofs.lemmas.Bool.{cases_lt}
 use Rattle.std.proofs.lemmas.List.{length-append}
 use Rattle.std.specs.Option.{option_map}
 use Rattle.std.specs.Prelude.{if◌then◌else◌}
@@ -13,16 +12,15 @@ use Rattle.media_file.specs.Records.{AllFit, Entry, Fits, record_text, records_t
 use Rattle.media_file.specs.declared.fault.FileFault.{FileFault}
 use Rattle.media_file.specs.declared.fault.FileFault.TheVariants as file
 use Rattle.media_file.proofs.Entries.{rest_again, rest_shrinks}
-use Rattle.pcap_file.specs.Runs.{fault_in, packets_in}
+use Rattle.pcap_file.specs.Runs.{fault_in, packets_in, most_packet}
 use Rattle.pcap_file.specs.declared.fault.RecordingFault.{RecordingFault}
 use Rattle.pcap_file.specs.declared.fault.RecordingFault.TheVariants as recording
-use Rattle.recording_reader.specs.Files.{CountsReadingFault, HasWrongPart, IfFile, IsFileFault}
+use Rattle.recording_reader.specs.Files.{HasWrongPart, IfFile, IsFileFault, records_of_file}
 use Rattle.recording_reader.specs.Files.{IsFrontFault, IsWholeBy, IsWholeCapture, IsWholeFile}
 use Rattle.recording_reader.specs.Files.{capture_records, records_behind, records_by}
-use Rattle.recording_reader.specs.Files.{records_of_file}
 use Rattle.recording_reader.specs.Kinds.{is_recording}
 use Rattle.recording_reader.specs.Opening.{CountsOpening}
-use Rattle.recording_reader.specs.Records.{records_of, room}
+use Rattle.recording_reader.specs.Records.{records_of}
 use Rattle.recording_reader.specs.declared.fault.FileOpeningFault.{FileOpeningFault}
 use Rattle.recording_reader.specs.declared.fault.FileOpeningFault.TheVariants.{NoFlows, NoMemory}
 use Rattle.recording_reader.specs.declared.fault.FileOpeningFault.TheVariants.{Reading}
@@ -33,8 +31,9 @@ use Rattle.run_outcome.specs.Refusing.{OfRefusal}
 use Rattle.run_outcome.specs.declared.fault.Fault.{Fault}
 use Rattle.run_outcome.specs.declared.fault.Fault.TheVariants.{Refused, Device, Memory}
 use Rattle.run_outcome.specs.declared.refusal.Refusal.{Refusal}
-use Rattle.st_format.specs.Device.{CountsOne, Failed}
-use Rattle.recording_engines.specs.Faults.{opening_fault, reading_fault}
+use Rattle.run_outcome.specs.LowerFaults.{reading_fault}
+use Rattle.run_outcome.proofs.Blaming.{reading_blames}
+use Rattle.recording_engines.specs.Faults.{opening_fault}
 use Rattle.recording_engines.specs.Joining.{Strand}
 use Rattle.recording_engines.specs.Strands.{fault_behind, fault_of_file, fault_past, fault_up_to}
 use Rattle.recording_engines.specs.Strands.{records_fault, strand_in}
@@ -123,7 +122,8 @@ of_recording f = option_map (λ (g : RecordingFault). Recording g) f
 
 abbrev fault_by_kind : Bool → List ℕ → Option ReadingFault
 fault_by_kind b octets =
-    if b then of_recording (fault_in room octets) else of_capture (fault_behind (front_at octets))
+    if b then of_recording (fault_in most_packet octets)
+    else of_capture (fault_behind (front_at octets))
 
 pub fault_is : (f : ReadingFault) (octets : List ℕ) → IsFileFault f octets
     → fault_of_file octets ≡ Some f
@@ -143,7 +143,7 @@ abbrev records_by_kind : Bool → Option Flows → List ℕ → List Entry
 records_by_kind b flows octets =
     if b then records_by flows octets else capture_records octets
 
-no_packets : (flows : Option Flows) (octets : List ℕ) → packets_in room octets ≡ []
+no_packets : (flows : Option Flows) (octets : List ℕ) → packets_in most_packet octets ≡ []
     → records_by flows octets ≡ []
 no_packets None octets is = refl
 no_packets (Some flows) octets is = ap (records_of flows) is
@@ -200,36 +200,6 @@ of_file P (Recording recording.BadTime) r told is = is
 of_file P (Recording recording.PacketTooLong) r told is = is
 of_file P (Recording recording.Packed) r told is = is
 of_file P (Recording recording.TooManyBlocks) r told is = is
-
-pub failed_one : (old new : ℕ) → CountsOne old new → Failed old new
-failed_one old new is = elim (cases_lt old (2 ^ 64 - 1)) [
-  | inl less ↦ inl (omega (arith, is, less))
-  | inr most ↦ inr (omega (arith, most))
-]
-
--- what a fault says of how often a source failed
-pub reading_blames : (f : ReadingFault) (old new : ℕ) → CountsReadingFault f old new
-    → Blames (counts old new ∷ []) (reading_fault f)
-reading_blames (Capture file.NoMemory) old new is = is
-reading_blames (Capture file.Device) old new is = failed_one old new is
-reading_blames (Capture file.BadName) old new is = is
-reading_blames (Capture file.BadVersion) old new is = is
-reading_blames (Capture file.Truncated) old new is = is
-reading_blames (Capture file.BadField) old new is = is
-reading_blames (Capture file.TrailingBytes) old new is = is
-reading_blames (Capture file.MixedGroup) old new is = is
-reading_blames (Capture file.TooManyRecords) old new is = is
-reading_blames (Recording recording.Device) old new is = failed_one old new is
-reading_blames (Recording recording.Truncated) old new is = is
-reading_blames (Recording recording.BadMagic) old new is = is
-reading_blames (Recording recording.BadVersion) old new is = is
-reading_blames (Recording recording.BadBlock) old new is = is
-reading_blames (Recording recording.BadInterface) old new is = is
-reading_blames (Recording recording.TooManyInterfaces) old new is = is
-reading_blames (Recording recording.BadTime) old new is = is
-reading_blames (Recording recording.PacketTooLong) old new is = is
-reading_blames (Recording recording.Packed) old new is = is
-reading_blames (Recording recording.TooManyBlocks) old new is = is
 
 -- so where a file isn't opened
 pub opening_blames : (f : FileOpeningFault) (old new : ℕ) → CountsOpening f old new

@@ -9,9 +9,9 @@ use Rattle.recording_reader.specs.declared.fault.ReadingFault.{ReadingFault}
 use Rattle.recording_reader.specs.declared.way.Standing.{Standing as Stand}
 use Rattle.recording_reader.specs.declared.way.Standing.TheVariants.{Reads, Ended}
 use Rattle.st_format.specs.Device.{Told}
+use Rattle.run_outcome.proofs.Blaming.{reading_blames}
 use Rattle.recording_engines.specs.Files.{HasAhead, ahead_by}
 use Rattle.recording_engines.specs.Steps.{Over, ReadsMore}
-use Rattle.recording_engines.proofs.FileFaults.{reading_blames}
 
 abbrev both : Option Flows → List ℕ → Option Flows × List ℕ
 both flows gave = (flows, gave)

@@ -14,8 +14,8 @@ use Rattle.recording_reader.specs.declared.way.Standing.TheVariants.{Reads, Ende
 use Rattle.run_outcome.specs.Moments.{WasRead}
 use Rattle.run_outcome.specs.declared.fault.Fault.TheVariants.{Refused}
 use Rattle.run_outcome.specs.declared.refusal.Refusal.{Refusal}
+use Rattle.run_outcome.specs.LowerFaults.{reading_fault}
 use Rattle.st_format.specs.History.{IsRead}
-use Rattle.recording_engines.specs.Faults.{reading_fault}
 use Rattle.recording_engines.specs.Files.{AllOpened, AreLeftOut, HasAhead, IsAt, IsKnown, IsReady}
 use Rattle.recording_engines.specs.Files.{ahead_by, begun_of, ended_by, gave_by, left_out_by}
 use Rattle.recording_engines.specs.Files.{next_of, standing_of, standings}

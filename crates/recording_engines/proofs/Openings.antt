@@ -15,10 +15,11 @@ use Rattle.run_outcome.specs.Moments.{WasRead}
 use Rattle.run_outcome.specs.Refusing.{OfRefusal}
 use Rattle.run_outcome.specs.declared.fault.Fault.{Fault}
 use Rattle.run_outcome.specs.declared.refusal.Refusal.{Refusal}
+use Rattle.run_outcome.specs.LowerFaults.{reading_fault}
 use Rattle.st_format.specs.History.{IsRead}
-use Rattle.recording_engines.specs.Faults.{opening_fault, reading_fault}
+use Rattle.recording_engines.specs.Faults.{opening_fault}
 use Rattle.recording_engines.specs.Files.{AllClosed, AllOpened, IsClosed, IsKnown, IsOpened}
-use Rattle.recording_engines.specs.Files.{ReadsOn, StopsAt, begun_of, ended_by, gave_by}
+use Rattle.recording_engines.specs.Files.{ReadsOn, ReadsToFault, begun_of, ended_by, gave_by}
 use Rattle.recording_engines.specs.Files.{standing_of}
 use Rattle.recording_engines.specs.Joining.{Strand}
 use Rattle.recording_engines.specs.Opened.{IsStopRefusal}
@@ -57,7 +58,7 @@ whole_over s f r over none =
 
 -- a fault before the first record
 pub first_stops : {A S : Type 0} (gave : S → List ℕ) (ended : S → Type 0) (fault : Fault)
-    (old new : ImportFile A S) → (standing_of old).entries ≡ [] → StopsAt fault old new
+    (old new : ImportFile A S) → (standing_of old).entries ≡ [] → ReadsToFault fault old new
     → IsKnown gave ended new
     → OfRefusal fault (IsStopRefusal
     (IsRead (begun_of new).1 (gave_by gave new) (ended_by ended new)) (begun_of new).0)
@@ -74,7 +75,7 @@ first_stops gave ended fault old new none stops known =
 
 pub first_refused : {A S V : Type 0} (gave : S → List ℕ) (ended : S → Type 0)
     (result : Result V Fault) (old new : ImportFile A S) → (standing_of old).entries ≡ []
-    → IfErr result (λ f. StopsAt f old new) → IsKnown gave ended new
+    → IfErr result (λ f. ReadsToFault f old new) → IsKnown gave ended new
     → IfErr result (λ f. OfRefusal f (IsStopRefusal
     (IsRead (begun_of new).1 (gave_by gave new) (ended_by ended new)) (begun_of new).0))
 first_refused gave ended (Ok v) old new none stops known = tt

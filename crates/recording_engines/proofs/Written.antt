@@ -8,16 +8,17 @@ use Rattle.std.specs.Prelude.{cond}
 use Rattle.media_file.specs.Records.{Entry, record_text, records_text}
 use Rattle.st_format.specs.declared.path.Path.{Path}
 use Rattle.st_format.specs.declared.path.Path.TheVariants.{A, B}
+use Rattle.st_format.specs.Turns.{is_path}
 use Rattle.run_outcome.specs.declared.fault.Fault.{Fault}
 use Rattle.run_outcome.specs.declared.fault.Fault.TheVariants.{Refused}
 use Rattle.run_outcome.specs.declared.refusal.Refusal.{Refusal}
 use Rattle.run_outcome.specs.declared.refusal.Refusal.TheVariants.{ImportRecords}
 use Rattle.recording_reader.specs.declared.fault.ReadingFault.{ReadingFault}
-use Rattle.recording_engines.specs.Files.{AllReady, Leads, ReadsOn, StopsAt, next_of}
+use Rattle.recording_engines.specs.Files.{AllReady, Leads, ReadsOn, ReadsToFault, next_of}
 use Rattle.recording_engines.specs.Files.{standing_of, standings}
 use Rattle.recording_engines.specs.Progress.{CountsPath, HasWritten}
 use Rattle.recording_engines.specs.Progress.{OneComes, StopsBy, StopsJoining, TakesOne}
-use Rattle.recording_engines.specs.Progress.{Writes, WritesNext, count_of, is_of}
+use Rattle.recording_engines.specs.Progress.{Writes, WritesNext, count_of}
 use Rattle.recording_engines.specs.Steps.{Ahead, AllFresh, Over, ReadsMore, Standing}
 use Rattle.recording_engines.specs.declared.file.ImportFile.{ImportFile}
 use Rattle.recording_engines.specs.declared.joining.Written.{Written}
@@ -65,7 +66,7 @@ takes_at fs k moment d f' old new w w' ready leads writes reads =
 pub stops_at : {X S : Type 0} (fs : List (ImportFile X S)) (k moment : ℕ) (d f' : ImportFile X S)
     (fault : Fault) (r : Refusal) (old new : List ℕ) (w w' : Written) → k < length fs
     → AllReady fs → Leads k moment fs → WritesNext (get_or fs k d) old new w w'
-    → StopsAt fault (get_or fs k d) f' → fault ≡ Refused r
+    → ReadsToFault fault (get_or fs k d) f' → fault ≡ Refused r
     → StopsBy r fs (set fs k f') old new
 stops_at fs k moment d f' fault r old new w w' lt ready leads writes stops told =
     let is = led k moment fs d ready leads in (
@@ -164,12 +165,12 @@ next_written f x old new w w' is writes e some =
     subst (λ (y : Entry). Writes (y ∷ []) old new w w') equal writes
 
 counts_a : (path : Path) (w w' : Written) → CountsPath path w w'
-    → w'.a ≡ w.a + (0 + cond (is_of A path) 1 0)
+    → w'.a ≡ w.a + (0 + cond (is_path A path) 1 0)
 counts_a A w w' counts = omega (arith, counts.0)
 counts_a B w w' counts = omega (arith, counts.0)
 
 counts_b : (path : Path) (w w' : Written) → CountsPath path w w'
-    → w'.b ≡ w.b + (0 + cond (is_of B path) 1 0)
+    → w'.b ≡ w.b + (0 + cond (is_path B path) 1 0)
 counts_b A w w' counts = omega (arith, counts.1)
 counts_b B w w' counts = omega (arith, counts.1)
 

@@ -7,7 +7,6 @@ use Rattle.recording_counts.specs.LeftOut.{left_out_of}
 use Rattle.recording_counts.specs.declared.left_out.LeftOut.{LeftOut}
 use Rattle.recording_counts.specs.declared.omission.Omission.{Omission}
 use Rattle.media_file.specs.Records.{Entry}
-use Rattle.recording_engines.specs.Faults.{reading_fault}
 use Rattle.recording_engines.specs.Steps.{Ahead, Coming, IsFresh, Over, ReadsMore, Standing}
 use Rattle.recording_engines.specs.declared.file.ImportFile.{ImportFile}
 use Rattle.recording_engines.specs.declared.file.ImportFile.TheVariants.{Closed, Open, Taken}
@@ -16,6 +15,7 @@ use Rattle.recording_reader.specs.declared.fault.ReadingFault.{ReadingFault}
 use Rattle.recording_reader.specs.declared.way.Standing.{Standing as Stand}
 use Rattle.recording_reader.specs.declared.way.Standing.TheVariants.{Reads, Ended, Failed}
 use Rattle.run_outcome.specs.declared.fault.Fault.{Fault}
+use Rattle.run_outcome.specs.LowerFaults.{reading_fault}
 
 -- ---- one file
 
@@ -130,7 +130,7 @@ pub record ReadsOn {A S : Type 0} (old new : ImportFile A S) : Type 0 where
   pub more : ReadsMore (standing_of old).entries (standing_of new).ahead (standing_of new).entries
 
 -- It was read on, to a fault, by which the run ends.
-pub record StopsAt {A S : Type 0} (fault : Fault) (old new : ImportFile A S) : Type 0 where
+pub record ReadsToFault {A S : Type 0} (fault : Fault) (old new : ImportFile A S) : Type 0 where
   pub reading : ReadingFault
   pub told : fault ≡ reading_fault reading
   pub at : IsAt reading new

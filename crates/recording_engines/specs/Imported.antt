@@ -8,7 +8,6 @@ use Rattle.flow.specs.FlowText.{IsFlowText}
 use Rattle.flow.specs.declared.flows.Flow.{Flow}
 use Rattle.flow.specs.declared.flows.Flows.{Flows}
 use Rattle.recording_counts.specs.LeftOut.{left_out_of}
-use Rattle.recording_counts.specs.Numbering.{capped}
 use Rattle.media_file.specs.Fronts.{front_text}
 use Rattle.media_file.specs.Records.{Entry, records_text}
 use Rattle.media_file.specs.declared.front.Version.TheVariants.{Two}
@@ -18,11 +17,12 @@ use Rattle.run_outcome.specs.declared.fault.Fault.TheVariants.{Refused}
 use Rattle.run_outcome.specs.declared.line.Line.TheVariants as line
 use Rattle.run_outcome.specs.declared.refusal.Refusal.{Refusal}
 use Rattle.run_outcome.specs.declared.refusal.Refusal.TheVariants as refusal
+use Rattle.run_outcome.specs.LowerFaults.{reading_fault}
 use Rattle.sdp_format.specs.Bytes.{lines}
 use Rattle.sdp_format.specs.Destinations.{AreFlows, IsFlowsFault}
 use Rattle.st_format.specs.declared.path.Path.TheVariants.{A, B}
+use Rattle.st_format.specs.Device.{capped}
 use Rattle.recording_reader.specs.declared.fault.ReadingFault.{ReadingFault}
-use Rattle.recording_engines.specs.Faults.{reading_fault}
 use Rattle.recording_engines.specs.Joining.{IsOver, JoinsTo, OneAt, OneHasMore, Strand}
 use Rattle.recording_engines.specs.Opened.{IsStopRefusal}
 use Rattle.recording_engines.specs.Progress.{count_of}

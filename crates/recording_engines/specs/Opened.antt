@@ -1,13 +1,13 @@
 -- Files that are not opened.
 use Rattle.std.specs.Prelude.{◌≡◌, ℕ, ◌⊎◌, List, [], Option, None, Some, true}
 use Rattle.flow.specs.declared.flows.Flows.{Flows}
-use Rattle.recording_engines.specs.Faults.{reading_fault}
 use Rattle.recording_engines.specs.Strands.{strand_in}
 use Rattle.recording_reader.specs.Kinds.{is_recording}
 use Rattle.recording_reader.specs.declared.fault.ReadingFault.{ReadingFault}
 use Rattle.run_outcome.specs.declared.fault.Fault.TheVariants.{Refused}
 use Rattle.run_outcome.specs.declared.refusal.Refusal.{Refusal}
 use Rattle.run_outcome.specs.declared.refusal.Refusal.TheVariants.{ImportPlaces}
+use Rattle.run_outcome.specs.LowerFaults.{reading_fault}
 
 -- The refusals of a file that is read by these flows: that it is a recording, and there are none;
 -- its first fault, which comes before all its records.

@@ -1,14 +1,15 @@
 -- What a run of `import` does from one record to the next.
-use Rattle.std.specs.Prelude.{◌≡◌, ℕ, ◌+◌, ◌⊎◌, Bool, true, false, List, [], ◌∷◌, ◌++◌, length}
+use Rattle.std.specs.Prelude.{◌≡◌, ℕ, ◌+◌, ◌⊎◌, List, [], ◌∷◌, ◌++◌, length}
 use Rattle.std.specs.Prelude.{None, Some}
 use Rattle.std.specs.List.{AllByRecursion, count_by}
 use Rattle.media_file.specs.Records.{Entry, records_text}
+use Rattle.st_format.specs.Turns.{is_path}
 use Rattle.st_format.specs.declared.path.Path.{Path}
 use Rattle.st_format.specs.declared.path.Path.TheVariants.{A, B}
 use Rattle.run_outcome.specs.declared.fault.Fault.TheVariants.{Refused}
 use Rattle.run_outcome.specs.declared.refusal.Refusal.{Refusal}
 use Rattle.run_outcome.specs.declared.refusal.Refusal.TheVariants.{ImportRecords}
-use Rattle.recording_engines.specs.Faults.{reading_fault}
+use Rattle.run_outcome.specs.LowerFaults.{reading_fault}
 use Rattle.recording_engines.specs.Files.{IsAt, IsReady, next_of, standings}
 use Rattle.recording_engines.specs.Steps.{Coming, HasJoined, Standing, Takes}
 use Rattle.recording_engines.specs.declared.file.ImportFile.{ImportFile}
@@ -17,14 +18,8 @@ use Rattle.recording_reader.specs.declared.fault.ReadingFault.{ReadingFault}
 
 -- ---- how many records of each path
 
-abbrev pub is_of : Path → Path → Bool
-is_of A A = true
-is_of A B = false
-is_of B A = false
-is_of B B = true
-
 abbrev pub count_of : Path → List Entry → ℕ
-count_of path entries = count_by (λ e. is_of path e.path) entries
+count_of path entries = count_by (λ e. is_path path e.path) entries
 
 -- one more of a path
 abbrev pub CountsPath : Path → Written → Written → Type 0

@@ -10,11 +10,10 @@ use Rattle.media_file.specs.Fronts.{front_at}
 use Rattle.media_file.specs.Reading.{rest_at}
 use Rattle.media_file.specs.Records.{Entry}
 use Rattle.media_file.specs.declared.fault.FileFault.{FileFault}
-use Rattle.pcap_file.specs.Runs.{fault_in}
+use Rattle.pcap_file.specs.Runs.{fault_in, most_packet}
 use Rattle.recording_engines.specs.Joining.{Strand}
 use Rattle.recording_reader.specs.Files.{omissions_of_file, records_of_file}
 use Rattle.recording_reader.specs.Kinds.{is_recording}
-use Rattle.recording_reader.specs.Records.{room}
 use Rattle.recording_reader.specs.declared.fault.ReadingFault.{ReadingFault}
 use Rattle.recording_reader.specs.declared.fault.ReadingFault.TheVariants.{Capture, Recording}
 
@@ -44,7 +43,7 @@ fault_behind (Err f) = Some f
 -- The first fault of a file, if it has one: of a recording of another tool, or of a capture.
 abbrev pub fault_of_file : List ℕ → Option ReadingFault
 fault_of_file octets =
-    if is_recording octets then option_map (λ f. Recording f) (fault_in room octets)
+    if is_recording octets then option_map (λ f. Recording f) (fault_in most_packet octets)
     else option_map (λ f. Capture f) (fault_behind (front_at octets))
 
 -- ---- the records of files

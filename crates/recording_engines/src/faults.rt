@@ -1,19 +1,9 @@
 //! Faults of files as faults that end a run.
 ghost use Rattle.std.specs.Prelude.{◌≡◌};
-ghost use Rattle.recording_engines.specs.Faults.{opening_fault, reading_fault};
+ghost use Rattle.recording_engines.specs.Faults.{opening_fault};
 
-use recording_reader::{FileOpeningFault, ReadingFault};
-use run_outcome::{Fault, Refusal, of_capture};
-
-/// A fault of a file.
-pub(crate) fn of_reading(fault: ReadingFault) -> Fault
-    ensures { result ≡ reading_fault fault }
-{
-    match fault {
-        ReadingFault::Capture(fault) => of_capture(fault),
-        ReadingFault::Recording(fault) => Fault::from(fault),
-    }
-}
+use recording_reader::FileOpeningFault;
+use run_outcome::{Fault, Refusal, of_reading};
 
 /// Why a file was not opened. Where there are no flows, both paths have one.
 pub(crate) fn of_opening(fault: FileOpeningFault) -> Fault

@@ -2,14 +2,13 @@
 ghost use Rattle.std.specs.Prelude.{◌≡◌, ◌≤◌, ◌∷◌, [], None, Some, IfErr, IfSome, MatchOption};
 ghost use Rattle.std.specs.Prelude.{OnOk, length};
 ghost use Rattle.std.specs.Option.{option_map};
-ghost use Rattle.recording_engines.specs.Files.{IsReading, ReadsOn, StopsAt, begun_of};
+ghost use Rattle.recording_engines.specs.Files.{IsReading, ReadsOn, ReadsToFault, begun_of};
 ghost use Rattle.recording_engines.specs.Files.{failures_by, is_recording_file, next_of, source_of};
 ghost use Rattle.recording_reader.specs.FileReader.{record_seen};
 ghost use Rattle.run_outcome.specs.Fault.{Accounts, counts};
 
-use crate::faults::of_reading;
 use recording_reader::{DatagramReader, RecordView};
-use run_outcome::Fault;
+use run_outcome::{Fault, of_reading};
 use st_format::ByteSource;
 use std::alloc::Allocator;
 
@@ -61,7 +60,6 @@ impl<A: Allocator, S: ByteSource> ImportFile<A, S> {
         }
     }
 
-    /// Its moment.
     pub(crate) fn next_moment(&self) -> Option<u64>
         ensures { result ≡ option_map (λ e. e.moment) (next_of self.now) }
     {
@@ -82,7 +80,7 @@ impl<A: Allocator, S: ByteSource> ImportFile<A, S> {
         requires { IsReading self.old }
         ensures begun { begun_of self.new ≡ begun_of self.old }
         ensures read { OnOk result (ReadsOn self.old self.new) }
-        ensures stopped { IfErr result (λ f. StopsAt f self.old self.new) }
+        ensures stopped { IfErr result (λ f. ReadsToFault f self.old self.new) }
         ensures failures { Accounts result (counts (failures_by S.failures self.old)
             (failures_by S.failures self.new) ∷ []) }
     {

@@ -43,7 +43,6 @@ fn sooner(first: Option<u64>, later: Option<(usize, u64)>, _count: usize) -> Opt
     }
 }
 
-/// The packets that were left out of a file.
 fn left_out_one<A: Allocator, S: ByteSource>(file: &ImportFile<A, S>) -> LeftOut
     ensures { result ≡ left_out_by file.now }
 {
@@ -54,7 +53,6 @@ fn left_out_one<A: Allocator, S: ByteSource>(file: &ImportFile<A, S>) -> LeftOut
     }
 }
 
-/// The packets that were left out of files.
 pub(crate) fn left_out<A: Allocator, S: ByteSource>(files: &[ImportFile<A, S>]) -> LeftOut
     ensures { (omissions : List Reason) → AreLeftOut files.now omissions
         → result ≡ left_out_of omissions }

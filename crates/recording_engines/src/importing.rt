@@ -32,10 +32,10 @@ use sdp_format::read_flows;
 use st_format::{ByteSink, ByteSource};
 use std::alloc::{AllocError, Allocator};
 
-/// What `import` is asked for, beside its files: the texts of the paths' flows. Where there is
-/// any, a path without one is not taken; and where there is none, the SDP says the flows.
+/// By which flows recordings are to be taken: the texts of the paths' flows. Where there is any, a
+/// path without one is not taken; and where there is none, the SDP says the flows.
 #[derive(Clone, Copy)]
-pub struct Importing<'a> {
+pub struct FlowWords<'a> {
     pub a: Option<&'a [u8]>,
     pub b: Option<&'a [u8]>,
 }
@@ -62,7 +62,7 @@ pub struct Importing<'a> {
 /// nothing is printed.
 pub fn import<A, D, S, K, O>(
     alloc: A,
-    wanted: Importing<'_>,
+    wanted: FlowWords<'_>,
     sdp: &mut D,
     files: &mut [ImportFile<A, S>],
     capture: &mut K,
@@ -171,7 +171,7 @@ fn flow_of(word: Option<&[u8]>) -> Result<Option<Flow>, Fault>
 /// # Errors
 ///
 /// `ImportFlow` where a word is no flow's; where there is no word, the SDP's fault.
-pub fn flows_of(wanted: Importing<'_>, said: &[u8]) -> Result<Flows, Fault>
+pub fn flows_of(wanted: FlowWords<'_>, said: &[u8]) -> Result<Flows, Fault>
     ensures asked { IfOk result (λ f. AsksFlows (option_copied wanted.entry.a)
         (option_copied wanted.entry.b) said.now f) }
     ensures refusal { IfErr result (λ f. OfRefusal f (IsFlowsRefusal
@@ -199,7 +199,6 @@ fn said_flows(said: &[u8]) -> Result<Flows, Fault>
     })
 }
 
-/// The flow of a place, where there is one.
 fn flow_at(flows: &[Flow], place: usize) -> Option<Flow>
     ensures { result ≡ slice_get flows.now place }
 {

@@ -11,13 +11,10 @@ ghost use Rattle.recording_engines.specs.Steps.{AllFresh};
 
 use crate::file::ImportFile;
 use crate::files::earliest;
-use media_file::write_record;
+use media_file::{MOST_RECORDS, write_record};
 use run_outcome::{Fault, Refusal};
 use st_format::{ByteSink, ByteSource, Path};
 use std::alloc::Allocator;
-
-/// The greatest number of records of a capture (own).
-const RECORDS: u64 = 16_777_216;
 
 /// How many records were written of each path.
 #[derive(Clone, Copy)]
@@ -27,7 +24,6 @@ pub(crate) struct Written {
 }
 
 impl Written {
-    /// One more.
     fn add(&mut self, path: Path)
         requires { self.old.a + self.old.b < 16777216 }
         ensures { CountsPath path self.old self.new }
@@ -39,7 +35,6 @@ impl Written {
     }
 }
 
-/// Writes the record that comes next of a file.
 fn write_next<A: Allocator, S: ByteSource, K: ByteSink>(
     file: &ImportFile<A, S>,
     capture: &mut K,
@@ -115,7 +110,7 @@ pub(crate) fn join<A: Allocator, S: ByteSource, K: ByteSink>(
         ∷ counts (K.failures capture.old) (K.failures capture.new) ∷ []) }
 {
     let mut written = Written { a: 0, b: 0 };
-    for turn in 0..RECORDS {
+    for turn in 0..MOST_RECORDS {
         let Some((place, _)) = earliest(files) else {
             return Ok(written);
         };

@@ -11,5 +11,5 @@ mod opening;
 mod ways;
 
 pub use file::ImportFile;
-pub use importing::{ImportCounts, Importing, flows_each, flows_of, import};
+pub use importing::{FlowWords, ImportCounts, flows_each, flows_of, import};
 pub use ways::ways_each;

@@ -1,5 +1,5 @@
 //! Opening files.
-ghost use Rattle.std.specs.Prelude.{◌≡◌, ◌≤◌, ◌∷◌, [], length, vec_len, IfErr, IfOk, OnOk};
+ghost use Rattle.std.specs.Prelude.{◌≡◌, ◌≤◌, ◌∷◌, [], length, IfErr, OnOk};
 ghost use Rattle.std.specs.List.{Any, sum_by, zip};
 ghost use Rattle.recording_engines.specs.Files.{AllClosed, AllOpened, IsClosed, IsNew, IsOpened};
 ghost use Rattle.recording_engines.specs.Files.{IsReady, IsUnread, begun_of, ended_by};
@@ -16,20 +16,10 @@ use crate::file::ImportFile;
 use crate::files::know;
 use flow::Flows;
 use recording_reader::DatagramReader;
-use run_outcome::Fault;
+use run_outcome::{Fault, room};
 use st_format::ByteSource;
-use std::alloc::{AllocError, Allocator};
+use std::alloc::Allocator;
 use std::mem;
-
-/// The octets that a capture's text has at most.
-const TEXT: usize = 65_535;
-
-/// Room for a capture's text.
-fn text_room<A: Allocator>(alloc: A) -> Result<Vec<u8, A>, AllocError>
-    ensures { IfOk result (λ v. vec_len v ≡ 65535) }
-{
-    vec![in alloc; 0u8; TEXT]
-}
 
 /// A file of this source with its reader, which takes it by flows where it is a recording; or with
 /// the source alone, and why it isn't opened.
@@ -144,7 +134,7 @@ pub(crate) fn open_all<A: Allocator + Copy, S: ByteSource + Drop>(
     ensures failures { Accounts result (counts (sum_by (failures_by S.failures) files.old)
         (sum_by (failures_by S.failures) files.new) ∷ []) }
 {
-    let mut room = text_room(alloc)?;
+    let mut room = room(alloc)?;
     let text = room.as_mut_slice();
     for place in 0..files.len() {
         begin_file(alloc, each[place], &mut files[place], text)?;

@@ -6,7 +6,7 @@ ghost use Rattle.recording_engines.specs.Ways.{AreWaysBy, IsWays};
 ghost use Rattle.run_outcome.specs.Fault.{Accounts};
 ghost use Rattle.run_outcome.specs.Refusing.{OfRefusal};
 
-use crate::importing::{Importing, flows_each, flows_of};
+use crate::importing::{FlowWords, flows_each, flows_of};
 use flow::Flows;
 use run_outcome::{Fault, Refusal};
 use std::alloc::{AllocError, Allocator};
@@ -19,7 +19,7 @@ use std::alloc::{AllocError, Allocator};
 /// `ImportFlow` where a word is no flow's, and that memory was wanted.
 pub fn ways_each<A: Allocator + Copy>(
     alloc: A,
-    wanted: Importing<'_>,
+    wanted: FlowWords<'_>,
     said: Option<&[u8]>,
     count: usize,
 ) -> Result<Vec<Result<Flows, Refusal>, A>, Fault>
@@ -56,7 +56,7 @@ fn taken<A: Allocator>(
 }
 
 /// The flows of a run, or the refusal that comes where a recording needs them.
-fn ways_of(wanted: Importing<'_>, said: Option<&[u8]>) -> Result<Result<Flows, Refusal>, Fault>
+fn ways_of(wanted: FlowWords<'_>, said: Option<&[u8]>) -> Result<Result<Flows, Refusal>, Fault>
     ensures ways { IfOk result (λ w. IsWays (option_copied wanted.entry.a)
         (option_copied wanted.entry.b) (option_copied said.entry) w) }
     ensures refusal { IfErr result (λ f. OfRefusal f (λ r.

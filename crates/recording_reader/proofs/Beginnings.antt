@@ -14,7 +14,7 @@ use Rattle.media_file.specs.Faults.{file_fault_origin}
 use Rattle.pcap_file.specs.Fields.{recording_fault_origin}
 use Rattle.media_file.proofs.FrontBehind.{few_cut}
 use Rattle.media_file.proofs.Gave.{fault_read}
-use Rattle.pcap_file.specs.Runs.{HasFailed, HasRead, fault_in, layout_seen, packets_in}
+use Rattle.pcap_file.specs.Runs.{HasFailed, HasRead, fault_in, layout_seen, packets_in, most_packet}
 use Rattle.pcap_file.specs.declared.fault.RecordingFault.{RecordingFault}
 use Rattle.st_format.proofs.Origins.{if_content_weaker}
 use Rattle.st_format.proofs.Gave.{grew_twice}
@@ -23,8 +23,7 @@ use Rattle.st_format.proofs.Histories.{since_is}
 use Rattle.recording_reader.specs.Files.{IsFrontFault}
 use Rattle.recording_reader.specs.Kinds.{is_magic, is_recording}
 use Rattle.recording_reader.specs.Opening.{HasGivenFour, StopsOpening}
-use Rattle.recording_reader.specs.Records.{room}
-use Rattle.recording_reader.specs.Ways.{Begins}
+use Rattle.recording_reader.specs.Ways.{BeginsWay}
 use Rattle.recording_reader.specs.declared.fault.FileOpeningFault.{FileOpeningFault}
 use Rattle.recording_reader.specs.declared.fault.FileOpeningFault.TheVariants as opening
 use Rattle.recording_reader.specs.declared.fault.ReadingFault.TheVariants as fault
@@ -100,7 +99,7 @@ module _ (before was four : List ℕ) (size : length four ≡ 4) (magic : is_mag
 
   pub capture_begins : (flows : Option Flows) (now : List ℕ) (ended : Type 0) (text : List ℕ)
       → GrewFrom was now → GaveValue front_at before now text
-      → Begins Capture flows before now ended text
+      → BeginsWay Capture flows before now ended text
   capture_begins flows now ended text grew gave =
       capture_first before now gave.part text ended
       (record {
@@ -128,20 +127,20 @@ module _ (before was four : List ℕ) (size : length four ≡ 4) (magic : is_mag
   )
 
   pub recording_stops : (flows : Option Flows) (now : List ℕ) (ended : Type 0)
-      (f : RecordingFault) → GrewFrom was now → HasFailed room before now ended f []
+      (f : RecordingFault) → GrewFrom was now → HasFailed most_packet before now ended f []
       → StopsOpening flows before now ended (opening.Reading (fault.Recording f))
   recording_stops flows now ended f grew failed octets read =
       let part = read_part before now failed.part ended octets failed.grown read in
       if_content_weaker recording_fault_origin f _ (IsFrontFault (fault.Recording f) octets)
       (λ says. (
         kind_read before was four true size magic is now ended octets grew read,
-        ap (packets_in room) part ∙ says.0,
-        ap (fault_in room) part ∙ says.1,
+        ap (packets_in most_packet) part ∙ says.0,
+        ap (fault_in most_packet) part ∙ says.1,
       )) (failed.says read.behind read.all)
 
   pub recording_begins : (t : Track) (now : List ℕ) (ended : Type 0) → GrewFrom was now
-      → HasRead room before now (layout_seen t.layout) [] → t.left_out ≡ left_out_of []
-      → Begins (Recording t) (Some t.flows) before now ended []
+      → HasRead most_packet before now (layout_seen t.layout) [] → t.left_out ≡ left_out_of []
+      → BeginsWay (Recording t) (Some t.flows) before now ended []
   recording_begins t now ended grew read none = (
     refl,
     refl,
@@ -159,12 +158,13 @@ pub begun_recording : {B E : Type 0} (way : B → Way) (len : B → ℕ) (r : Re
     (flows : Option Flows) (by : Flows) (before was now four text : List ℕ) (ended : Type 0)
     → flows ≡ Some by → was ≡ before ++ four
     → IfOk r (λ b. (since : List ℕ) → was ≡ since ++ four
-    → Begins (way b) (Some by) since now ended []) → IfOk r (λ b. len b ≡ 0)
-    → IfOk r (λ b. Begins (way b) flows before now ended (take (len b) text))
+    → BeginsWay (way b) (Some by) since now ended []) → IfOk r (λ b. len b ≡ 0)
+    → IfOk r (λ b. BeginsWay (way b) flows before now ended (take (len b) text))
 begun_recording way len (Ok b) flows by before was now four text ended some is begins none =
     let empty : take (len b) text ≡ [] = ap (λ (n : ℕ). take n text) none in
-    subst (λ (f : Option Flows). Begins (way b) f before now ended (take (len b) text)) (sym some)
-    (subst (λ (l : List ℕ). Begins (way b) (Some by) before now ended l) (sym empty)
+    subst (λ (f : Option Flows). BeginsWay (way b) f before now ended (take (len b) text))
+    (sym some)
+    (subst (λ (l : List ℕ). BeginsWay (way b) (Some by) before now ended l) (sym empty)
     (begins before is))
 begun_recording way len (Err e) flows by before was now four text ended some is begins none = tt
 
@@ -190,7 +190,7 @@ pub begun_capture : {B E : Type 0} (way : B → Way) (len : B → ℕ) (r : Resu
     (flows : Option Flows) (before was now four text : List ℕ) (ended : Type 0)
     → was ≡ before ++ four
     → IfOk r (λ b. (since : List ℕ) (by : Option Flows) → was ≡ since ++ four
-    → Begins (way b) by since now ended (take (len b) text))
-    → IfOk r (λ b. Begins (way b) flows before now ended (take (len b) text))
+    → BeginsWay (way b) by since now ended (take (len b) text))
+    → IfOk r (λ b. BeginsWay (way b) flows before now ended (take (len b) text))
 begun_capture way len (Ok b) flows before was now four text ended is begins = begins before flows is
 begun_capture way len (Err e) flows before was now four text ended is begins = tt

@@ -1,11 +1,11 @@
 -- Where a reader of a capture stands, and what is known of the capture then.
 use Rattle.std.proofs.Common.{◌≡◌, ℕ, List, [], ◌∷◌, ◌++◌, false, Option, None, Some, Result, Ok}
-use Rattle.std.proofs.Common.{Err, append_assoc, append-nil, refl, sym, ap, subst, ◌∙◌, inr, length}
+use Rattle.std.proofs.Common.{append_assoc, append-nil, refl, sym, ap, subst, ◌∙◌, inr, length}
 use Rattle.flow.specs.declared.flows.Flows.{Flows}
 use Rattle.recording_counts.specs.LeftOut.{left_out_of}
 use Rattle.recording_counts.specs.declared.omission.Omission.{Omission}
 use Rattle.media_file.specs.Fronts.{front_at}
-use Rattle.media_file.specs.Reading.{entries_by, entries_in, entries_up_to, fault_at, fault_by}
+use Rattle.media_file.specs.Reading.{entries_by, entries_in, entries_up_to, fault_at}
 use Rattle.media_file.specs.Reading.{rest_at}
 use Rattle.media_file.specs.Records.{AllFit, Entry, record_text, records_text}
 use Rattle.media_file.specs.declared.fault.FileFault.{FileFault}
@@ -13,7 +13,7 @@ use Rattle.media_file.specs.Faults.{file_fault_origin}
 use Rattle.st_format.proofs.Origins.{if_content_weaker}
 use Rattle.media_file.proofs.Cuts.{entries_front}
 use Rattle.media_file.proofs.Dues.{entries_none}
-use Rattle.media_file.proofs.GaveLoops.{front_fails}
+use Rattle.media_file.proofs.GaveLoops.{front_fails, by_fault}
 use Rattle.st_format.proofs.Gave.{grew_twice}
 use Rattle.media_file.proofs.Standings.{both_fit}
 use Rattle.media_file.proofs.Written.{records_append}
@@ -134,12 +134,6 @@ module _ (standing : Standing) (before now : List ℕ) (ended : Type 0) (text : 
           front_is flows octets s.front text s.is_front records s.fit (s.behind ++ read.behind)
           whole;
     }
-
--- a record that is none, at the front of octets
-by_fault : (f : FileFault) (r : Result (Entry × List ℕ) FileFault) → fault_by r ≡ Some f
-    → r ≡ Err f
-by_fault f (Ok x) is = cc
-by_fault f (Err e) is = cc
 
 no_entries : (f : FileFault) (octets : List ℕ) → fault_at octets ≡ Some f
     → entries_in octets ≡ []

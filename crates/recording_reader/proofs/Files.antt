@@ -6,12 +6,12 @@ use Rattle.flow.specs.declared.flows.Flows.{Flows}
 use Rattle.recording_counts.specs.declared.omission.Omission.{Omission}
 use Rattle.media_file.specs.Fronts.{front_at}
 use Rattle.media_file.specs.Reading.{entries_in}
-use Rattle.pcap_file.specs.Runs.{packets_in}
+use Rattle.pcap_file.specs.Runs.{packets_in, most_packet}
 use Rattle.recording_reader.specs.Files.{IsWholeBy, IsWholeFile, capture_records, omissions_by}
 use Rattle.recording_reader.specs.Files.{omissions_of_file, records_behind, records_by}
 use Rattle.recording_reader.specs.Files.{records_of_file, text_before, text_of_file}
 use Rattle.recording_reader.specs.Kinds.{is_recording}
-use Rattle.recording_reader.specs.Records.{omissions_of, records_in, room}
+use Rattle.recording_reader.specs.Records.{omissions_of, records_in}
 
 -- ---- a capture
 
@@ -50,7 +50,7 @@ module _ (flows : Flows) (octets : List ℕ) (kind : is_recording octets ≡ tru
       ap (λ (b : Bool). if b then records_by (Some flows) octets else capture_records octets) kind
 
   pub recording_omissions : omissions_of_file (Some flows) octets
-      ≡ omissions_of flows (packets_in room octets)
+      ≡ omissions_of flows (packets_in most_packet octets)
   recording_omissions =
       ap (λ (b : Bool). let none : List Omission = [] in
       if b then omissions_by (Some flows) octets else none) kind

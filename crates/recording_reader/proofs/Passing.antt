@@ -12,24 +12,24 @@ use Rattle.pcap_file.specs.PcapReading.{Recorded}
 use Rattle.pcap_file.specs.declared.fault.RecordingFault.{RecordingFault}
 use Rattle.pcap_file.specs.declared.recording.Layout.{Layout}
 use Rattle.pcap_file.specs.declared.recording.Packet.{Packet}
-use Rattle.pcap_file.specs.Runs.{HasRead, ReadsEnd, ReadsFault}
+use Rattle.pcap_file.specs.Runs.{HasRead, ReadsEnd, ReadsFault, most_packet}
 use Rattle.pcap_file.specs.Runs.{ReadsPacket, Seen, layout_seen, packet_seen}
 use Rattle.recording_reader.specs.Found.{entry_at}
 use Rattle.recording_reader.specs.Reading.{FailsNext, ReadsToNext}
-use Rattle.recording_reader.specs.Records.{omission_of, omissions_of, record_of, records_of, room}
+use Rattle.recording_reader.specs.Records.{omission_of, omissions_of, record_of, records_of}
 use Rattle.recording_reader.specs.declared.found.Found.{Found}
 
 -- Packets were read that have no record, and they are counted.
 pub record HasPassed (flows : Flows) (before now : List ℕ) (seen : Seen) (packets : List Recorded)
     (count : LeftOut) : Type 0 where
   pub more : List Recorded
-  pub read : HasRead room before now seen (packets ++ more)
+  pub read : HasRead most_packet before now seen (packets ++ more)
   pub left : count ≡ left_out_of (omissions_of flows (packets ++ more))
   pub none : records_of flows more ≡ []
 
 abbrev pub Passes : Flows → List ℕ → List ℕ → Seen → Seen → LeftOut → LeftOut → Type 0
 Passes flows old new was now left left' =
-    (before : List ℕ) (packets : List Recorded) → HasRead room before old was packets
+    (before : List ℕ) (packets : List Recorded) → HasRead most_packet before old was packets
     → left ≡ left_out_of (omissions_of flows packets) → HasPassed flows before new now packets left'
 
 pub passed_none : (flows : Flows) (old : List ℕ) (was : Seen) (left : LeftOut)
@@ -38,7 +38,7 @@ passed_none flows old was left before packets read is =
     let same = sym (append-nil packets) in
     record {
       more = [];
-      read = subst (λ (l : List Recorded). HasRead room before old was l) same read;
+      read = subst (λ (l : List Recorded). HasRead most_packet before old was l) same read;
       left = subst (λ (l : List Recorded). left ≡ left_out_of (omissions_of flows l)) same is;
       none = refl;
     }
@@ -71,7 +71,7 @@ CountsOmission w left left' =
 
 pub passed_more : (flows : Flows) (old now new : List ℕ) (was seen seen' : Seen)
     (left left' left'' : LeftOut) (p : Recorded) (w : Omission)
-    → Passes flows old now was seen left left' → ReadsPacket room now new seen seen' p
+    → Passes flows old now was seen left left' → ReadsPacket most_packet now new seen seen' p
     → record_of flows p ≡ None → omission_of flows p ≡ Some w → CountsOmission w left' left''
     → Passes flows old new was seen' left left''
 passed_more flows old now new was seen seen' left left' left'' p w passed reads none why counts before
@@ -80,7 +80,7 @@ passed_more flows old now new was seen seen' left left' left'' p w passed reads 
     let same = append_assoc packets had.more (p ∷ []) in
     record {
       more = had.more ++ p ∷ [];
-      read = subst (λ (l : List Recorded). HasRead room before new seen' l) same
+      read = subst (λ (l : List Recorded). HasRead most_packet before new seen' l) same
           (reads before (packets ++ had.more) had.read);
       left = counts (omissions_of flows (packets ++ had.more)) had.left
           ∙ ap left_out_of (sym (left_more flows packets had.more p (Some w) why));
@@ -90,7 +90,7 @@ passed_more flows old now new was seen seen' left left' left'' p w passed reads 
 pub passed_found : (flows : Flows) (old now new : List ℕ) (ended : Type 0) (was seen : Layout)
     (middle : Seen) (left left' : LeftOut) (p : Packet) (f : Found) (buffer : List ℕ)
     → Passes flows old now (layout_seen was) middle left left'
-    → ReadsPacket room now new middle (layout_seen seen) (packet_seen p buffer)
+    → ReadsPacket most_packet now new middle (layout_seen seen) (packet_seen p buffer)
     → record_of flows (packet_seen p buffer) ≡ Some (entry_at f buffer)
     → omission_of flows (packet_seen p buffer) ≡ None
     → ReadsToNext flows (Some f) buffer old new ended was seen left left'
@@ -101,7 +101,7 @@ passed_found flows old now new ended was seen middle left left' p f buffer passe
     let same = append_assoc packets had.more (q ∷ []) in
     record {
       more = had.more ++ q ∷ [];
-      read = subst (λ (l : List Recorded). HasRead room before new (layout_seen seen) l) same
+      read = subst (λ (l : List Recorded). HasRead most_packet before new (layout_seen seen) l) same
           (reads before (packets ++ had.more) had.read);
       left_is = had.left
           ∙ ap left_out_of
@@ -113,7 +113,7 @@ passed_found flows old now new ended was seen middle left left' p f buffer passe
 pub passed_end : (flows : Flows) (old now new : List ℕ) (ended : Type 0) (was seen : Layout)
     (middle : Seen) (left left' : LeftOut) (buffer : List ℕ)
     → Passes flows old now (layout_seen was) middle left left'
-    → ReadsEnd room now new ended middle
+    → ReadsEnd most_packet now new ended middle
     → ReadsToNext flows None buffer old new ended was seen left left'
 passed_end flows old now new ended was seen middle left left' buffer passed reads before packets read
     is =
@@ -128,7 +128,7 @@ passed_end flows old now new ended was seen middle left left' buffer passed read
 pub passed_fault : (flows : Flows) (old now new : List ℕ) (ended : Type 0) (was : Layout)
     (middle : Seen) (left left' : LeftOut) (f : RecordingFault)
     → Passes flows old now (layout_seen was) middle left left'
-    → ReadsFault room now new ended middle f
+    → ReadsFault most_packet now new ended middle f
     → FailsNext flows old new ended was f left left'
 passed_fault flows old now new ended was middle left left' f passed reads before packets read is =
     let had = passed before packets read is in

@@ -9,7 +9,7 @@ use Rattle.recording_counts.specs.declared.omission.Omission.{Omission}
 use Rattle.media_file.specs.Records.{Entry}
 use Rattle.pcap_file.specs.Fields.{IfContent, IsContent}
 use Rattle.pcap_file.specs.PcapReading.{Recorded}
-use Rattle.pcap_file.specs.Runs.{HasRead, fault_in, layout_seen, packets_behind}
+use Rattle.pcap_file.specs.Runs.{HasRead, fault_in, layout_seen, packets_behind, most_packet}
 use Rattle.pcap_file.specs.Runs.{packets_in}
 use Rattle.pcap_file.specs.declared.fault.RecordingFault.{RecordingFault}
 use Rattle.pcap_file.specs.declared.fault.RecordingFault.TheVariants.{Device, Truncated, BadMagic}
@@ -30,7 +30,7 @@ use Rattle.recording_reader.specs.Files.{text_of_file}
 use Rattle.recording_reader.specs.Found.{entry_at}
 use Rattle.recording_reader.specs.Kinds.{is_recording}
 use Rattle.recording_reader.specs.Reading.{FailsNext, ReadsToNext}
-use Rattle.recording_reader.specs.Records.{omissions_of, record_of, records_of, room}
+use Rattle.recording_reader.specs.Records.{omissions_of, record_of, records_of}
 use Rattle.recording_reader.specs.Ways.{HasBegun, HasReadPackets, RecordingStands}
 use Rattle.recording_reader.specs.declared.fault.ReadingFault.TheVariants as fault
 use Rattle.recording_reader.specs.declared.found.Found.{Found}
@@ -92,7 +92,7 @@ read_part before now part ended octets grown read =
 
 -- octets of a recording whose packets are these
 have_records : (flows : Flows) (octets : List ℕ) (packets : List Recorded) (records : List Entry)
-    (left : LeftOut) → is_recording octets ≡ true → packets_in room octets ≡ packets
+    (left : LeftOut) → is_recording octets ≡ true → packets_in most_packet octets ≡ packets
     → records ≡ records_of flows packets → left ≡ left_out_of (omissions_of flows packets)
     → HaveFileRecords (Some flows) octets records left
 have_records flows octets packets records left kind are is why = record {
@@ -105,7 +105,7 @@ have_records flows octets packets records left kind are is why = record {
 -- octets of a recording whose packets begin with these
 are_first : (flows : Flows) (octets : List ℕ) (packets more : List Recorded)
     (records : List Entry) → is_recording octets ≡ true
-    → packets_in room octets ≡ packets ++ more
+    → packets_in most_packet octets ≡ packets ++ more
     → records ≡ records_of flows packets → AreFirst records (records_of_file (Some flows) octets)
 are_first flows octets packets more records kind are is = (
   records_of flows more,
@@ -124,17 +124,18 @@ known_by : (flows : Flows) (standing : Standing) (layout : Layout) (before now :
     → IsKnownBy (Some flows) standing octets records left
 known_by flows Reads layout before now ended packets records left begun read are why octets told =
     let part = read_part before now read.part ended octets read.grown told in
-    are_first flows octets packets (packets_behind room (layout_seen layout) told.behind) records
+    are_first flows octets packets (packets_behind most_packet (layout_seen layout) told.behind)
+    records
     (begun_kind before now ended octets begun told)
-    (ap (packets_in room) part ∙ read.packets_are told.behind) are
+    (ap (packets_in most_packet) part ∙ read.packets_are told.behind) are
 known_by flows Ended layout before now ended packets records left begun read are why octets told =
     let kind = begun_kind before now ended octets begun told in
     let part : octets ≡ read.part =
     read_part before now read.part ended octets read.grown told
     ∙ ap (λ (l : List ℕ). read.part ++ l) (told.all read.over) ∙ append-nil read.part in (
       have_records flows octets packets records left kind
-          (ap (packets_in room) part ∙ read.packets_are) are why,
-      recording_whole flows octets kind (ap (fault_in room) part ∙ read.none),
+          (ap (packets_in most_packet) part ∙ read.packets_are) are why,
+      recording_whole flows octets kind (ap (fault_in most_packet) part ∙ read.none),
     )
 known_by flows (Failed (fault.Capture f)) layout before now ended packets records left begun read are
     why octets told =
@@ -145,12 +146,12 @@ known_by flows (Failed (fault.Recording f)) layout before now ended packets reco
     let part = read_part before now read.part ended octets read.grown told in
     let begins = read.begins told.behind in (
       are_first flows octets packets begins.0 records kind
-          (ap (packets_in room) part ∙ begins.1) are,
+          (ap (packets_in most_packet) part ∙ begins.1) are,
       if_content_weaker recording_fault_origin f _ _
           (λ says. (
             have_records flows octets packets records left kind
-                (ap (packets_in room) part ∙ says.0) are why,
-            (kind, ap (fault_in room) part ∙ says.1),
+                (ap (packets_in most_packet) part ∙ says.0) are why,
+            (kind, ap (fault_in most_packet) part ∙ says.1),
           )) (read.says told.behind told.all),
     )
 
@@ -158,7 +159,7 @@ known_by flows (Failed (fault.Recording f)) layout before now ended packets reco
 read_packets : (standing : Standing) (layout : Layout) (before now : List ℕ) (ended : Type 0)
     (packets : List Recorded) → standing ≡ Reads
     → HasReadPackets standing layout before now ended packets
-    → HasRead room before now (layout_seen layout) packets
+    → HasRead most_packet before now (layout_seen layout) packets
 read_packets standing layout before now ended packets is read =
     subst (λ (s : Standing). HasReadPackets s layout before now ended packets) is read
 
@@ -166,14 +167,14 @@ read_packets standing layout before now ended packets is read =
 packets_given : (standing : Standing) (layout : Layout) (before now : List ℕ) (ended : Type 0)
     (packets : List Recorded) → IsExact standing
     → HasReadPackets standing layout before now ended packets
-    → packets_in room (since before now) ≡ packets
+    → packets_in most_packet (since before now) ≡ packets
 packets_given Reads layout before now ended packets exact read =
     packets_now before now (layout_seen layout) packets read
 packets_given Ended layout before now ended packets exact read =
-    ap (packets_in room) (since_is before now read.part read.grown) ∙ read.packets_are
+    ap (packets_in most_packet) (since_is before now read.part read.grown) ∙ read.packets_are
 packets_given (Failed (fault.Capture f)) layout before now ended packets exact read = absurd read
 packets_given (Failed (fault.Recording f)) layout before now ended packets exact read =
-    ap (packets_in room)
+    ap (packets_in most_packet)
     (since_is before now read.part read.grown ∙ sym (append-nil read.part))
     ∙ (content_holds f _ exact (read.says [] (λ over. refl))).0
 
@@ -210,7 +211,7 @@ module _ (flows : Flows) (standing : Standing) (layout : Layout) (before now : L
 -- ---- one call later
 
 pub recording_first : (flows : Flows) (layout : Layout) (before now : List ℕ) (ended : Type 0)
-    (left : LeftOut) → HasBegun before now → HasRead room before now (layout_seen layout) []
+    (left : LeftOut) → HasBegun before now → HasRead most_packet before now (layout_seen layout) []
     → left ≡ left_out_of [] → RecordingStands flows Reads layout before now ended [] left
 recording_first flows layout before now ended left begun read none = record {
   begun = begun;
@@ -240,7 +241,7 @@ module _ (flows : Flows) (standing : Standing) (was layout : Layout) (before old
     (ended ended' : Type 0) (records : List Entry) (left left' : LeftOut) (reads : standing ≡ Reads)
     (stood : RecordingStands flows standing was before old ended records left)
     (more : GrewFrom old new) where
-  had : HasRead room before old (layout_seen was) stood.packets
+  had : HasRead most_packet before old (layout_seen was) stood.packets
   had = read_packets standing was before old ended stood.packets reads stood.read
 
   -- one record more

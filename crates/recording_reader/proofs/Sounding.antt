@@ -15,7 +15,7 @@ use Rattle.recording_reader.specs.Files.{records_of_file, text_of_file}
 use Rattle.recording_reader.specs.Found.{entry_at}
 use Rattle.recording_reader.specs.Reading.{entry_there}
 use Rattle.recording_reader.specs.Sound.{IsSound}
-use Rattle.recording_reader.specs.Ways.{Begins, FailsNextBy, FindsNext, HasRoom, IsAtHand}
+use Rattle.recording_reader.specs.Ways.{BeginsWay, FailsNextBy, FindsNext, HasRoom, IsAtHand}
 use Rattle.recording_reader.specs.Ways.{WayStands, is_recording_way}
 use Rattle.recording_reader.specs.declared.came.Came.{Came}
 use Rattle.recording_reader.specs.declared.fault.ReadingFault.{ReadingFault}
@@ -49,7 +49,7 @@ NotesOne came came' path = (records : List Entry) (e : Entry) → e.path ≡ pat
 
 -- a reader that was just opened
 module _ (way : Way) (flows : Option Flows) (before now : List ℕ) (ended : Type 0) (text : List ℕ)
-    (begins : Begins way flows before now ended text) where
+    (begins : BeginsWay way flows before now ended text) where
   pub text_first : text_of_file (since before now) ≡ text
   text_first = way_text way flows Reads before now ended text [] begins
 

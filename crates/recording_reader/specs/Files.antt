@@ -15,19 +15,18 @@ use Rattle.media_file.specs.Records.{AllFit, Entry, records_text}
 use Rattle.media_file.specs.declared.fault.FileFault.{FileFault}
 use Rattle.pcap_file.specs.Fields.{CountsFault as CountsRecordingFault, IfContent as IfRecording}
 use Rattle.pcap_file.specs.RecordingFaults.{recording_fault_number}
-use Rattle.pcap_file.specs.Runs.{fault_in, packets_in}
+use Rattle.pcap_file.specs.Runs.{fault_in, packets_in, most_packet}
 use Rattle.pcap_file.specs.declared.fault.RecordingFault.{RecordingFault}
 use Rattle.pcap_file.specs.declared.fault.RecordingFault.TheVariants.{Device}
 use Rattle.recording_reader.specs.Kinds.{is_recording}
-use Rattle.recording_reader.specs.Records.{omissions_of, records_in, room}
+use Rattle.recording_reader.specs.Records.{omissions_of, records_in}
 use Rattle.recording_reader.specs.declared.fault.ReadingFault.{ReadingFault}
 use Rattle.recording_reader.specs.declared.fault.ReadingFault.TheVariants.{Capture, Recording}
-use Rattle.st_format.specs.Turns.{came_of}
+use Rattle.st_format.specs.Turns.{came_of, is_path}
 use Rattle.st_format.specs.declared.device.SourceFault.{SourceFault}
 use Rattle.st_format.specs.declared.device.SourceFault.TheVariants.{Content}
 use Rattle.st_format.specs.declared.device.SourceFault.TheVariants.{Device as FailedDevice}
 use Rattle.st_format.specs.declared.path.Path.{Path}
-use Rattle.st_format.specs.declared.path.Path.TheVariants.{A, B}
 
 -- ---- its records
 
@@ -55,13 +54,6 @@ records_of_file flows octets =
 abbrev pub datagrams_of : List Entry → List (Path × List ℕ)
 datagrams_of records = came_of (map due_of_entry records)
 
--- two paths are one
-abbrev pub is_path : Path → Path → Bool
-is_path A A = true
-is_path A B = false
-is_path B A = false
-is_path B B = true
-
 -- a record came by this path
 abbrev pub has_path : Path → List Entry → Bool
 has_path path records = list_any (λ e. is_path path e.path) records
@@ -73,7 +65,7 @@ datagrams_of_file flows octets = datagrams_of (records_of_file flows octets)
 -- why packets of a recording have no record
 abbrev pub omissions_by : Option Flows → List ℕ → List Omission
 omissions_by None octets = []
-omissions_by (Some flows) octets = omissions_of flows (packets_in room octets)
+omissions_by (Some flows) octets = omissions_of flows (packets_in most_packet octets)
 
 -- of a capture each record is taken
 abbrev pub omissions_of_file : Option Flows → List ℕ → List Omission
@@ -113,13 +105,14 @@ HasWrongPart octets f = (front_at octets ≡ Err f)
 -- the first fault of a file
 abbrev pub IsFileFault : ReadingFault → List ℕ → Type 0
 IsFileFault (Capture f) octets = (is_recording octets ≡ false) × HasWrongPart octets f
-IsFileFault (Recording f) octets = (is_recording octets ≡ true) × (fault_in room octets ≡ Some f)
+IsFileFault (Recording f) octets =
+    (is_recording octets ≡ true) × (fault_in most_packet octets ≡ Some f)
 
 -- one that stands before all records
 abbrev pub IsFrontFault : ReadingFault → List ℕ → Type 0
 IsFrontFault (Capture f) octets = (is_recording octets ≡ false) × (front_at octets ≡ Err f)
 IsFrontFault (Recording f) octets = (is_recording octets ≡ true)
-    × (packets_in room octets ≡ []) × (fault_in room octets ≡ Some f)
+    × (packets_in most_packet octets ≡ []) × (fault_in most_packet octets ≡ Some f)
 
 -- Octets begin with a capture's front, which has this text, and with the text of these records.
 pub record HasFirstRecords (text : List ℕ) (records : List Entry) (octets : List ℕ) : Type 0 where
@@ -136,7 +129,7 @@ pub record IsWholeCapture (octets : List ℕ) : Type 0 where
 
 -- a file is whole: it has no fault
 abbrev pub IsWholeBy : Bool → List ℕ → Type 0
-IsWholeBy true octets = fault_in room octets ≡ None
+IsWholeBy true octets = fault_in most_packet octets ≡ None
 IsWholeBy false octets = IsWholeCapture octets
 
 abbrev pub IsWholeFile : List ℕ → Type 0

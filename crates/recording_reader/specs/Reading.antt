@@ -5,11 +5,11 @@ use Rattle.recording_counts.specs.LeftOut.{left_out_of}
 use Rattle.recording_counts.specs.declared.left_out.LeftOut.{LeftOut}
 use Rattle.media_file.specs.Records.{Entry}
 use Rattle.pcap_file.specs.PcapReading.{Recorded}
-use Rattle.pcap_file.specs.Runs.{HasFailed, HasRead, HasReadAll, layout_seen}
+use Rattle.pcap_file.specs.Runs.{HasFailed, HasRead, HasReadAll, layout_seen, most_packet}
 use Rattle.pcap_file.specs.declared.fault.RecordingFault.{RecordingFault}
 use Rattle.pcap_file.specs.declared.recording.Layout.{Layout}
 use Rattle.recording_reader.specs.Found.{entry_at}
-use Rattle.recording_reader.specs.Records.{omissions_of, records_of, room}
+use Rattle.recording_reader.specs.Records.{omissions_of, records_of}
 use Rattle.recording_reader.specs.declared.found.Found.{Found}
 
 -- the record that was found in a buffer, if one was
@@ -19,9 +19,9 @@ entry_there (Some f) buffer = Some (entry_at f buffer)
 
 -- packets were read of a source: up to here where something was found, and else all
 abbrev pub HasReadTo : Option Found → List ℕ → List ℕ → Type 0 → Layout → List Recorded → Type 0
-HasReadTo None before now ended layout packets = HasReadAll room before now ended packets
+HasReadTo None before now ended layout packets = HasReadAll most_packet before now ended packets
 HasReadTo (Some f) before now ended layout packets =
-    HasRead room before now (layout_seen layout) packets
+    HasRead most_packet before now (layout_seen layout) packets
 
 -- Behind these packets others were read, of which the last one has the record that was found, if
 -- any was, and no other has one. It is counted why packets have none.
@@ -37,7 +37,7 @@ abbrev pub ReadsToNext : Flows → Option Found → List ℕ → List ℕ → Li
     → Layout → LeftOut → LeftOut → Type 0
 ReadsToNext flows found buffer old new ended was layout left left' =
     (before : List ℕ) (packets : List Recorded)
-    → HasRead room before old (layout_seen was) packets
+    → HasRead most_packet before old (layout_seen was) packets
     → left ≡ left_out_of (omissions_of flows packets)
     → ReadsTo flows found buffer before new ended layout left' packets
 
@@ -45,7 +45,7 @@ ReadsToNext flows found buffer old new ended was layout left left' =
 pub record FailsBehind (flows : Flows) (before now : List ℕ) (ended : Type 0) (f : RecordingFault)
     (left : LeftOut) (packets : List Recorded) : Type 0 where
   pub more : List Recorded
-  pub failed : HasFailed room before now ended f (packets ++ more)
+  pub failed : HasFailed most_packet before now ended f (packets ++ more)
   pub left_is : left ≡ left_out_of (omissions_of flows (packets ++ more))
   pub none : records_of flows more ≡ []
 
@@ -54,6 +54,6 @@ abbrev pub FailsNext : Flows → List ℕ → List ℕ → Type 0 → Layout →
     → LeftOut → Type 0
 FailsNext flows old new ended was f left left' =
     (before : List ℕ) (packets : List Recorded)
-    → HasRead room before old (layout_seen was) packets
+    → HasRead most_packet before old (layout_seen was) packets
     → left ≡ left_out_of (omissions_of flows packets)
     → FailsBehind flows before new ended f left' packets

@@ -10,13 +10,9 @@ use Rattle.media_file.specs.Records.{Entry}
 use Rattle.pcap_file.specs.declared.datagram.NoDatagram.{NoDatagram}
 use Rattle.pcap_file.specs.PacketDatagram.{datagram_in}
 use Rattle.pcap_file.specs.PcapReading.{Recorded}
-use Rattle.pcap_file.specs.Runs.{packets_in}
+use Rattle.pcap_file.specs.Runs.{packets_in, most_packet}
 use Rattle.pcap_file.specs.Udp.{Datagram}
 use Rattle.st_format.specs.declared.path.Path.{Path}
-
--- the octets of a packet or a block that there is room for
-abbrev pub room : ℕ
-room = 1048576
 
 -- a packet's moment: its time in nanoseconds since 1970, or 0 where the recording doesn't say one
 abbrev pub moment_of : Option ℕ → ℕ
@@ -66,4 +62,4 @@ omissions_of flows packets = filter_map (omission_of flows) packets
 
 -- the records of a recording's octets, up to their end or their first fault
 abbrev pub records_in : Flows → List ℕ → List Entry
-records_in flows octets = records_of flows (packets_in room octets)
+records_in flows octets = records_of flows (packets_in most_packet octets)

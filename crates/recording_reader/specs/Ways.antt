@@ -7,13 +7,13 @@ use Rattle.recording_counts.specs.declared.left_out.LeftOut.{LeftOut}
 use Rattle.media_file.specs.Fronts.{front_at}
 use Rattle.media_file.specs.Records.{AllFit, Entry, records_text}
 use Rattle.pcap_file.specs.PcapReading.{Recorded}
-use Rattle.pcap_file.specs.Runs.{HasFailed, HasRead, HasReadAll, layout_seen}
+use Rattle.pcap_file.specs.Runs.{HasFailed, HasRead, HasReadAll, layout_seen, most_packet}
 use Rattle.pcap_file.specs.declared.recording.Layout.{Layout}
 use Rattle.recording_reader.specs.Capturing.{FailsRecord, IsNoRecord, ReadsRecord}
 use Rattle.recording_reader.specs.Found.{entry_at}
 use Rattle.recording_reader.specs.Kinds.{is_recording}
 use Rattle.recording_reader.specs.Reading.{FailsNext, ReadsToNext}
-use Rattle.recording_reader.specs.Records.{omissions_of, records_of, room}
+use Rattle.recording_reader.specs.Records.{omissions_of, records_of}
 use Rattle.recording_reader.specs.declared.fault.ReadingFault.{ReadingFault}
 use Rattle.recording_reader.specs.declared.fault.ReadingFault.TheVariants as fault
 use Rattle.recording_reader.specs.declared.found.Found.{Found}
@@ -54,11 +54,12 @@ pub record CaptureStands (standing : Standing) (before now : List ℕ) (ended : 
 -- the fault
 abbrev pub HasReadPackets : Standing → Layout → List ℕ → List ℕ → Type 0 → List Recorded → Type 0
 HasReadPackets Reads layout before now ended packets =
-    HasRead room before now (layout_seen layout) packets
-HasReadPackets Ended layout before now ended packets = HasReadAll room before now ended packets
+    HasRead most_packet before now (layout_seen layout) packets
+HasReadPackets Ended layout before now ended packets =
+    HasReadAll most_packet before now ended packets
 HasReadPackets (Failed (fault.Capture f)) layout before now ended packets = ⊥
 HasReadPackets (Failed (fault.Recording f)) layout before now ended packets =
-    HasFailed room before now ended f packets
+    HasFailed most_packet before now ended f packets
 
 -- a source gave octets that begin a recording, whatever is behind them
 pub record HasBegun (before now : List ℕ) : Type 0 where
@@ -88,8 +89,8 @@ WayStands (Recording t) flows standing before now ended text records =
     × RecordingStands t.flows standing t.layout before now ended records t.left_out
 
 -- of a file that was just opened
-abbrev pub Begins : Way → Option Flows → List ℕ → List ℕ → Type 0 → List ℕ → Type 0
-Begins way flows before now ended text = WayStands way flows Reads before now ended text []
+abbrev pub BeginsWay : Way → Option Flows → List ℕ → List ℕ → Type 0 → List ℕ → Type 0
+BeginsWay way flows before now ended text = WayStands way flows Reads before now ended text []
 
 -- whether it is a recording
 abbrev pub is_recording_way : Way → Bool
@@ -104,7 +105,7 @@ left_out_by (Recording t) = t.left_out
 -- there is the room that it needs
 abbrev pub HasRoom : Way → ℕ → Type 0
 HasRoom Capture count = 65535 ≤ count
-HasRoom (Recording t) count = count ≡ 1048576
+HasRoom (Recording t) count = count ≡ most_packet
 
 -- a datagram is at hand only between records
 abbrev pub IsAtHand : Standing → Option Found → Type 0

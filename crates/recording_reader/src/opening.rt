@@ -5,7 +5,7 @@ ghost use Rattle.flow.specs.declared.flows.Flows.{Flows as Ways};
 ghost use Rattle.recording_counts.specs.LeftOut.{left_out_of};
 ghost use Rattle.recording_reader.specs.Kinds.{is_magic};
 ghost use Rattle.recording_reader.specs.Opening.{CountsOpening, IsByFlows, StopsOpening};
-ghost use Rattle.recording_reader.specs.Ways.{Begins, HasRoom, left_out_by};
+ghost use Rattle.recording_reader.specs.Ways.{BeginsWay, HasRoom, left_out_by};
 
 use crate::fault::{FileOpeningFault, ReadingFault};
 use crate::kinds::is_magic;
@@ -13,13 +13,10 @@ use crate::room::Room;
 use crate::way::{Track, Way};
 use flow::Flows;
 use media_file::{FileFault, read_front_behind};
-use pcap_file::open_behind;
+use pcap_file::{MOST_PACKET, open_behind};
 use recording_counts::LeftOut;
 use st_format::{ByteSource, MOST_DATAGRAM, read_whole};
 use std::alloc::Allocator;
-
-/// The octets of a packet or a block of a recording that there is room for.
-const MOST_PACKET: usize = 1_048_576;
 
 /// A file that was opened, and how many octets its text has.
 #[derive(Drop)]
@@ -38,7 +35,7 @@ pub(crate) fn begin<A: Allocator, S: ByteSource>(
 ) -> Result<Begun<A>, FileOpeningFault>
     requires { 65535 ≤ length text.old }
     ensures room { length text.new ≡ length text.old }
-    ensures begins { IfOk result (λ b. Begins b.way flows (S.gave source.old) (S.gave source.new)
+    ensures begins { IfOk result (λ b. BeginsWay b.way flows (S.gave source.old) (S.gave source.new)
         (S.ended source.new) (take b.text_len text.new)) }
     ensures text_len { IfOk result (λ b. b.text_len < 65536) }
     ensures found { IfOk result (λ b. b.room.found ≡ None) }
@@ -77,7 +74,7 @@ fn begin_capture<A: Allocator, S: ByteSource>(
     ensures room { length text.new ≡ length text.old }
     ensures begins { IfOk result (λ b. (before : List ℕ) (flows : Option Ways)
         → S.gave source.old ≡ before ++ four.now
-        → Begins b.way flows before (S.gave source.new) (S.ended source.new)
+        → BeginsWay b.way flows before (S.gave source.new) (S.ended source.new)
         (take b.text_len text.new)) }
     ensures text_len { IfOk result (λ b. b.text_len < 65536) }
     ensures found { IfOk result (λ b. b.room.found ≡ None) }
@@ -110,7 +107,7 @@ fn begin_recording<A: Allocator, S: ByteSource>(
     requires four { length four.now ≡ 4 }
     requires magic { is_magic four.now ≡ true }
     ensures begins { IfOk result (λ b. (before : List ℕ) → S.gave source.old ≡ before ++ four.now
-        → Begins b.way (Some flows) before (S.gave source.new) (S.ended source.new) []) }
+        → BeginsWay b.way (Some flows) before (S.gave source.new) (S.ended source.new) []) }
     ensures text_len { IfOk result (λ b. b.text_len ≡ 0) }
     ensures found { IfOk result (λ b. b.room.found ≡ None) }
     ensures roomy { IfOk result (λ b. HasRoom b.way (vec_len b.room.octets)) }

@@ -10,7 +10,8 @@ ghost use Rattle.recording_reader.specs.Found.{CanCarry, StandAt, carried_place}
 ghost use Rattle.st_format.specs.Reading.{Gives};
 
 use pcap_file::{
-    DatagramView, IpVersion, Link, NoDatagram, PacketHead, read_link, read_packet, read_udp,
+    DatagramView, IpVersion, Link, NoDatagram, PacketHead, number_16, read_link, read_packet,
+    read_udp,
 };
 
 /// A datagram, and how many octets of its packet stand before its own.
@@ -25,14 +26,6 @@ const HEADER_6: usize = 40;
 
 /// The octets of a header of UDP (RFC 768).
 const HEADER_UDP: usize = 8;
-
-/// The number in the two octets behind the first `at`, most significant first.
-fn number_16(octets: &[u8], at: usize) -> u16
-    requires { at + 2 ≤ length octets.now }
-    ensures { result ≡ number_16 at octets.now }
-{
-    u16::from_be_bytes([octets[at], octets[at + 1]])
-}
 
 /// The octets of a header of IPv4, with its options.
 fn header_4(packet: &[u8]) -> usize

@@ -1,6 +1,7 @@
 //! Reading a recording from one record of the flows to the next.
 ghost use Rattle.std.specs.Prelude.{◌≡◌, ◌≤◌, ◌-◌, length, IfErr, IfOk, IfSome};
 ghost use Rattle.pcap_file.specs.Fields.{CountsDevice};
+ghost use Rattle.pcap_file.specs.Runs.{most_packet};
 ghost use Rattle.recording_reader.specs.Reading.{FailsNext, ReadsToNext};
 ghost use Rattle.st_format.specs.History.{GrewFrom};
 
@@ -20,7 +21,7 @@ pub(crate) fn read_on<S: ByteSource>(
     buf: &mut [u8],
     left_out: &mut LeftOut,
 ) -> Result<Option<Found>, RecordingFault>
-    requires { 1048576 ≡ length buf.old }
+    requires { most_packet ≡ length buf.old }
     ensures room { length buf.new ≡ length buf.old }
     ensures read { IfOk result (λ r. ReadsToNext flows.now r buf.new
         (S.gave source.old) (S.gave source.new) (S.ended source.new)

@@ -95,7 +95,6 @@ impl<A: Allocator> Room<A> {
         }
     }
 
-    /// Its path.
     pub(crate) fn path(&self) -> Option<Path>
         ensures { result
             ≡ option_map (λ e. e.path) (entry_there self.now.found self.now.octets.items) }
@@ -106,7 +105,6 @@ impl<A: Allocator> Room<A> {
         }
     }
 
-    /// Its moment.
     pub(crate) fn moment(&self) -> Option<u64>
         ensures { result
             ≡ option_map (λ e. e.moment) (entry_there self.now.found self.now.octets.items) }

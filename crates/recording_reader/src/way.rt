@@ -27,10 +27,8 @@ pub enum Standing {
 /// What was read of a recording between its packets.
 #[derive(Drop)]
 pub struct Track {
-    /// The flows of the paths.
     pub(crate) flows: Flows,
     pub(crate) layout: Layout,
-    /// The packets that were left out.
     pub(crate) left_out: LeftOut,
 }
 
@@ -78,7 +76,6 @@ impl Way {
         }
     }
 
-    /// Whether it is a recording.
     pub(crate) fn is_recording(&self) -> bool
         ensures { result ≡ is_recording_way self.now }
     {
@@ -88,7 +85,6 @@ impl Way {
         }
     }
 
-    /// The packets that were left out.
     pub(crate) fn left_out(&self) -> LeftOut
         ensures { result ≡ left_out_by self.now }
     {

@@ -20,7 +20,7 @@ ghost use Rattle.run_outcome.specs.declared.refusal.Writer.TheVariants.{Import};
 use command_end::{Command, Devices, Hints, Ran, find_output};
 use command_line::ImportWords;
 use devices::{FileOutput, FileSource, Identity, OutputSink, Reading, Rest, Stream};
-use recording_engines::{ImportCounts, ImportFile, Importing};
+use recording_engines::{FlowWords, ImportCounts, ImportFile};
 use run_outcome::{Fault, Writer};
 use std::alloc::{AllocError, Global};
 
@@ -31,7 +31,7 @@ type InputFile<'a> = ImportFile<Global, FileSource<'a>>;
 #[derive(Drop)]
 pub struct ImportCommand<'a> {
     rt: &'a HostRuntime,
-    pub wanted: Importing<'a>,
+    pub wanted: FlowWords<'a>,
     pub sdp: FileSource<'a>,
     pub files: Vec<InputFile<'a>>,
     pub out: FileOutput<'a>,
@@ -66,8 +66,8 @@ impl<'a> ImportCommand<'a> {
 }
 
 /// What `import` is asked for, beside its files.
-fn importing<'a>(words: &ImportWords<'a>) -> Importing<'a> {
-    Importing {
+fn importing<'a>(words: &ImportWords<'a>) -> FlowWords<'a> {
+    FlowWords {
         a: octets(words.a),
         b: octets(words.b),
     }
@@ -127,7 +127,7 @@ fn last_begun<'a>(files: &[InputFile<'a>]) -> Option<Reading<'a>> {
 /// recorded.
 fn import<'a>(
     rt: &HostRuntime,
-    wanted: Importing<'_>,
+    wanted: FlowWords<'_>,
     sdp: &mut FileSource<'a>,
     files: &mut [InputFile<'a>],
     out: &mut FileOutput<'_>,

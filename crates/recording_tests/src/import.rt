@@ -5,7 +5,7 @@ ghost use Rattle.recording_engines.specs.Files.{AllClosed, IsClosed};
 use crate::checks::met;
 use crate::engines::{Run, sink, source};
 use crate::export::RECORDING;
-use recording_engines::{ImportCounts, ImportFile, Importing, import};
+use recording_engines::{FlowWords, ImportCounts, ImportFile, import};
 use run_outcome::{Fault, Refusal};
 use st_format::memory::MemorySource;
 use std::alloc::{AllocError, Allocator, Global};
@@ -44,7 +44,7 @@ const RECORDS: &[u8] = b"\x01\x00\x00\x00\x00\x00\x00\x00\x03\x00\x01\x09\
     \x00\x00\x00\x00\x00\x3b\x9a\xca\x01\x00\x00\
     \x01\x00\x00\x00\x00\x77\x35\x94\x00\x00\x02\x04\x05";
 
-const WANTED: Importing<'static> = Importing {
+const WANTED: FlowWords<'static> = FlowWords {
     a: Some(b"239.1.1.1:5004"),
     b: Some(b"5006"),
 };
@@ -90,7 +90,7 @@ fn three<A: Allocator>(
 fn import_by<A: Allocator + Copy>(
     global: Global,
     alloc: A,
-    wanted: Importing<'_>,
+    wanted: FlowWords<'_>,
     files: &mut [ImportFile<A, MemorySource>],
 ) -> Result<(Run, Option<ImportCounts>), AllocError>
     requires closed { AllClosed files.old }
@@ -225,7 +225,7 @@ fn faults(rt: HostRuntime) -> Result<(), Fail> {
 }
 
 /// Both paths have one address and port.
-const ALIKE: Importing<'static> = Importing {
+const ALIKE: FlowWords<'static> = FlowWords {
     a: Some(b"5004"),
     b: Some(b"5004"),
 };

@@ -13,3 +13,9 @@ pub mod SentAgain
 pub mod Looped
 pub mod NoRefusals
 pub mod NoTextFault
+pub mod OneJob
+pub mod NoProcessRefusals
+pub mod ScriptOnce
+pub mod RehearsedOnce
+pub mod NoRehearsalRefusals
+pub mod NoTraceRefusals

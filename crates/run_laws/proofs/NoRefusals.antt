@@ -31,7 +31,7 @@ use Rattle.run_outcome.specs.declared.refusal.Refusal.{Refusal}
 use Rattle.run_outcome.specs.declared.refusal.Refusal.TheVariants as why
 use Rattle.capture_engines.specs.Looped.{IsLoopRefusal}
 use Rattle.capture_engines.specs.Looping.{Link, Loops}
-use Rattle.receiver_engines.specs.MergeAllRefused.{IsMergeAllRefusal, StopsAt, StopsBehind}
+use Rattle.receiver_engines.specs.MergeAllRefused.{IsMergeAllRefusal, StopsMerge, StopsMergeBehind}
 use Rattle.receiver_engines.specs.MergeRefused.{AreUnlike}
 use Rattle.receiver_engines.specs.MergedAll.{AreAlike, MergesAll}
 use Rattle.receiver_engines.specs.Merging.{GivesReceiver, SaysReceiver}
@@ -64,7 +64,7 @@ no_state_fault octets r f bytes is wrong =
     (ap state_walk is.whole ∙ state_again (kept_of r) (writable_saved r is.writable))
     (state_tells f octets bytes wrong)
 
-no_picture_fault : (octets : List ℕ) (p : Values) (f : FileFault) → AreOctets octets
+pub no_picture_fault : (octets : List ℕ) (p : Values) (f : FileFault) → AreOctets octets
     → IsPictureFile octets p → IsPictureFault f octets → ⊥
 no_picture_fault octets p f bytes is wrong =
     let rest : List ℕ = [] in
@@ -72,7 +72,7 @@ no_picture_fault octets p f bytes is wrong =
     apart (picture_walk octets) pair f (ap picture_walk is.whole ∙ picture_again p is.picture)
     (picture_tells f octets bytes wrong)
 
-not_state : (told : List ℕ → Type 0) (octets : List ℕ) (r : State) (refusal : Refusal)
+pub not_state : (told : List ℕ → Type 0) (octets : List ℕ) (r : State) (refusal : Refusal)
     → told octets → AreOctets octets → SaysReceiver told r → IsStateRefusal told refusal → ⊥
 not_state told octets r (why.State f) there bytes says wrong =
     no_state_fault octets r f bytes (says octets there) (wrong octets there bytes)
@@ -132,7 +132,7 @@ module _ {S : Type 0} (gave : S → List ℕ) (ended : S → Type 0) (first : S 
     (bytes : (s : S × S) → IsMember s (first ∷ others) → AreOctets (read_of gave s))
   where
     one : (s : State) (Is : (List ℕ → Type 0) → Type 0)
-        (stops : StopsAt s (WasRead gave ended) others Is)
+        (stops : StopsMerge s (WasRead gave ended) others Is)
         → OneOf (WasRead gave ended) stops.at merges.receiver
     one s Is stops =
         one_of (WasRead gave ended) stops.front stops.at stops.behind merges.receiver
@@ -141,7 +141,7 @@ module _ {S : Type 0} (gave : S → List ℕ) (ended : S → Type 0) (first : S 
         stops.parts merges.receivers_are)
         merges.taken.alike
 
-    of_file : (f : FileFault) → StopsBehind (WasRead gave ended first) (WasRead gave ended) others
+    of_file : (f : FileFault) → StopsMergeBehind (WasRead gave ended first) (WasRead gave ended) others
         (λ t. IsStateRefusal t (why.State f)) → ⊥
     of_file f behind =
         let stops = behind.2 in
@@ -152,7 +152,7 @@ module _ {S : Type 0} (gave : S → List ℕ) (ended : S → Type 0) (first : S 
         not_state (WasRead gave ended stops.at) (read_of gave stops.at) o.receiver (why.State f)
         (was_read gave ended stops.at) (bytes stops.at (inr there)) o.says stops.is
 
-    unlike : StopsBehind (WasRead gave ended first) (WasRead gave ended) others
+    unlike : StopsMergeBehind (WasRead gave ended first) (WasRead gave ended) others
         (AreUnlike (WasRead gave ended first)) → ⊥
     unlike behind =
         let stops = behind.2 in
@@ -175,7 +175,7 @@ module _ {S : Type 0} (gave : S → List ℕ) (ended : S → Type 0) (first : S 
 
 -- ---- a picture that goes through a link
 
-one_format : (octets : List ℕ) (p q : Values) → IsPictureFile octets p → IsPictureFile octets q
+pub one_format : (octets : List ℕ) (p q : Values) → IsPictureFile octets p → IsPictureFile octets q
     → p.format ≡ q.format
 one_format octets p q a b =
     same_format p.format q.format

@@ -24,7 +24,7 @@ said d = Ok d
 abbrev failed : SdpFault → Walked
 failed f = Err f
 
-no_text_fault : (text : List ℕ) (d : Description) (f : SdpFault)
+pub no_text_fault : (text : List ℕ) (d : Description) (f : SdpFault)
     → IsDescribed (video_sections (lines text)) d → IsTextFault (video_sections (lines text)) f → ⊥
 no_text_fault text d f is wrong =
     let reads : text_walk text ≡ said d = (text_said text d).1 is in

@@ -12,7 +12,7 @@ use Rattle.script_engines.specs.FirstLines.{ReadsOpening}
 use Rattle.script_engines.specs.Forms.{IsWindowText}
 use Rattle.run_laws.proofs.Opened.{one_number, one_source, one_window}
 
-same_rest : (w a b : List ℕ) → w ++ a ≡ w ++ b → a ≡ b
+pub same_rest : (w a b : List ℕ) → w ++ a ≡ w ++ b → a ≡ b
 same_rest [] a b e = e
 same_rest (x ∷ w) a b e = same_rest w a b (ap (λ (l : List ℕ). drop 1 l) e)
 
@@ -20,7 +20,7 @@ abbrev Part : Type 0
 Part = Option (List ℕ × List ℕ)
 
 -- the two parts of one text
-parts : (mark : ℕ) (text other a b x y : List ℕ) → text ≡ other → parted mark text ≡ Some (a, b)
+pub parts : (mark : ℕ) (text other a b x y : List ℕ) → text ≡ other → parted mark text ≡ Some (a, b)
     → parted mark other ≡ Some (x, y) → (a ≡ x) × (b ≡ y)
 parts mark text other a b x y same p q =
     some_pair_parts a x b y
@@ -42,7 +42,7 @@ dash_none text t (u ∷ ts) e p =
     let none : parted 44 text ≡ None = ap (λ (l : List ℕ). let r : Part = parted 44 l in r) e in
     none_some (parted 44 text) p.0 p.1 none p.2
 
-same_window : (text : List ℕ) (ts us : List ℕ) → IsWindowText text ts → IsWindowText text us
+pub same_window : (text : List ℕ) (ts us : List ℕ) → IsWindowText text ts → IsWindowText text us
     → ts ≡ us
 same_window text [] [] p q = refl
 same_window text [] (u ∷ us) p q = absurd (dash_none text u us p q)

@@ -16,8 +16,9 @@ use Rattle.path_receiver.specs.Frames.{State}
 use Rattle.path_receiver.specs.Sender.{AreAmong, IsOpenFor}
 use Rattle.run_outcome.specs.Moments.{WasRead}
 use Rattle.capture_engines.specs.Looping.{loop_stamp}
-use Rattle.capture_engines.specs.Sending.{SaysSdp, SayPictures, run_sender}
+use Rattle.capture_engines.specs.Sending.{SayPictures, run_sender}
 use Rattle.capture_engines.specs.declared.sender.Sending.{Sending}
+use Rattle.run_outcome.specs.TextRefusals.{SaysText}
 
 -- Octets are the capture of a text and of the datagrams of pictures of one format, as frames from 0
 -- on, with the payload type, the source, the first timestamp and the first number of these words.
@@ -32,7 +33,7 @@ pub record IsSentFile (wanted : Sending) (text : List ℕ) (format : Format)
 pub record IsSentOf {S : Type 0} (gave : S → List ℕ) (ended : S → Type 0) (wanted : Sending)
     (sdp sdp_later : Option S) (sources later : List S) (file : List ℕ) : Type 0 where
   pub text : List ℕ
-  pub says : SaysSdp gave ended sdp sdp_later text
+  pub says : SaysText gave ended sdp sdp_later text
   pub format : Format
   pub pictures : List Values
   pub say : SayPictures (WasRead gave ended) sources later pictures

@@ -18,5 +18,6 @@ pub use sent::{
     sent_and_received, sent_file, written_again,
 };
 pub use unrefused::{
-    export_unrefused, loop_unrefused, merge_unrefused, report_unrefused, sdp_unrefused,
+    export_unrefused, loop_unrefused, merge_unrefused, process_unrefused, rehearse_unrefused,
+    report_unrefused, sdp_unrefused, trace_unrefused,
 };

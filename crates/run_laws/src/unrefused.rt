@@ -3,25 +3,32 @@
 //! and memory was there. Each is the contract of a function that does nothing; a caller has the
 //! first premise from the clause of the call. That octets are below 256 is wanted, as the
 //! conditions of faults are told of octets.
-ghost use Rattle.std.specs.Prelude.{◌∷◌, ℕ, List, Option};
+ghost use Rattle.std.specs.Prelude.{◌≡◌, ◌∷◌, ℕ, List, Option, Some};
 ghost use Rattle.st_format.specs.Device.{AreOctets};
 ghost use Rattle.st_format.specs.History.{IsRead, since};
 ghost use Rattle.st_format.specs.Member.{IsMember};
 ghost use Rattle.run_outcome.specs.Moments.{WasRead};
+ghost use Rattle.run_outcome.specs.TextRefusals.{SaysText};
 ghost use Rattle.run_outcome.specs.declared.refusal.Refusal.{Refusal};
 ghost use Rattle.capture_engines.specs.Looped.{IsLoopRefusal};
 ghost use Rattle.capture_engines.specs.Looping.{Link, Loops};
 ghost use Rattle.receiver_engines.specs.MergeAllRefused.{IsMergeAllRefusal};
 ghost use Rattle.receiver_engines.specs.MergedAll.{MergesAll};
+ghost use Rattle.receiver_engines.specs.Processing.{SendsSaidFiles};
+ghost use Rattle.receiver_engines.specs.Refused.{IsSaidRunRefusal};
 ghost use Rattle.receiver_engines.specs.Reporting.{Reports};
 ghost use Rattle.receiver_engines.specs.States.{IsStateRefusal};
+ghost use Rattle.receiver_engines.specs.declared.processing.Processing.{Processing};
 ghost use Rattle.script_engines.specs.Described.{Describes, IsUndescribed};
 ghost use Rattle.script_engines.specs.Reading.{DoesScript, IsRefusedFor};
+ghost use Rattle.script_engines.specs.Rehearsed.{IsRefusedScript, Rehearses};
+ghost use Rattle.script_engines.specs.Traced.{IsUntraced, Traces};
 ghost use Rattle.export_engine.specs.ExportRefused.{IsExportRefusal};
 ghost use Rattle.export_engine.specs.Exported.{PrintsExported};
 ghost use Rattle.run_laws.specs.Received.{read_of};
 
 use st_format::ByteSource;
+use std::alloc::Allocator;
 
 /// Against what a run of `report` read that ended well (`reported` there) no refusal speaks.
 pub fn report_unrefused<S: ByteSource>()
@@ -38,6 +45,19 @@ pub fn merge_unrefused<S: ByteSource>()
         → ((s : S × S) → IsMember s (first ∷ others) → AreOctets (read_of S.gave s))
         → IsMergeAllRefusal (WasRead S.gave S.ended first) (WasRead S.gave S.ended) others r
         → ⊥ }
+{}
+
+/// The same of a run of `process_said` (`sent` there), where an SDP text may be given; with none
+/// and an empty text, of one of `process`.
+pub fn process_unrefused<S: ByteSource>()
+    ensures { (wanted : Processing) (sdp sdp_later : Option S) (states : List (S × S))
+        (hold : Option (S × S)) (text old new : List ℕ) (count : ℕ) (r : Refusal)
+        → SaysText S.gave S.ended sdp sdp_later text
+        → SendsSaidFiles text (WasRead S.gave S.ended) states hold wanted.job.now
+        wanted.timestamp wanted.fill.now wanted.max_octets wanted.stamp old new count
+        → ((s : S × S) → IsMember s states → AreOctets (read_of S.gave s))
+        → ((s : S × S) → hold ≡ Some s → AreOctets (read_of S.gave s))
+        → IsSaidRunRefusal (WasRead S.gave S.ended) sdp sdp_later states hold wanted r → ⊥ }
 {}
 
 /// The same of a run of `loop` (`looped` there).
@@ -63,4 +83,18 @@ pub fn sdp_unrefused<S: ByteSource>()
     ensures { (source later : S) (old new : List ℕ) (r : Refusal)
         → DoesScript Describes (S.gave source) (S.gave later) (S.ended later) old new
         → IsRefusedFor IsUndescribed (S.gave source) (S.gave later) (S.ended later) r → ⊥ }
+{}
+
+/// The same of a run of `trace` (`traces` there).
+pub fn trace_unrefused<S: ByteSource>()
+    ensures { (source later : S) (old new : List ℕ) (r : Refusal)
+        → DoesScript Traces (S.gave source) (S.gave later) (S.ended later) old new
+        → IsRefusedFor IsUntraced (S.gave source) (S.gave later) (S.ended later) r → ⊥ }
+{}
+
+/// The same of a run of `rehearse` (`rehearses` there).
+pub fn rehearse_unrefused<A: Allocator, S: ByteSource>()
+    ensures { (source later : S) (old new : List ℕ) (r : Refusal)
+        → DoesScript (Rehearses A) (S.gave source) (S.gave later) (S.ended later) old new
+        → IsRefusedFor IsRefusedScript (S.gave source) (S.gave later) (S.ended later) r → ⊥ }
 {}

@@ -4,3 +4,5 @@ pub mod TextLines
 pub mod Printed
 pub mod Refusals
 pub mod SetSums
+pub mod SaidTexts
+pub mod Blaming

@@ -12,7 +12,7 @@ use Rattle.path_receiver.specs.Frames.{State, frame_at}
 use Rattle.st_format.specs.Cell.{is_contested, is_missing, is_present}
 use Rattle.st_format.specs.Device.{GrowsPart}
 use Rattle.st_format.specs.Raster.{Raster}
-use Rattle.run_outcome.specs.Frames.{counts_text, frame_line, frame_line_at}
+use Rattle.run_outcome.specs.Frames.{frame_counts, frame_line, frame_line_at}
 
 -- the texts of the first items
 abbrev pub texts_before : {X : Type 0} → (X → List ℕ) → List X → ℕ → List ℕ
@@ -80,9 +80,9 @@ are_counts c r present missing contested =
 pub frame_line_is : (s : State) (timestamp : ℕ) (r : Raster) (c : Counts)
     → ◌≡◌ {A = Option Raster} (Some r) (frame_at s.opening.window s.frames timestamp)
     → c ≡ counts_of r
-    → counts_text (codes "frame ") timestamp c ++ 10 ∷ [] ≡ frame_line_at s timestamp
+    → frame_counts (codes "frame ") timestamp c ++ 10 ∷ [] ≡ frame_line_at s timestamp
 frame_line_is s timestamp r c found same =
-    ap (λ (n : Counts). counts_text (codes "frame ") timestamp n ++ 10 ∷ []) same
+    ap (λ (n : Counts). frame_counts (codes "frame ") timestamp n ++ 10 ∷ []) same
     ∙ ap (λ (o : Option Raster). frame_line timestamp o) found
 
 -- what follows from what holds of a value, and from what holds after a fault

@@ -8,8 +8,8 @@ use Rattle.path_receiver.specs.Frames.{State, frame_at}
 use Rattle.st_format.specs.Raster.{Raster}
 
 -- a word, a timestamp and how many samples are of each kind
-abbrev pub counts_text : List ℕ → ℕ → Counts → List ℕ
-counts_text word timestamp counts =
+abbrev pub frame_counts : List ℕ → ℕ → Counts → List ℕ
+frame_counts word timestamp counts =
     word ++ (decimal timestamp ++ (codes " present " ++ (decimal counts.present
     ++ (codes " missing " ++ (decimal counts.missing ++ (codes " contested "
     ++ decimal counts.contested))))))
@@ -18,7 +18,7 @@ counts_text word timestamp counts =
 abbrev pub frame_line : ℕ → Option Raster → List ℕ
 frame_line timestamp None = []
 frame_line timestamp (Some frame) =
-    counts_text (codes "frame ") timestamp (counts_of frame) ++ 10 ∷ []
+    frame_counts (codes "frame ") timestamp (counts_of frame) ++ 10 ∷ []
 
 -- the line of a receiver's frame of a timestamp
 abbrev pub frame_line_at : State → ℕ → List ℕ

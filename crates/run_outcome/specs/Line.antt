@@ -3,7 +3,7 @@ use Rattle.std.specs.Prelude.{ℕ, List, ◌++◌, codes}
 use Rattle.std.specs.Fmt.{decimal}
 use Rattle.path_receiver.specs.Answers.{refusal_name, refusal_number, slide_fault_name}
 use Rattle.path_receiver.specs.Answers.{slide_fault_number}
-use Rattle.run_outcome.specs.Frames.{counts_text}
+use Rattle.run_outcome.specs.Frames.{frame_counts}
 use Rattle.run_outcome.specs.Telling.{numbered_name}
 use Rattle.run_outcome.specs.declared.line.Line.{Line}
 use Rattle.run_outcome.specs.declared.line.Line.TheVariants as line
@@ -18,12 +18,12 @@ line_text line.Missing = codes "missing"
 line_text (line.Value v) = codes "value " ++ decimal v
 line_text line.Contested = codes "contested"
 line_text line.Nowhere = codes "none"
-line_text (line.Frame timestamp counts) = counts_text (codes "frame ") timestamp counts
-line_text (line.Out timestamp counts) = counts_text (codes "out ") timestamp counts
+line_text (line.Frame timestamp counts) = frame_counts (codes "frame ") timestamp counts
+line_text (line.Out timestamp counts) = frame_counts (codes "out ") timestamp counts
 line_text (line.NotSlid fault) =
     numbered_name (codes "refused slide ") (slide_fault_number fault) (slide_fault_name fault)
 line_text (line.HandedOut receiver timestamp counts) =
-    codes "out " ++ (decimal receiver ++ counts_text (codes " ") timestamp counts)
+    codes "out " ++ (decimal receiver ++ frame_counts (codes " ") timestamp counts)
 line_text (line.Receiver number) = codes "receiver " ++ decimal number
 line_text (line.Absent first count) =
     codes "absent " ++ (decimal first ++ (codes " " ++ decimal count))

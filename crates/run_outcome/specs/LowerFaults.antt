@@ -13,6 +13,8 @@ use Rattle.path_receiver.specs.declared.fault.OpenFault.TheVariants as open_faul
 use Rattle.path_receiver.specs.declared.play_fault.PlayFault.TheVariants as play
 use Rattle.pcap_file.specs.declared.fault.RecordingFault.{RecordingFault}
 use Rattle.pcap_file.specs.declared.fault.RecordingFault.TheVariants as recording
+use Rattle.recording_reader.specs.declared.fault.ReadingFault.{ReadingFault}
+use Rattle.recording_reader.specs.declared.fault.ReadingFault.TheVariants as reading
 use Rattle.sdp_format.specs.declared.fault.SdpFault.{SdpFault}
 use Rattle.sdp_format.specs.declared.fault.SdpFault.TheVariants as sdp
 use Rattle.sdp_format.specs.declared.flows_fault.FlowsFault.{FlowsFault}
@@ -98,3 +100,8 @@ state_fault fault = file_fault fault (State fault)
 abbrev pub of_recording : RecordingFault → Fault
 of_recording recording.Device = Device
 of_recording refusal = Refused (Recording refusal)
+
+-- of a file of datagrams
+abbrev pub reading_fault : ReadingFault → Fault
+reading_fault (reading.Capture f) = capture_fault f
+reading_fault (reading.Recording f) = of_recording f

@@ -10,6 +10,7 @@ use Rattle.path_receiver.specs.PlayFault.{play_fault_name, play_fault_number}
 use Rattle.path_receiver.specs.declared.play_fault.PlayFault.{PlayFault}
 use Rattle.path_receiver.specs.declared.play_fault.PlayFault.TheVariants as play
 use Rattle.pcap_file.specs.RecordingFaults.{recording_fault_name, recording_fault_number}
+use Rattle.picture_forms.specs.Faults.{form_fault_name, form_fault_number}
 use Rattle.sdp_format.specs.Faults.{sdp_fault_name, sdp_fault_number}
 use Rattle.sdp_format.specs.FlowsFaults.{flows_fault_name, flows_fault_number}
 use Rattle.st_format.specs.Faults.{format_fault_name, format_fault_number}
@@ -48,6 +49,9 @@ output_text writer.Receive = codes "receive 5 OutputIsInput"
 output_text writer.Process = codes "process 5 OutputIsInput"
 output_text writer.Import = codes "import 5 OutputIsInput"
 output_text writer.Export = codes "export 2 OutputIsInput"
+output_text writer.Follow = codes "follow 2 OutputIsInput"
+output_text writer.Picture = codes "frame 5 OutputIsInput"
+output_text writer.Convert = codes "convert 2 OutputIsInput"
 
 -- of all commands
 abbrev pub refusal_text : Refusal → List ℕ
@@ -71,6 +75,12 @@ refusal_text refusal.ImportSdp = codes "import 1 SdpTooLong"
 refusal_text refusal.ImportFlow = codes "import 2 BadFlow"
 refusal_text refusal.ImportPlaces = codes "import 3 OnePlace"
 refusal_text refusal.ImportRecords = codes "import 4 TooManyRecords"
+refusal_text refusal.FollowFill = codes "follow 1 BadFill"
+refusal_text refusal.FrameTimestamp = codes "frame 1 NoFrame"
+refusal_text refusal.FrameFill = codes "frame 2 BadFill"
+refusal_text refusal.FrameHold = codes "frame 3 HoldDiffers"
+refusal_text refusal.FrameForm = codes "frame 4 WrongForm"
+refusal_text refusal.ConvertForm = codes "convert 1 WrongForm"
 refusal_text (refusal.OutputIsInput by) = output_text by
 refusal_text (refusal.Sdp at) =
     numbered_name (codes "sdp ") (sdp_fault_number at.fault) (sdp_fault_name at.fault)
@@ -89,3 +99,5 @@ refusal_text (refusal.State f) =
     numbered_name (codes "state ") (file_fault_number f) (file_fault_name f)
 refusal_text (refusal.Recording f) =
     numbered_name (codes "recording ") (recording_fault_number f) (recording_fault_name f)
+refusal_text (refusal.Form f) =
+    numbered_name (codes "form ") (form_fault_number f) (form_fault_name f)

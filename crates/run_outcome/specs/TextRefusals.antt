@@ -1,7 +1,7 @@
 -- Which refusal is one of a text that is read for a capture (own). The octets that were read are
 -- told by a predicate: it holds of any that begin with those, and of no other where the source has
 -- ended.
-use Rattle.std.specs.Prelude.{◌≡◌, ℕ, ◌<◌, ◌≤◌, ◌⊎◌, List, length}
+use Rattle.std.specs.Prelude.{◌≡◌, ℕ, ◌<◌, ◌≤◌, ◌⊎◌, List, [], ◌++◌, length, Option, None, Some}
 use Rattle.sdp_format.specs.Bytes.{lines}
 use Rattle.sdp_format.specs.Grammar.{IsDescribed, IsTextFault}
 use Rattle.sdp_format.specs.Sections.{Description, video_sections}
@@ -36,3 +36,20 @@ pub record IsCaptureText (text : List ℕ) : Type 0 where
 -- what was read is such a text
 abbrev pub SaysCaptureText : (List ℕ → Type 0) → Type 0
 SaysCaptureText told = (octets : List ℕ) → told octets → IsCaptureText octets
+
+-- ---- where one may be given
+
+-- the text of a capture: all that the SDP's source gave, up to its end, which describes a video; or
+-- nothing, where there is none
+abbrev pub SaysText : {S : Type 0} → (S → List ℕ) → (S → Type 0) → Option S → Option S → List ℕ
+    → Type 0
+SaysText gave ended None later text = text ≡ []
+SaysText gave ended (Some sdp) None text = ⊥
+SaysText gave ended (Some sdp) (Some later) text =
+    (gave later ≡ gave sdp ++ text) × ended later × IsCaptureText text
+
+-- the refusals of the text, where one is given
+abbrev pub IsTextOfRun : {S : Type 0} → (S × S → List ℕ → Type 0) → Option S → Option S → Refusal
+    → Type 0
+IsTextOfRun {S} told old new r = (was : S) × (now : S) × (old ≡ Some was) × (new ≡ Some now)
+    × IsTextRefusal refusal.SendSdp (told (was, now)) r

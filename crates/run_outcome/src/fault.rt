@@ -1,7 +1,7 @@
 //! What ends a run before its end.
 ghost use Rattle.std.specs.Prelude.{◌≡◌};
 ghost use Rattle.run_outcome.specs.LowerFaults.{capture_fault, file_fault, picture_fault};
-ghost use Rattle.run_outcome.specs.LowerFaults.{state_fault};
+ghost use Rattle.run_outcome.specs.LowerFaults.{reading_fault, state_fault};
 
 use crate::refusal::Refusal;
 use key_mix::JobFault;
@@ -9,6 +9,7 @@ use media_file::FileFault;
 use packet_plan::PlanFault;
 use path_receiver::OpenFault;
 use pcap_file::RecordingFault;
+use recording_reader::ReadingFault;
 use sdp_format::{FlowsFault, Located, SdpFault};
 use st_format::DeviceFault;
 use std::alloc::AllocError;
@@ -132,6 +133,16 @@ pub fn of_capture(fault: FileFault) -> Fault
     ensures { result ≡ capture_fault fault }
 {
     of_file(fault, Refusal::Capture(fault))
+}
+
+/// A fault of a file of datagrams: that of a capture, or of a recording of another tool.
+pub fn of_reading(fault: ReadingFault) -> Fault
+    ensures { result ≡ reading_fault fault }
+{
+    match fault {
+        ReadingFault::Capture(fault) => of_capture(fault),
+        ReadingFault::Recording(fault) => fault.into(),
+    }
 }
 
 /// A fault of a picture's file, as [`of_capture`] has one of a capture.

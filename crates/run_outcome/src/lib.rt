@@ -19,7 +19,7 @@ mod wanted;
 mod words;
 
 pub use ending::end;
-pub use fault::{Fault, of_capture, of_picture, of_state};
+pub use fault::{Fault, of_capture, of_picture, of_reading, of_state};
 pub use line::Line;
 pub use pictures::{read_packed, read_unpacked};
 pub use printing::{print, print_frames};
@@ -27,6 +27,6 @@ pub use refusal::{Refusal, Writer};
 pub use script_line::{Form, LineFault};
 pub use sources::read_source;
 pub use status::Status;
-pub use text::{read_checked, read_past, read_text, room};
+pub use text::{MOST_TEXT, read_checked, read_if_given, read_past, read_text, room};
 pub use timestamps::read_timestamps;
 pub use words::after_word;

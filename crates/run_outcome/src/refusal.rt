@@ -8,6 +8,7 @@ use media_file::FileFault;
 use packet_plan::PlanFault;
 use path_receiver::OpenFault;
 use pcap_file::RecordingFault;
+use picture_forms::FormFault;
 use sdp_format::{FlowsFault, Located};
 use std::fmt;
 
@@ -20,6 +21,9 @@ pub enum Writer {
     Process,
     Import,
     Export,
+    Follow,
+    Picture,
+    Convert,
 }
 
 /// Why words, a text or files are refused.
@@ -66,6 +70,18 @@ pub enum Refusal {
     /// The file that this command is to write is one of those that it is to read, whatever its
     /// name. It is looked for behind the words, before any file is read.
     OutputIsInput(Writer),
+    /// The fill's text is that of no values, or one is above the greatest of a frame's depth.
+    FollowFill,
+    /// The receiver's window hasn't the timestamp.
+    FrameTimestamp,
+    /// The fill's text is that of no values, or one is above the greatest of the frame's depth.
+    FrameFill,
+    /// The held picture's format is not that of the frame.
+    FrameHold,
+    /// The form doesn't hold pictures of the frame's sampling.
+    FrameForm,
+    /// The form doesn't hold pictures of the sampling that was read.
+    ConvertForm,
     /// The SDP is refused, in a place of it where that is one's.
     Sdp(Located),
     /// The SDP doesn't say where its video is sent to.
@@ -84,6 +100,8 @@ pub enum Refusal {
     State(FileFault),
     /// A recording of another tool is refused.
     Recording(RecordingFault),
+    /// A picture in a form of other tools is refused.
+    Form(FormFault),
 }
 
 impl fmt::Display for Refusal {
@@ -114,6 +132,12 @@ impl fmt::Display for Refusal {
             Refusal::ImportFlow => f.write_str("import 2 BadFlow"),
             Refusal::ImportPlaces => f.write_str("import 3 OnePlace"),
             Refusal::ImportRecords => f.write_str("import 4 TooManyRecords"),
+            Refusal::FollowFill => f.write_str("follow 1 BadFill"),
+            Refusal::FrameTimestamp => f.write_str("frame 1 NoFrame"),
+            Refusal::FrameFill => f.write_str("frame 2 BadFill"),
+            Refusal::FrameHold => f.write_str("frame 3 HoldDiffers"),
+            Refusal::FrameForm => f.write_str("frame 4 WrongForm"),
+            Refusal::ConvertForm => f.write_str("convert 1 WrongForm"),
             Refusal::OutputIsInput(writer) => f.write_str(of_output(*writer)),
             Refusal::Sdp(at) => {
                 let fault = at.fault;
@@ -161,6 +185,11 @@ impl fmt::Display for Refusal {
                 let name = fault.name();
                 write!(f, "recording {number} {name}")
             }
+            Refusal::Form(fault) => {
+                let number = fault.number();
+                let name = fault.name();
+                write!(f, "form {number} {name}")
+            }
         }
     }
 }
@@ -176,5 +205,8 @@ fn of_output(writer: Writer) -> &'static str
         Writer::Process => "process 5 OutputIsInput",
         Writer::Import => "import 5 OutputIsInput",
         Writer::Export => "export 2 OutputIsInput",
+        Writer::Follow => "follow 2 OutputIsInput",
+        Writer::Picture => "frame 5 OutputIsInput",
+        Writer::Convert => "convert 2 OutputIsInput",
     }
 }

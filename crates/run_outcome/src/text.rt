@@ -2,8 +2,10 @@
 ghost use Rattle.std.specs.Prelude.{◌≡◌, ◌≤◌, ◌<◌, ◌∷◌, ◌++◌, [], length, vec_len, IfErr, IfOk};
 ghost use Rattle.std.specs.Prelude.{MatchOption};
 ghost use Rattle.st_format.specs.History.{GrewFrom, IsRead};
-ghost use Rattle.run_outcome.specs.Fault.{Accounts, IfRefused, counts};
-ghost use Rattle.run_outcome.specs.TextRefusals.{IsTextRefusal, SaysCaptureText};
+ghost use Rattle.run_outcome.specs.Fault.{Accounts, IfRefused, counts, failures_in};
+ghost use Rattle.run_outcome.specs.Moments.{WasRead};
+ghost use Rattle.run_outcome.specs.TextRefusals.{IsTextOfRun, IsTextRefusal, SaysCaptureText};
+ghost use Rattle.run_outcome.specs.TextRefusals.{SaysText};
 ghost use Rattle.run_outcome.specs.Refusing.{OfRefusal};
 ghost use Rattle.run_outcome.specs.Text.{GivesMore, GivesText};
 
@@ -12,6 +14,9 @@ use crate::refusal::Refusal;
 use sdp_format::read_located;
 use st_format::{ByteSource, MOST_DATAGRAM, read_whole};
 use std::alloc::{AllocError, Allocator};
+
+/// How many octets a script has at most, and an SDP text that opens a receiver (own): 16 MiB.
+pub const MOST_TEXT: usize = 16_777_216;
 
 /// Reads an SDP text for a capture, and finds that it is one. A longer text than a capture may have
 /// is refused so.
@@ -35,6 +40,28 @@ pub fn read_checked<A: Allocator + Copy, S: ByteSource>(
     };
     read_located(alloc, &said)?;
     Ok(said)
+}
+
+/// Reads the SDP text of a capture that is sent, as [`read_checked`] does, where a source of one is
+/// given; else the text is empty.
+pub fn read_if_given<A: Allocator + Copy, S: ByteSource>(
+    alloc: A,
+    sdp: &mut Option<S>,
+) -> Result<Vec<u8, A>, Fault>
+    ensures few { IfOk result (λ said. vec_len said ≤ 65535) }
+    ensures says { IfOk result (λ said. SaysText S.gave S.ended sdp.old sdp.new said.items) }
+    ensures refusal { IfErr result (λ f. OfRefusal f
+        (IsTextOfRun (WasRead S.gave S.ended) sdp.old sdp.new)) }
+    ensures failures { Accounts result (counts (failures_in S.failures sdp.old)
+        (failures_in S.failures sdp.new) ∷ []) }
+{
+    match sdp {
+        None => Ok(Vec::new(alloc)),
+        Some(source) => match read_checked(alloc, source, Refusal::SendSdp) {
+            Ok(said) => Ok(said),
+            Err(fault) => Err(fault),
+        },
+    }
 }
 
 /// Reads a source to its end, and answers what it gave, or none where that is more than so many

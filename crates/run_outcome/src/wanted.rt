@@ -2,6 +2,7 @@
 use crate::refusal::Refusal;
 use media_file::FileFault;
 use pcap_file::RecordingFault;
+use picture_forms::FormFault;
 use sdp_format::FlowsFault;
 
 impl Refusal {
@@ -23,10 +24,15 @@ impl Refusal {
                  wipe:rows:P:S or key"
             }
             Refusal::ProcessFrame => "a timestamp of each receiver's window",
-            Refusal::ProcessFill => {
+            Refusal::ProcessFill | Refusal::FollowFill | Refusal::FrameFill => {
                 "three numbers with commas between, none above the greatest value of a frame"
             }
             Refusal::ProcessHold => "a picture of the first frame's format",
+            Refusal::FrameTimestamp => "a timestamp of the receiver's window",
+            Refusal::FrameHold => "a picture of the frame's format",
+            Refusal::FrameForm | Refusal::ConvertForm => {
+                "y4m for YCbCr, ppm for RGB, or a form of both: picture or raw"
+            }
             Refusal::ImportFlow => "a port, or an address, a colon and a port",
             Refusal::ImportPlaces => "two recordings, the first of path A",
             Refusal::ImportRecords => "at most 16777216 datagrams of the flows",
@@ -40,6 +46,7 @@ impl Refusal {
             Refusal::Picture(fault) => of_kind(fault, "a picture, which begins S20PIC"),
             Refusal::State(fault) => of_kind(fault, "a receiver, which begins S20RCV"),
             Refusal::Recording(fault) => of_recording(fault),
+            Refusal::Form(fault) => of_form(fault),
         }
     }
 }
@@ -75,6 +82,20 @@ fn of_flows(fault: FlowsFault) -> &'static str {
         FlowsFault::TooManyLegs => "at most two sections m=video",
         FlowsFault::BadMediaLine => "m=video PORT RTP/AVP PT",
         FlowsFault::BadConnection => "c=IN IP4 ADDRESS or c=IN IP6 ADDRESS",
+    }
+}
+
+/// What was wanted of a picture in a form of other tools.
+fn of_form(fault: FormFault) -> &'static str {
+    match fault {
+        FormFault::NoMemory => "more memory than there is",
+        FormFault::Device => "a device that works",
+        FormFault::BadMagic => "YUV4MPEG2 or P6",
+        FormFault::BadHeader => "a header of the form's grammar",
+        FormFault::UnsupportedForm => "progressive pictures of 4:2:2, 4:4:4 or RGB",
+        FormFault::BadFormat => "a width, a height and a rate within the limits",
+        FormFault::Truncated => "more octets: the file ends before it is whole",
+        FormFault::ValueTooLarge => "a value of no more bits than a sample",
     }
 }
 

@@ -14,3 +14,4 @@ mod RehearsedLemmas
 pub mod TraceLemmas
 mod UntracedLemmas
 pub mod LinesOnce
+pub mod LinesFollowed

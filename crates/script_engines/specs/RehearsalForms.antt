@@ -2,7 +2,7 @@
 use Rattle.std.specs.Prelude.{◌≡◌, ◌≤◌, ℕ, List, ◌++◌, codes, Some, Ok}
 use Rattle.hex.specs.Hex.{decode_of}
 use Rattle.st_format.specs.declared.path.Path.{Path}
-use Rattle.st_format.specs.declared.path.Path.TheVariants as path
+use Rattle.st_format.specs.Forms.{path_text}
 use Rattle.st_format.specs.Pgroup.{bits_of}
 use Rattle.st_format.specs.Picture.{Values}
 use Rattle.st_format.specs.Samples.{Spells}
@@ -55,11 +55,6 @@ pub record IsPictureText (text : List ℕ) (p : Values) : Type 0 where
   pub octets : List ℕ
   pub digits : decode_of text ≡ Ok octets
   pub spells : Spells (bits_of p.format.depth) octets p.samples
-
--- the letter of a path
-abbrev pub path_text : Path → List ℕ
-path_text path.A = codes "A"
-path_text path.B = codes "B"
 
 -- a receiver of 8 bits, a path and a number, parted by spaces
 pub record AreArrival (text : List ℕ) (to : ℕ) (by : Path) (number : ℕ) : Type 0 where

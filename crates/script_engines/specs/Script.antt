@@ -3,7 +3,7 @@ use Rattle.std.specs.Prelude.{◌≡◌, ℕ, ◌+◌, ◌-◌, ◌≤◌, ◌<�
 use Rattle.std.specs.Prelude.{List, ◌++◌, length, take, drop, filter, slice_index, All, ◌≢◌, ◌⊎◌}
 use Rattle.std.specs.List.{enumerate_from}
 use Rattle.std.specs.Str.Lines.{lines}
-use Rattle.script_engines.specs.declared.script.TheConstants.{LIMIT}
+use Rattle.run_outcome.specs.declared.text.TheConstants.{MOST_TEXT}
 
 -- The lines of a text that are not empty, each with its number, where so many lines stand before
 -- it. Lines end by LF, of which a CR before it is dropped; a last line needs no LF, and keeps a CR
@@ -25,16 +25,16 @@ pub record IsWholeLines (text : List ℕ) (n : ℕ) : Type 0 where
 -- A script of the octets that a source gave: all of them, or, where they pass the limit, the lines
 -- that end within it; the next line is the one in which they pass it (own)
 abbrev pub IsCut : List ℕ → List ℕ → Bool → Type 0
-IsCut given script false = (script ≡ given) × (length given ≤ LIMIT)
+IsCut given script false = (script ≡ given) × (length given ≤ MOST_TEXT)
 IsCut given script true =
-    (LIMIT < length given) × IsWholeLines (take LIMIT given) (length script)
+    (MOST_TEXT < length given) × IsWholeLines (take MOST_TEXT given) (length script)
     × (script ≡ take (length script) given)
 
 -- Between two moments a source gave such octets, and told its end but where they pass the limit.
 abbrev pub IsReadFrom : List ℕ → List ℕ → Type 0 → List ℕ → Bool → Type 0
 IsReadFrom before now ended script is_cut =
     (given : List ℕ) × (now ≡ before ++ given) × IsCut given script is_cut
-    × (length given ≤ LIMIT → ended)
+    × (length given ≤ MOST_TEXT → ended)
 
 -- a source gave a whole script
 abbrev pub GivesScript : List ℕ → List ℕ → Type 0 → Type 0

@@ -22,7 +22,7 @@ use crate::rehearsal_line::{
 use crate::script::{Lines, Script, ScriptLine};
 use crate::wanted_form::body_form;
 use packet_plan::Stamp;
-use path_merge::Event;
+use path_merge::{Event, MOST_PICTURES};
 use path_receiver::PlayFault;
 use run_outcome::{Fault, Form, after_word};
 use st_format::{Format, Picture};
@@ -55,9 +55,6 @@ pub(crate) struct Rehearsal<A: Allocator> {
     /// The number of the line of each event.
     pub event_lines: Vec<usize, A>,
 }
-
-/// How many pictures a schedule has at most (own): the first one behind them is at fault.
-const MOST_PICTURES: usize = 10_000;
 
 impl<A: Allocator> Rehearsal<A> {
     /// The number of the line by which a schedule is refused: of the window, of the receivers, of

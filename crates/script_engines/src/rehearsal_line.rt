@@ -1,13 +1,14 @@
 //! What a line of a script of `rehearse` says.
 ghost use Rattle.std.specs.Prelude.{◌≡◌, ◌≤◌, ℕ, List, IfNone, IfOk, IfSome};
 ghost use Rattle.st_format.specs.declared.path.Path.{Path as ByPath};
+ghost use Rattle.st_format.specs.Forms.{path_text};
 ghost use Rattle.packet_plan.specs.declared.stamp.Stamp.{Stamp as AStamp};
 ghost use Rattle.path_merge.specs.declared.schedule.event.Event.{Event as AnEvent};
 ghost use Rattle.run_outcome.specs.Timestamps.{IsNumberOf};
 ghost use Rattle.script_engines.specs.RehearsalForms.{AreArrival, AreReceiverAndNumber, AreStamp};
 ghost use Rattle.script_engines.specs.RehearsalForms.{AreTwoReceivers, IsCountLine, IsEventLine};
 ghost use Rattle.script_engines.specs.RehearsalForms.{IsNumberLine};
-ghost use Rattle.script_engines.specs.RehearsalForms.{IsStampLine, IsWindowLine, path_text};
+ghost use Rattle.script_engines.specs.RehearsalForms.{IsStampLine, IsWindowLine};
 
 use crate::line::{read_payload_type, read_two, read_window};
 use packet_plan::Stamp;

@@ -9,12 +9,9 @@ ghost use Rattle.script_engines.specs.Script.{IsCut, IsReadFrom, IsWholeLines, l
 ghost use Rattle.script_engines.specs.Script.{numbered_lines};
 
 use crate::line_end::line_end;
-use run_outcome::{Fault, Form, read_past};
+use run_outcome::{Fault, Form, MOST_TEXT, read_past};
 use st_format::{ByteSource, without_carriage_return};
 use std::alloc::Allocator;
-
-/// The greatest number of octets of a script (own): 16 MiB.
-pub(crate) const LIMIT: usize = 16_777_216;
 
 /// A script that was read whole, before its first line is followed: so no line takes memory for its
 /// text, and the limit is one test.
@@ -31,7 +28,7 @@ pub(crate) fn read_script<A, S>(alloc: A, source: &mut S) -> Result<Script<A>, F
 where
     A: Allocator,
     S: ByteSource,
-    ensures limit { IfOk result (λ s. length s.octets.items ≤ LIMIT) }
+    ensures limit { IfOk result (λ s. length s.octets.items ≤ MOST_TEXT) }
     ensures failures { Accounts result (counts (S.failures source.old) (S.failures source.new)
         ∷ []) }
     ensures unrefused { IfErr result (λ f. IfRefused f ⊥) }
@@ -40,21 +37,21 @@ where
         s.octets.items s.is_cut) }
     ensures grown { GrewFrom (S.gave source.old) (S.gave source.new) }
 {
-    Ok(cut_at_limit(read_past(alloc, source, LIMIT)?))
+    Ok(cut_at_limit(read_past(alloc, source, MOST_TEXT)?))
 }
 
 /// The script of these octets, which past the limit is cut at its last whole line.
 fn cut_at_limit<A: Allocator>(mut octets: Vec<u8, A>) -> Script<A>
-    ensures limit { length result.octets.items ≤ LIMIT }
+    ensures limit { length result.octets.items ≤ MOST_TEXT }
     ensures cut { IsCut octets.items result.octets.items result.is_cut }
 {
-    if octets.len() <= LIMIT {
+    if octets.len() <= MOST_TEXT {
         return Script {
             octets,
             is_cut: false,
         };
     }
-    let end = whole_lines(&octets[..LIMIT]);
+    let end = whole_lines(&octets[..MOST_TEXT]);
     octets.truncate(end);
     Script {
         octets,

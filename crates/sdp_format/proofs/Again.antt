@@ -14,6 +14,7 @@ use Rattle.sdp_format.specs.Bytes.{is_space, trim_front, trim_end, unless_spaces
 use Rattle.st_format.specs.Words.{number}
 use Rattle.sdp_format.specs.Bytes.{front, behind, split}
 use Rattle.st_format.specs.Words.{is_number}
+use Rattle.st_format.proofs.Decimals.{and_parts}
 use Rattle.sdp_format.proofs.Parts.{front_here, front_later, behind_here, behind_later}
 
 pub own : IsNumeralModel (λ ds. list_all is_ascii_digit ds ≡ true) (digits_value 10)
@@ -21,10 +22,6 @@ own = numerals_by_value _ (search rules)
 
 and_true : (a b : Bool) → a ≡ true → b ≡ true → (a && b) ≡ true
 and_true a b e f = rw (e, f) refl
-
-pub and_parts : (a b : Bool) → (a && b) ≡ true → (a ≡ true) × (b ≡ true)
-and_parts true b e = (refl, e)
-and_parts false b e = (cc, cc)
 
 le_true : (m n : ℕ) → m ≤ n → nat_le m n ≡ true
 le_true m n h = grind (arith, nat_tests)

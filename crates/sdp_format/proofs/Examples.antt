@@ -8,13 +8,14 @@ use Rattle.sdp_format.specs.Sections.{Leg}
 use Rattle.sdp_format.specs.Reading.{text_walk, sections_walk, section_walk, listing_walk, leg_of}
 use Rattle.sdp_format.specs.Reading.{said_in, format_of, media_of, is_raw90000}
 use Rattle.st_format.specs.Words.{sampling_named}
-use Rattle.sdp_format.specs.Reading.{depth_named, same_leg}
+use Rattle.sdp_format.specs.Reading.{same_leg}
 use Rattle.sdp_format.specs.Naming.{is_bad, rate, range_named, colorimetry}
 use Rattle.sdp_format.specs.Bytes.{trimmed, attribute}
 use Rattle.st_format.specs.Words.{number}
 use Rattle.sdp_format.specs.Canonical.{canonical_line}
 use Rattle.std.specs.Fmt.{digits}
 use Rattle.st_format.specs.Rate.{greatest_up_to}
+use Rattle.st_format.specs.Forms.{depth_named}
 
 empty : text_walk [] ≡ Err NoVideo
 unfolding text_walk sections_walk

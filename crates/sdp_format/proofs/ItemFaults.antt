@@ -30,10 +30,11 @@ use Rattle.sdp_format.specs.Naming.{Item, is_bad, has_double, has_name, value_of
 use Rattle.sdp_format.specs.Naming.{required_names}
 use Rattle.sdp_format.specs.Naming.{rate, range_or, range_named, colorimetry}
 use Rattle.sdp_format.specs.Sections.{Leg}
-use Rattle.sdp_format.specs.Canonical.{depth_text}
 use Rattle.st_format.specs.Words.{sampling_text}
-use Rattle.sdp_format.specs.Reading.{depth_named, lacks_item, is_interlaced}
+use Rattle.sdp_format.specs.Reading.{lacks_item, is_interlaced}
 use Rattle.st_format.specs.Words.{sampling_named}
+use Rattle.st_format.specs.Forms.{depth_text, depth_named}
+use Rattle.st_format.proofs.Forms.{sampling_again, depth_again}
 use Rattle.sdp_format.specs.Reading.{or_fault, format_of, said_in, leg_of}
 use Rattle.sdp_format.specs.Grammar.{Says, Has, Lacks, IsGiven, ItemFault, SaysRange, IsSaid}
 use Rattle.sdp_format.proofs.Members.{not_both, or_cases, or_left, or_right, all_member}
@@ -45,7 +46,6 @@ use Rattle.sdp_format.proofs.Said.{says_double, not_none}
 use Rattle.sdp_format.proofs.BadItems.{bad_any, said_width, said_height, said_rate}
 use Rattle.sdp_format.proofs.BadItems.{said_colorimetry, said_range}
 use Rattle.sdp_format.proofs.Again.{not_true}
-use Rattle.sdp_format.proofs.Line.{sampling_again, depth_again}
 use Rattle.sdp_format.proofs.Steps.{Below, Told, more, refuse, want, there, follow}
 
 abbrev pub Of : List Item → SdpFault → Type 0

@@ -18,13 +18,15 @@ use Rattle.sdp_format.specs.Naming.{item, items, items_of, is_filled, colorimetr
 use Rattle.sdp_format.specs.Naming.{is_bad}
 use Rattle.sdp_format.specs.Sections.{Leg}
 use Rattle.sdp_format.specs.Reading.{leg_of}
-use Rattle.sdp_format.specs.Canonical.{canonical_line, depth_text, divisor_text}
+use Rattle.sdp_format.specs.Canonical.{canonical_line, divisor_text}
 use Rattle.st_format.specs.Words.{sampling_text}
+use Rattle.st_format.specs.Forms.{depth_text}
+use Rattle.st_format.proofs.Decimals.{and_parts}
 use Rattle.sdp_format.specs.Canonical.{range_text}
 use Rattle.sdp_format.proofs.SpelledItems.{spelled, said_items, range_items}
 use Rattle.sdp_format.specs.Back.{IsLeg}
 use Rattle.sdp_format.proofs.Parts.{next_part}
-use Rattle.sdp_format.proofs.Again.{number_decimal, is_word, trimmed_space, cut_at, and_parts}
+use Rattle.sdp_format.proofs.Again.{number_decimal, is_word, trimmed_space, cut_at}
 use Rattle.sdp_format.proofs.Line.{AllPlain, items_spelled, leg_again, good_again, decimal_all}
 use Rattle.sdp_format.proofs.Line.{digit_word, digit_space, all_append, all_so}
 

@@ -10,22 +10,20 @@ use Rattle.std.proofs.lemmas.Bool.Decides.{nat_tests}
 use Rattle.std.proofs.lemmas.Fmt.{digits_decimal}
 use Rattle.st_format.specs.Fields.{format_at}
 use Rattle.st_format.specs.declared.sampling.Sampling.{Sampling}
-use Rattle.st_format.specs.declared.sampling.Sampling.TheVariants.{Ycc422, Ycc444, Rgb}
 use Rattle.st_format.specs.declared.sampling.Depth.{Depth}
-use Rattle.st_format.specs.declared.sampling.Depth.TheVariants.{D8, D10, D12, D16}
 use Rattle.sdp_format.specs.declared.sdp.Range.{Range}
 use Rattle.sdp_format.specs.declared.sdp.Range.TheVariants.{Narrow, FullProtect, Full}
 use Rattle.sdp_format.specs.Bytes.{is_space, trimmed, front, behind, split, text_or}
 use Rattle.sdp_format.specs.Naming.{Item, item, items, items_of, is_filled, rate, is_bad}
 use Rattle.sdp_format.specs.Naming.{range_named, colorimetry}
-use Rattle.sdp_format.specs.Reading.{leg_of, said_in, format_of, depth_named}
-use Rattle.st_format.specs.Words.{sampling_named}
-use Rattle.sdp_format.specs.Canonical.{depth_text, divisor_text}
-use Rattle.st_format.specs.Words.{sampling_text}
+use Rattle.sdp_format.specs.Reading.{leg_of, said_in, format_of}
+use Rattle.sdp_format.specs.Canonical.{divisor_text}
+use Rattle.st_format.proofs.Forms.{sampling_again, depth_again}
+use Rattle.st_format.proofs.Decimals.{and_parts}
 use Rattle.sdp_format.proofs.SpelledItems.{spelled, said_items}
 use Rattle.sdp_format.proofs.Parts.{front_later, behind_later}
 use Rattle.sdp_format.proofs.Again.{own, number_decimal, is_word, trimmed_word, trimmed_space}
-use Rattle.sdp_format.proofs.Again.{split_word, split_last, cut_at, and_parts, not_true}
+use Rattle.sdp_format.proofs.Again.{split_word, split_last, cut_at, not_true}
 
 -- A name and a value without spaces and semicolons
 pub record IsPlain (p : Item) : Type 0 where
@@ -146,19 +144,6 @@ rate_by n d false e sn sd =
 pub rate_again : (n d : ℕ) → n < 2 ^ 32 → d < 2 ^ 32
     → rate (decimal n ++ divisor_text d) ≡ Some (n, d)
 rate_again n d sn sd = rate_by n d (d == 1) refl sn sd
-
-pub sampling_again : (s : Sampling) → sampling_named (sampling_text s) ≡ Some s
-unfolding sampling_named
-sampling_again Ycc422 = refl
-sampling_again Ycc444 = refl
-sampling_again Rgb = refl
-
-pub depth_again : (b : Depth) → depth_named (depth_text b) ≡ Some b
-unfolding depth_named
-depth_again D8 = refl
-depth_again D10 = refl
-depth_again D12 = refl
-depth_again D16 = refl
 
 -- None of the items of a leg is bad
 pub good_again : (pt w h n d : ℕ) (s : Sampling) (b : Depth) (r : Range) (c : List ℕ) → w < 2 ^ 32

@@ -13,15 +13,17 @@ use Rattle.std.proofs.lemmas.Bool.Decides.{Decides-eqb, nat_tests}
 use Rattle.std.proofs.Math.Seq.{drop-append_seam}
 use Rattle.sdp_format.specs.Bytes.{is_space, trim_end, unless_spaces, at_most}
 use Rattle.st_format.specs.Words.{number, is_number}
+use Rattle.st_format.specs.Forms.{number_pair}
+use Rattle.st_format.proofs.Decimals.{and_parts}
 use Rattle.sdp_format.specs.Bytes.{front, behind, split, split_left, begins_with, attribute}
 use Rattle.sdp_format.specs.Bytes.{behind_number, is_equal}
-use Rattle.sdp_format.specs.Reading.{media_of, media_of_parts, number_pair, first_attribute}
+use Rattle.sdp_format.specs.Reading.{media_of, media_of_parts, first_attribute}
 use Rattle.sdp_format.specs.Grammar.{IsMediaLine, IsAttribute, HasNone, IsFirst}
 use Rattle.sdp_format.proofs.Members.{not_both}
 use Rattle.sdp_format.proofs.Doubles.{bytes_same}
 use Rattle.sdp_format.proofs.Said.{not_none}
 use Rattle.sdp_format.proofs.Parts.{front_here, front_later, behind_here, behind_later, next_part}
-use Rattle.sdp_format.proofs.Again.{is_word, trim_end_word, cut_at, and_parts, not_true}
+use Rattle.sdp_format.proofs.Again.{is_word, trim_end_word, cut_at, not_true}
 use Rattle.sdp_format.proofs.Line.{digit_word, digit_space, all_so}
 use Rattle.sdp_format.proofs.ItemFaults.{to_word, from_word}
 
@@ -98,7 +100,7 @@ unless_some : (b : ℕ) (ys : List ℕ) → 1 ≤ length ys → unless_spaces b 
 unless_some b [] h = absurd (omega arith)
 unless_some b (y ∷ ys) h = refl
 
-trim_solid : (xs word : List ℕ) → list_all is_word word ≡ true → 1 ≤ length word
+pub trim_solid : (xs word : List ℕ) → list_all is_word word ≡ true → 1 ≤ length word
     → trim_end (xs ++ word) ≡ xs ++ word
 trim_solid [] word a h = trim_end_word word a
 trim_solid (x ∷ xs) word a h =

@@ -5,8 +5,9 @@ use Rattle.sdp_format.specs.declared.sdp.Range.{Range}
 use Rattle.sdp_format.specs.declared.sdp.Range.TheVariants.{Narrow, FullProtect, Full}
 use Rattle.sdp_format.specs.Naming.{Item}
 use Rattle.sdp_format.specs.Sections.{Leg}
-use Rattle.sdp_format.specs.Canonical.{depth_text, divisor_text}
+use Rattle.sdp_format.specs.Canonical.{divisor_text}
 use Rattle.st_format.specs.Words.{sampling_text}
+use Rattle.st_format.specs.Forms.{depth_text}
 
 abbrev pub range_items : Range → List Item
 range_items Narrow = []

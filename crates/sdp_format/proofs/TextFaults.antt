@@ -14,6 +14,7 @@ use Rattle.sdp_format.specs.Bytes.{lines}
 use Rattle.sdp_format.specs.Sections.{Section, Leg, Description, video_sections}
 use Rattle.st_format.specs.Reading.{◌>>=◌}
 use Rattle.st_format.proofs.SameFields.{fields_are, fields_self}
+use Rattle.st_format.proofs.Decimals.{and_parts}
 use Rattle.sdp_format.specs.Reading.{fault_where, GivesUnlessMemory, section_walk, same_range}
 use Rattle.sdp_format.specs.Reading.{same_leg}
 use Rattle.sdp_format.specs.Reading.{sections_walk, text_walk}
@@ -22,7 +23,6 @@ use Rattle.sdp_format.specs.Grammar.{IsTextFault, OneSays, BothSay, IsDescribed}
 use Rattle.sdp_format.proofs.Members.{not_both}
 use Rattle.sdp_format.proofs.Doubles.{bytes_same, same_bytes}
 use Rattle.sdp_format.proofs.Said.{false_from}
-use Rattle.sdp_format.proofs.Again.{and_parts}
 use Rattle.sdp_format.proofs.SectionFaults.{section_fault, section_read, section_said}
 
 -- WHETHER TWO SECTIONS SAY THE SAME

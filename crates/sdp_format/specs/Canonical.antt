@@ -2,18 +2,11 @@
 use Rattle.std.specs.Prelude.{ℕ, ◌==◌, if◌then◌else◌, List, [], ◌++◌}
 use Rattle.std.specs.Fmt.{decimal}
 use Rattle.std.proofs.Common.{codes}
-use Rattle.st_format.specs.declared.sampling.Depth.{Depth}
-use Rattle.st_format.specs.declared.sampling.Depth.TheVariants.{D8, D10, D12, D16}
+use Rattle.st_format.specs.Forms.{depth_text}
 use Rattle.st_format.specs.Words.{sampling_text}
 use Rattle.sdp_format.specs.declared.sdp.Range.{Range}
 use Rattle.sdp_format.specs.declared.sdp.Range.TheVariants.{Narrow, FullProtect, Full}
 use Rattle.sdp_format.specs.Sections.{Leg}
-
-abbrev pub depth_text : Depth → List ℕ
-depth_text D8 = codes "8"
-depth_text D10 = codes "10"
-depth_text D12 = codes "12"
-depth_text D16 = codes "16"
 
 -- the part of a rate behind its first number, and the end of the line
 abbrev pub divisor_text : ℕ → List ℕ

@@ -26,8 +26,8 @@ use Rattle.sdp_format.specs.Bytes.{is_space, trimmed}
 use Rattle.st_format.specs.Words.{number}
 use Rattle.sdp_format.specs.Naming.{Item, items, rate, colorimetry, range_named, required_names}
 use Rattle.sdp_format.specs.Sections.{Section, Leg, Description}
-use Rattle.sdp_format.specs.Canonical.{depth_text}
 use Rattle.st_format.specs.Words.{sampling_text}
+use Rattle.st_format.specs.Forms.{depth_text}
 
 -- LINES
 

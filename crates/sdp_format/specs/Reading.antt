@@ -7,9 +7,8 @@ use Rattle.std.specs.Prelude.{IsOk}
 use Rattle.std.specs.List.{list_all, list_any}
 use Rattle.std.specs.Str.{bytes_eq, str_eq_ignore_ascii_case}
 use Rattle.std.proofs.Common.{codes}
-use Rattle.st_format.specs.declared.sampling.Depth.{Depth}
-use Rattle.st_format.specs.declared.sampling.Depth.TheVariants.{D8, D10, D12, D16}
 use Rattle.st_format.specs.Fields.{Fields, format_at, same_fields}
+use Rattle.st_format.specs.Forms.{depth_named, number_pair}
 use Rattle.st_format.specs.Reading.{◌>>=◌}
 use Rattle.st_format.specs.Words.{number, sampling_named}
 use Rattle.sdp_format.specs.declared.sdp.Range.{Range}
@@ -39,11 +38,6 @@ abbrev pub fault_where : SdpFault → Bool → Result (Unit {0}) SdpFault
 fault_where fault holds = if holds then Err fault else Ok tt
 
 -- port and payload type of a media line
-abbrev pub number_pair : Option ℕ → Option ℕ → Option (ℕ × ℕ)
-number_pair None b = None
-number_pair (Some a) None = None
-number_pair (Some a) (Some b) = Some (a, b)
-
 abbrev pub media_of_parts : List (List ℕ) → Option (ℕ × ℕ)
 media_of_parts [] = None
 media_of_parts (a ∷ []) = None
@@ -65,13 +59,6 @@ first_attribute word n (l ∷ ls) =
 
 unfoldable pub is_raw90000 : List ℕ → Bool
 is_raw90000 text = str_eq_ignore_ascii_case (trimmed text) (codes "raw/90000")
-
-unfoldable pub depth_named : List ℕ → Option Depth
-depth_named text =
-    if bytes_eq text (codes "8") then Some D8 else
-    (if bytes_eq text (codes "10") then Some D10 else
-    (if bytes_eq text (codes "12") then Some D12 else
-    (if bytes_eq text (codes "16") then Some D16 else None)))
 
 abbrev pub lacks_item : List Item → Bool
 lacks_item is = not (list_all (has_name is) required_names)

@@ -1,12 +1,13 @@
 //! The one fmtp line of what a text says.
 ghost use Rattle.std.specs.Prelude.{◌≡◌, ◌++◌, MatchResult, IfOk, codes, decimal};
 ghost use Rattle.sdp_format.specs.declared.fault.SdpFault.TheVariants.{NoMemory};
-ghost use Rattle.sdp_format.specs.Canonical.{canonical_line, divisor_text, depth_text};
+ghost use Rattle.sdp_format.specs.Canonical.{canonical_line, divisor_text};
 ghost use Rattle.sdp_format.specs.Canonical.{range_text};
 ghost use Rattle.sdp_format.specs.Views.{description};
 ghost use Rattle.sdp_format.specs.Back.{ReadsBack};
 ghost use Rattle.st_format.specs.Fields.{fields_of};
 ghost use Rattle.st_format.specs.Words.{sampling_text};
+ghost use Rattle.st_format.specs.Forms.{depth_text};
 
 use crate::fault::SdpFault;
 use crate::sdp::{Range, Sdp};
@@ -34,7 +35,6 @@ fn range_text(range: Range) -> &'static [u8]
     }
 }
 
-/// Puts a piece behind a text.
 fn add<A: Allocator + Copy>(text: &mut Vec<u8, A>, piece: &[u8]) -> Result<(), SdpFault>
     ensures { MatchResult result (λ _. text.new.items ≡ text.old.items ++ piece.now)
         (λ e. e ≡ NoMemory) }
@@ -43,7 +43,6 @@ fn add<A: Allocator + Copy>(text: &mut Vec<u8, A>, piece: &[u8]) -> Result<(), S
     Ok(())
 }
 
-/// Puts an item of this value behind a text.
 fn add_item<A: Allocator + Copy>(
     text: &mut Vec<u8, A>,
     name: &[u8],
@@ -88,7 +87,6 @@ fn add_divisor<A: Allocator + Copy>(
     add(text, digits.as_bytes())
 }
 
-/// Puts the items of a format behind a text.
 fn add_format<A: Allocator + Copy>(
     alloc: A,
     text: &mut Vec<u8, A>,

@@ -41,7 +41,6 @@ fn first_connection(left: Option<&[u8]>) -> Option<&[u8]>
     None
 }
 
-/// The line `c=` that counts for a section.
 fn connection_of<'a>(text: &'a [u8], section: VideoSection<'a>) -> Option<&'a [u8]>
     ensures { option_copied result
         ≡ connection_of (lines text.now) (section_at section.entry) }

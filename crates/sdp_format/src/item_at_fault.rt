@@ -11,7 +11,6 @@ use st_format::split_once;
 /// stands twice takes time with the square of that.
 const SEARCHED: usize = 4096;
 
-/// Whether one of these items has a name.
 fn is_named(items: &[u8], name: &[u8]) -> bool {
     let mut rest = Some(items);
     while let Some((item, more)) = next_item(rest) {
@@ -23,7 +22,6 @@ fn is_named(items: &[u8], name: &[u8]) -> bool {
     false
 }
 
-/// Whether an item behind these items has a fault.
 fn has_fault(fault: SdpFault, item: Parameter<'_>, earlier: &[u8]) -> bool {
     match fault {
         SdpFault::BadParameter => is_bad(item),

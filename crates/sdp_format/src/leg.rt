@@ -1,9 +1,8 @@
 //! What one section says.
 ghost use Rattle.std.specs.Prelude.{◌≡◌, ◌≤◌};
 ghost use Rattle.sdp_format.specs.Views.{items_in};
-ghost use Rattle.sdp_format.specs.Reading.{result_map, format_of, depth_named};
+ghost use Rattle.sdp_format.specs.Reading.{result_map, format_of};
 ghost use Rattle.st_format.specs.Fields.{fields_of};
-ghost use Rattle.st_format.specs.Words.{sampling_named};
 
 use crate::fault::SdpFault;
 use crate::items::rate;
@@ -12,36 +11,13 @@ use crate::parameters::{Parameters, is_interlaced, text_of};
 use st_format::{Depth, Format, Sampling, read_number};
 use std::alloc::Allocator;
 
-fn sampling_of(text: &[u8]) -> Option<Sampling>
-    ensures { result ≡ sampling_named text.now }
-{
-    Sampling::of_word(text)
-}
-
-#[tactic(auto, unfolding(crate::specs::Reading::depth_named))]
-fn depth_named(text: &[u8]) -> Option<Depth>
-    ensures { result ≡ depth_named text.now }
-{
-    if is_word(text, b"8") {
-        Some(Depth::D8)
-    } else if is_word(text, b"10") {
-        Some(Depth::D10)
-    } else if is_word(text, b"12") {
-        Some(Depth::D12)
-    } else if is_word(text, b"16") {
-        Some(Depth::D16)
-    } else {
-        None
-    }
-}
-
-/// The format that the items give.
 #[tactic(auto, unfolding(crate::specs::Reading::format_of))]
 pub(crate) fn format_of<A: Allocator>(list: &Parameters<'_, A>) -> Result<Format, SdpFault>
     ensures { result_map fields_of result ≡ format_of (items_in list.now) }
 {
-    let sampling = sampling_of(text_of(list, b"sampling")).ok_or(SdpFault::UnsupportedSampling)?;
-    let depth = depth_named(text_of(list, b"depth")).ok_or(SdpFault::UnsupportedDepth)?;
+    let sampling = text_of(list, b"sampling");
+    let sampling = Sampling::of_word(sampling).ok_or(SdpFault::UnsupportedSampling)?;
+    let depth = Depth::of_word(text_of(list, b"depth")).ok_or(SdpFault::UnsupportedDepth)?;
     if is_interlaced(list) {
         return Err(SdpFault::Interlaced);
     }

@@ -19,7 +19,6 @@ pub(crate) fn is_word(text: &[u8], word: &[u8]) -> bool
     text == word
 }
 
-/// Whether a text begins with a word.
 pub(crate) fn begins(word: &[u8], text: &[u8]) -> bool
     ensures { result ≡ begins_with word.now text.now }
 {
@@ -35,7 +34,6 @@ pub(crate) fn next_line(text: &[u8]) -> (&[u8], Option<&[u8]>)
     (without_carriage_return(line), rest)
 }
 
-/// The next video section.
 pub(crate) fn next_video<'a>(left: Option<&'a [u8]>) -> Option<VideoSection<'a>>
     ensures { let sections = video_sections (split_lines_left (option_copied left.entry)) in
         MatchOption result (sections ≡ []) (λ s. sections
@@ -108,7 +106,6 @@ pub(crate) fn first_attribute<'a>(
     }
 }
 
-/// A decimal number up to a limit.
 fn small_number(text: &[u8], limit: u32) -> Option<u32>
     ensures value { result ≡ at_most limit (number text.now) }
     ensures limit { IfSome result (λ v. v ≤ limit) }
@@ -127,7 +124,6 @@ pub(crate) fn is_raw90000(text: &[u8]) -> bool
     trim(text).eq_ignore_ascii_case(b"raw/90000")
 }
 
-/// The port and the payload type of a media line.
 #[tactic(auto, using(crate::proofs::Parts::next_part), unfolding(crate::specs::Reading::media_of))]
 pub(crate) fn media_of(line: &[u8]) -> Option<(u16, u8)>
     ensures value { result ≡ media_of line.now }

@@ -102,14 +102,12 @@ pub(crate) fn parameters_of<'a, A: Allocator + Copy>(
     Ok(known)
 }
 
-/// The value of the item of a name.
 pub(crate) fn value_of<'a, A: Allocator>(list: &Parameters<'a, A>, name: &[u8]) -> Option<&'a [u8]>
     ensures { option_copied result ≡ value_of name.now (items_in list.now) }
 {
     list.get(name).copied()
 }
 
-/// Whether there is an item of a name.
 pub(crate) fn has<A: Allocator>(list: &Parameters<'_, A>, name: &[u8]) -> bool
     ensures { result ≡ has_name (items_in list.now) name.now }
 {
@@ -126,7 +124,6 @@ pub(crate) fn text_of<'a, A: Allocator>(list: &Parameters<'a, A>, name: &[u8]) -
     }
 }
 
-/// Whether one of the eight required names is missing.
 pub(crate) fn is_missing<A: Allocator>(list: &Parameters<'_, A>) -> bool
     ensures { result ≡ lacks_item (items_in list.now) }
 {

@@ -48,7 +48,6 @@ impl fmt::Display for Located {
 
 impl Error for Located {}
 
-/// How many LFs a text has.
 fn line_feeds(text: &[u8]) -> usize
     ensures value { result ≡ line_feeds text.now }
     ensures most { result ≤ length text.now }
@@ -123,7 +122,6 @@ fn attribute_left<'a>(section: VideoSection<'a>, fault: SdpFault) -> Option<Opti
     Some(left)
 }
 
-/// The place of a fault of a section.
 fn place_in(text: &[u8], section: VideoSection<'_>, fault: SdpFault) -> Place
     ensures { IsPlace text.now result }
 {

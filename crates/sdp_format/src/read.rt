@@ -54,7 +54,6 @@ fn said_in<A: Allocator>(payload_type: u8, list: &Parameters<'_, A>) -> Result<L
     })
 }
 
-/// What the items of an fmtp line say.
 #[tactic(auto, unfolding(crate::specs::Reading::leg_of))]
 fn leg_of<A: Allocator + Copy>(alloc: A, payload_type: u8, text: &[u8]) -> Result<Leg, SdpFault>
     requires { payload_type ≤ 127 }
@@ -117,7 +116,6 @@ fn same_range(a: Range, b: Range) -> bool
     }
 }
 
-/// Whether two sections say the same.
 #[tactic(auto, unfolding(crate::specs::Reading::same_leg))]
 fn same_leg(a: &Leg, b: &Leg) -> bool
     ensures { result ≡ same_leg (leg_seen a.now) (leg_seen b.now) }
@@ -128,7 +126,6 @@ fn same_leg(a: &Leg, b: &Leg) -> bool
         && is_word(a.colorimetry.as_slice(), b.colorimetry.as_slice())
 }
 
-/// What a text of these ports says.
 fn described(ports: ArrayVec<u16, 2>, leg: Leg) -> Sdp
     requires { 0 < length ports.items }
     ensures { description result ≡ record { ports = ports.items; leg = leg_seen leg } }

@@ -98,7 +98,6 @@ fn read_source(text: &[u8], address: IpAddr) -> Option<IpAddr>
     }
 }
 
-/// The source of the datagrams that a section sends to an address.
 pub(crate) fn source_of<'a>(
     text: &'a [u8],
     section: VideoSection<'a>,

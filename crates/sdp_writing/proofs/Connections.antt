@@ -15,10 +15,11 @@ use Rattle.std.specs.Net.Grammar.{IsGroups, IsColonHex}
 use Rattle.std.specs.Net.Text.{dotted_text, ipv4_text, ipv6_text}
 use Rattle.std.proofs.NetLemmas.Alphabet.{IsDigitOrDot, IsHexOrColon}
 use Rattle.std.proofs.NetLemmas.Texts.{IsDotted-ipv4_text, IsColonHex-ipv6_text}
-use Rattle.sdp_format.specs.Bytes.{front, trim_end, unless_spaces}
+use Rattle.sdp_format.specs.Bytes.{front, trim_end}
 use Rattle.sdp_format.specs.Destinations.{IsConnection}
-use Rattle.sdp_format.proofs.Again.{is_word, trim_end_word, cut_at}
+use Rattle.sdp_format.proofs.Again.{is_word, cut_at}
 use Rattle.sdp_format.proofs.Line.{all_append, uncut}
+use Rattle.sdp_format.proofs.LineForms.{trim_solid}
 use Rattle.sdp_writing.specs.Written.{connection_line, connection_lines, lifetime_text}
 use Rattle.sdp_writing.proofs.Alphabets.{PassesAddress, ipv4_passes, ipv6_passes}
 use Rattle.sdp_writing.proofs.Splits.{is_within_line, IsOneLine, AreOneLine}
@@ -92,17 +93,6 @@ some_colon_hex text segments (inr h) =
     )
 
 -- ---- what stands before the slash
-
-unless_some : (b : ℕ) (xs : List ℕ) → 1 ≤ length xs → unless_spaces b xs ≡ b ∷ xs
-unless_some b [] h = absurd (omega arith)
-unless_some b (y ∷ ys) h = refl
-
-trim_solid : (xs word : List ℕ) → list_all is_word word ≡ true → 1 ≤ length word
-    → trim_end (xs ++ word) ≡ xs ++ word
-trim_solid [] word a h = trim_end_word word a
-trim_solid (x ∷ xs) word a h =
-    ap (unless_spaces x) (trim_solid xs word a h)
-    ∙ unless_some x (xs ++ word) (omega (arith, length-append xs word))
 
 named_alone : (word text : List ℕ) → list_all is_word text ≡ true → 1 ≤ length text
     → list_all is_no_slash (word ++ text) ≡ true

@@ -10,15 +10,16 @@ use Rattle.st_format.specs.declared.sampling.Sampling.TheVariants.{Ycc422, Ycc44
 use Rattle.st_format.specs.declared.sampling.Depth.{Depth}
 use Rattle.st_format.specs.declared.sampling.Depth.TheVariants.{D8, D10, D12, D16}
 use Rattle.st_format.specs.Words.{sampling_text}
+use Rattle.st_format.specs.Forms.{depth_text}
+use Rattle.st_format.proofs.Decimals.{and_parts}
 use Rattle.flow.specs.declared.flows.Flow.{Flow}
 use Rattle.sdp_writing.specs.Written.{IsTold}
 use Rattle.sdp_format.specs.declared.sdp.Range.{Range}
 use Rattle.sdp_format.specs.declared.sdp.Range.TheVariants.{Narrow, FullProtect, Full}
 use Rattle.sdp_format.specs.Back.{IsLeg}
-use Rattle.sdp_format.specs.Canonical.{canonical_line, depth_text, divisor_text, range_text}
+use Rattle.sdp_format.specs.Canonical.{canonical_line, divisor_text, range_text}
 use Rattle.sdp_format.specs.Naming.{colorimetry, is_name_byte}
 use Rattle.sdp_format.specs.Sections.{Leg}
-use Rattle.sdp_format.proofs.Again.{and_parts}
 use Rattle.sdp_format.proofs.Line.{all_append, all_so, decimal_all}
 use Rattle.sdp_writing.specs.Written.{leg_lines, map_line, media_line, sdp_lines}
 use Rattle.sdp_writing.specs.Written.{connection_lines, session_lines}

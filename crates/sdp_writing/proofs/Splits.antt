@@ -6,8 +6,9 @@ use Rattle.std.specs.List.{list_all}
 use Rattle.std.specs.Str.Lines.{strip_carriage_return}
 use Rattle.std.proofs.Math.Seq.{take-append_seam}
 use Rattle.std.proofs.lemmas.List.{length-append}
+use Rattle.st_format.proofs.Decimals.{and_parts}
 use Rattle.sdp_format.specs.Bytes.{split, lines}
-use Rattle.sdp_format.proofs.Again.{and_parts, not_true}
+use Rattle.sdp_format.proofs.Again.{not_true}
 use Rattle.sdp_writing.specs.Lines.{text_of}
 
 -- an octet that is no LF; a line without one; such lines

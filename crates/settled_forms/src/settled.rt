@@ -15,7 +15,7 @@ use std::alloc::Allocator;
 
 /// Writes a frame as the picture that [`Frame::settle`](frame_assembly::Frame::settle) gives with
 /// this base: of YCbCr as a frame of a YUV4MPEG2 stream, of RGB as a portable pixmap. It is settled
-/// into `samples`, which has just the room; no memory is taken.
+/// into `samples`, which has just the room, and has the picture's samples then; no memory is taken.
 ///
 /// # Errors
 ///
@@ -30,6 +30,7 @@ pub fn write_settled<A: Allocator, B: Allocator, K: ByteSink>(
     requires base { IsBaseOf base frame.now.format }
     requires room { length samples.old ≡ sample_count frame.now.format }
     ensures room { length samples.new ≡ length samples.old }
+    ensures settled { samples.new ≡ (settled_picture frame.now base.entry).samples }
     ensures ok { OnOk result (Appends (K.held sink.old) (K.held sink.new)
         (form_text (settled_picture frame.now base.entry))) }
     ensures fault { IfErr result (λ f. IsDevice f

@@ -13,7 +13,6 @@ use Rattle.flow.specs.declared.flows.Flows.{Flows}
 use Rattle.recording_reader.specs.FileReader.{FileReader, Finds, FindsFault, FindsOne, IsSameFile}
 use Rattle.recording_reader.specs.FileReader.{IsNewFileReader, fault_of, octets_at_hand}
 use Rattle.st_format.specs.Device.{Told}
-use Rattle.recording_engines.specs.Faults.{reading_fault}
 use Rattle.run_outcome.proofs.SetSums.{set_counted}
 use Rattle.run_outcome.specs.Fault.{Blames, counts}
 use Rattle.run_outcome.specs.declared.fault.Fault.{Fault}
@@ -35,6 +34,7 @@ use Rattle.side_by_side.specs.declared.side.Side.{Side}
 use Rattle.side_by_side.specs.declared.steering.Steering.{Steering}
 use Rattle.side_by_side.proofs.Gone.{AllKnownAhead, IsKnownAhead, all_stay, going_ahead}
 use Rattle.side_by_side.proofs.Gone.{goings_ahead}
+use Rattle.run_outcome.specs.LowerFaults.{reading_fault}
 
 -- ---- one file
 

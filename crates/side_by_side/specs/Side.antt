@@ -3,7 +3,6 @@ use Rattle.std.specs.Prelude.{◌≡◌, ℕ, ◌⊎◌, ⊤, List, [], ◌∷�
 use Rattle.std.specs.Prelude.{map, Bool, true, false}
 use Rattle.flow.specs.declared.flows.Flows.{Flows}
 use Rattle.media_file.specs.Records.{Entry}
-use Rattle.recording_engines.specs.Faults.{reading_fault}
 use Rattle.recording_engines.specs.Files.{IsAt, IsUnread}
 use Rattle.recording_engines.specs.declared.file.ImportFile.{ImportFile}
 use Rattle.recording_engines.specs.declared.file.ImportFile.TheVariants.{Closed, Open, Taken}
@@ -19,6 +18,7 @@ use Rattle.side_by_side.specs.declared.going.Going.{Going}
 use Rattle.side_by_side.specs.declared.going.Going.TheVariants.{Unread, AtOnce, By, Never}
 use Rattle.side_by_side.specs.declared.side.Side.{Side}
 use Rattle.side_by_side.specs.declared.steering.Steering.{Steering}
+use Rattle.run_outcome.specs.LowerFaults.{reading_fault}
 
 -- one of this source, which isn't opened
 abbrev pub closed_side : {A S : Type 0} → S → Side A S

@@ -4,7 +4,6 @@ use Rattle.std.specs.Prelude.{Option, None, Some}
 use Rattle.std.specs.List.{AllByRecursion, AllZip, sum_by}
 use Rattle.std.specs.Option.{option_map}
 use Rattle.media_file.specs.Records.{Entry}
-use Rattle.recording_engines.specs.Faults.{reading_fault}
 use Rattle.recording_engines.specs.Files.{IsAt, failures_by, next_of}
 use Rattle.recording_engines.specs.declared.file.ImportFile.{ImportFile}
 use Rattle.recording_engines.specs.declared.file.ImportFile.TheVariants.{Closed, Open, Taken}
@@ -30,6 +29,7 @@ use Rattle.side_by_side.specs.Strands.{GoesWhole}
 use Rattle.side_by_side.specs.declared.going.Going.TheVariants.{Unread}
 use Rattle.side_by_side.specs.declared.side.Side.{Side}
 use Rattle.side_by_side.specs.declared.steering.Steering.{Steering}
+use Rattle.run_outcome.specs.LowerFaults.{reading_fault}
 
 -- ---- files
 
@@ -75,7 +75,8 @@ IsBegun s = (s.going ≡ Unread) × IsFreshFile s.file
 -- ---- what calls do
 
 -- Each was read on, to its next datagram or to its end.
-pub record ReadsAll {A S : Type 0} (steering : Steering) (olds news : List (Side A S)) : Type 0 where
+pub record ReadsAll {A S : Type 0} (steering : Steering) (olds news : List (Side A S))
+    : Type 0 where
   pub sound : AllSound steering news
   pub read : AllRead news
   pub goes_on : AllGoOn (standings olds) (standings news)
@@ -89,8 +90,8 @@ pub record StopsAll {A S : Type 0} (steering : Steering) (f : ReadingFault)
 
 -- The datagram that the one of a place has at hand was given by a turn, whose octets stand at the
 -- front of a buffer.
-pub record GivesHand {A S : Type 0} (place : ℕ) (t : Turn) (buf : List ℕ) (olds news : List (Side A S))
-    : Type 0 where
+pub record GivesHand {A S : Type 0} (place : ℕ) (t : Turn) (buf : List ℕ)
+    (olds news : List (Side A S)) : Type 0 where
   pub other : Side A S
   pub given : Side A S
   pub told : TellsTurn (next_of (get_or olds place other).file) t buf
@@ -110,7 +111,8 @@ pub record TellsOne {A S : Type 0} (steering : Steering) (path : Path) (count : 
   pub left : AllOver news → ⊥
 
 -- None has one.
-pub record TellsEnd {A S : Type 0} (steering : Steering) (olds news : List (Side A S)) : Type 0 where
+pub record TellsEnd {A S : Type 0} (steering : Steering) (olds news : List (Side A S))
+    : Type 0 where
   pub sound : AllSound steering news
   pub gone : (entries : List Entry) → HasGone steering (standings olds) entries
       → HasGone steering (standings news) entries
@@ -174,15 +176,15 @@ pub record StopsSides {A S : Type 0} (f : ReadingFault) (old new : Sides A S) : 
   pub failures : CountsOne old.failures new.failures
   pub fault : new.fault ≡ Some f
 
--- What a source of datagrams says of a call that failed: by which fault, at which it stays; and where
--- no file was at a fault before, whether a device failed.
-pub record FailsBy {A S : Type 0} (failures : S → ℕ) (e : SourceFault) (old new : Sides A S) : Type 0
-  where
-    pub reading : ReadingFault
-    pub told : e ≡ source_fault reading
-    pub stays : new.fault ≡ Some reading
-    pub device : AllUnfailed old.sides → Blames (counts (failures_each failures old.sides)
-        (failures_each failures new.sides) ∷ []) (reading_fault reading)
+-- What a source of datagrams says of a call that failed: by which fault, at which it stays; and
+-- where no file was at a fault before, whether a device failed.
+pub record FailsBy {A S : Type 0} (failures : S → ℕ) (e : SourceFault) (old new : Sides A S)
+    : Type 0 where
+  pub reading : ReadingFault
+  pub told : e ≡ source_fault reading
+  pub stays : new.fault ≡ Some reading
+  pub device : AllUnfailed old.sides → Blames (counts (failures_each failures old.sides)
+      (failures_each failures new.sides) ∷ []) (reading_fault reading)
 
 -- ---- the octets of files
 

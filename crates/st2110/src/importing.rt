@@ -60,7 +60,6 @@ fn tell_flows(
     )
 }
 
-/// The names of those files that are recordings.
 fn recordings<'a>(
     rt: &HostRuntime,
     words: &ImportWords<'a>,

@@ -3,6 +3,7 @@
 
 ghost use Rattle.std.specs.Result.{ForOk};
 
+mod converting;
 mod describing;
 mod exporting;
 mod importing;
@@ -10,13 +11,15 @@ mod inspecting;
 mod receiving;
 mod sending;
 
-use capture_runs::{LoopCommand, MigrateCommand};
+use capture_runs::{FollowCommand, LoopCommand, MigrateCommand};
 use command_end::{Command, end_without_memory, run_command};
 use command_line::{Given, Words, WordsFault, given_words, read_words};
+use converting::convert;
 use describing::sdp;
 use exporting::export;
 use importing::import;
 use inspecting::inspect;
+use picture_runs::PictureCommand;
 use receiver_runs::{MergeCommand, ProcessCommand, ReportCommand};
 use receiving::receive;
 use run_outcome::Status;
@@ -71,6 +74,11 @@ fn follow(rt: &HostRuntime, given: &Given<'_>) -> u8 {
         Words::Import(words) => import(rt, words, explains, given.is_verbose),
         Words::Export(words) => export(rt, words, explains),
         Words::Inspect(words) => inspect(rt, words, explains, given.is_verbose),
+        Words::Follow(words) => run_made(rt, explains, FollowCommand::new(rt, words)),
+        Words::Convert(words) => convert(rt, words, explains),
+        Words::Picture(words) => {
+            run_command(rt, explains, PictureCommand::new(rt, words)).status
+        }
     }
 }
 

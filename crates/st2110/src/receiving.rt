@@ -44,7 +44,6 @@ pub(crate) fn tell_flows(rt: &HostRuntime, names: &[&str], files: &Files<'_>, ex
     }
 }
 
-/// The names of those files that are recordings.
 fn recordings<'a>(
     rt: &HostRuntime,
     names: &[&'a str],
@@ -78,7 +77,6 @@ fn tell_lost(rt: &HostRuntime, reception: &Reception, seen: &Seen, is_verbose: b
 /// What became of datagrams and packets.
 #[derive(Clone, Copy)]
 struct Lost<'a> {
-    /// How many datagrams were delivered.
     delivered: u64,
     tally: &'a Tally,
     /// The packets of recordings of which no datagram was delivered.
@@ -86,7 +84,6 @@ struct Lost<'a> {
 }
 
 impl Lost<'_> {
-    /// How many datagrams were refused.
     fn refused(&self) -> u64 {
         let mut sum = 0u64;
         for count in self.tally.refused.iter() {

@@ -19,9 +19,9 @@ ghost use Rattle.run_outcome.specs.Text.{GivesText};
 ghost use Rattle.capture_engines.specs.Looped.{IsLoopRefusal};
 ghost use Rattle.capture_engines.specs.Looping.{Loops};
 
-use capture_engines::{DatagramLink, Looping, Sending, Wanted, loop_back, migrate, receive, send};
+use capture_engines::{Looping, Sending, Wanted, loop_back, migrate, receive, send};
 use run_outcome::end;
-use st_format::{ByteSink, ByteSource};
+use st_format::{ByteSink, ByteSource, DatagramLink};
 use std::alloc::Allocator;
 
 /// Sends pictures, one after the other, into a capture, and prints `sent N` to `output`, how many

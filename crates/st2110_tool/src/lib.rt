@@ -5,7 +5,7 @@ mod captures;
 mod receivers;
 mod scripts;
 
-pub use capture_engines::{DatagramLink, Looping, MemoryLink, Sending, Wanted};
+pub use capture_engines::{Looping, MemoryLink, Sending, Wanted};
 pub use captures::{run_loop, run_migrate, run_receive, run_send};
 pub use media_file::Paths;
 pub use packet_plan::Stamp;
@@ -13,3 +13,4 @@ pub use receiver_engines::Processing;
 pub use receivers::{run_merge, run_process, run_report};
 pub use run_outcome::Status;
 pub use scripts::{run_rehearse, run_sdp, run_trace};
+pub use st_format::DatagramLink;

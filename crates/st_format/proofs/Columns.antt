@@ -110,7 +110,7 @@ group_of_column Rgb D10 column i below = omega arith
 group_of_column Rgb D12 column i below = omega arith
 group_of_column Rgb D16 column i below = omega arith
 
-some_samples : (s : Sampling) (d : Depth) → 0 < (pixel_group s d).samples
+pub some_samples : (s : Sampling) (d : Depth) → 0 < (pixel_group s d).samples
 some_samples Ycc422 D8 = omega arith
 some_samples Ycc422 D10 = omega arith
 some_samples Ycc422 D12 = omega arith

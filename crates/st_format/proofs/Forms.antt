@@ -1,5 +1,5 @@
 -- Texts that are written are read again.
-use Rattle.std.proofs.Common.{◌≡◌, ℕ, suc, ◌+◌, ◌^◌, ◌<◌, Bool, true, false, cond, not, ◌&&◌, List}
+use Rattle.std.proofs.Common.{◌≡◌, ℕ, suc, ◌+◌, ◌^◌, ◌<◌, Bool, true, false, cond, not, List}
 use Rattle.std.proofs.Common.{[], ◌∷◌, ◌++◌, length, take, drop, Option, Some, None}
 use Rattle.std.proofs.Common.{Result, Ok, Err}
 use Rattle.std.proofs.Common.{refl, ap, ◌∙◌, sym, arith, lit<, append_assoc, codes}
@@ -28,18 +28,18 @@ use Rattle.st_format.specs.Forms.{rate_text, read_format, read_rate, format_text
 use Rattle.st_format.specs.Pgroup.{bits_of}
 use Rattle.st_format.specs.Text.{parted}
 use Rattle.st_format.specs.Words.{IsNumber, number, sampling_named, sampling_text}
-use Rattle.st_format.proofs.Decimals.{digits, passes}
+use Rattle.st_format.proofs.Decimals.{digits, passes, and_parts}
 use Rattle.st_format.proofs.Made.{format_at-fields, good_rate}
 
 -- ---- words
 
-sampling_again : (s : Sampling) → sampling_named (sampling_text s) ≡ Some s
+pub sampling_again : (s : Sampling) → sampling_named (sampling_text s) ≡ Some s
 unfolding sampling_named
 sampling_again Ycc422 = refl
 sampling_again Ycc444 = refl
 sampling_again Rgb = refl
 
-depth_again : (b : Depth) → depth_named (depth_text b) ≡ Some b
+pub depth_again : (b : Depth) → depth_named (depth_text b) ≡ Some b
 unfolding depth_named
 depth_again D8 = refl
 depth_again D10 = refl
@@ -96,7 +96,7 @@ bits_found fault b r = found bits_of fault depth_at (λ x. x) bits_again (λ v w
 
 -- ---- numbers
 
-number_by : (text : List ℕ) (n : ℕ) → IsNumber text → digits_value 10 text ≡ n
+pub number_by : (text : List ℕ) (n : ℕ) → IsNumber text → digits_value 10 text ≡ n
     → number text ≡ Some n
 unfolding number
 number_by text n is value =
@@ -116,12 +116,8 @@ number_decimal n small =
 
 -- ---- texts that are parted
 
-abbrev lacks : ℕ → List ℕ → Type 0
+abbrev pub lacks : ℕ → List ℕ → Type 0
 lacks b xs = list_all (λ c. not (c == b)) xs ≡ true
-
-and_parts : (a b : Bool) → (a && b) ≡ true → (a ≡ true) × (b ≡ true)
-and_parts true b e = (refl, e)
-and_parts false b e = (cc, cc)
 
 number_self : (a : ℕ) → (a == a) ≡ true
 number_self a = (Decides-eqb a a).1 refl
@@ -162,7 +158,7 @@ longer b xs ys = grind (arith, common_steps)
 abbrev cut_at : List ℕ → Option ℕ → Option (List ℕ × List ℕ)
 cut_at text place = option_map (λ i. (take i text, drop (i + 1) text)) place
 
-parted_at : (b : ℕ) (xs ys : List ℕ) → lacks b xs → parted b (xs ++ b ∷ ys) ≡ Some (xs, ys)
+pub parted_at : (b : ℕ) (xs ys : List ℕ) → lacks b xs → parted b (xs ++ b ∷ ys) ≡ Some (xs, ys)
 parted_at b xs ys e =
     let all = xs ++ b ∷ ys in
     ap (λ (i : ℕ). cut_at all (cond (nat_lt i (length all)) (Some i) None)) (first_at b xs ys e)
@@ -171,7 +167,7 @@ parted_at b xs ys e =
     ∙ ap (λ (u : List ℕ). Some (u, drop (length xs + 1) all)) (cut_front b xs ys)
     ∙ ap (λ (v : List ℕ). Some (xs, v)) (cut_back b xs ys)
 
-parted_none : (b : ℕ) (xs : List ℕ) → lacks b xs → parted b xs ≡ None
+pub parted_none : (b : ℕ) (xs : List ℕ) → lacks b xs → parted b xs ≡ None
 parted_none b xs e =
     ap (λ (i : ℕ). cut_at xs (cond (nat_lt i (length xs)) (Some i) None)) (first_past b xs e)
     ∙ ap (λ (t : Bool). cut_at xs (cond t (Some (length xs)) None)) (not_below (length xs))
@@ -186,7 +182,7 @@ all_so p q so (x ∷ xs) e =
 digit_other : (b : ℕ) → b < 48 → (x : ℕ) → is_ascii_digit x ≡ true → not (x == b) ≡ true
 digit_other b low x e = grind (arith, nat_tests)
 
-decimal_lacks : (b n : ℕ) → b < 48 → n < 2 ^ 32 → lacks b (decimal n)
+pub decimal_lacks : (b n : ℕ) → b < 48 → n < 2 ^ 32 → lacks b (decimal n)
 decimal_lacks b n low small =
     let wide : n < 2 ^ 64 = omega arith in
     all_so is_ascii_digit (λ c. not (c == b)) (digit_other b low) (decimal n)

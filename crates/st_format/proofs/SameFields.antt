@@ -12,6 +12,7 @@ use Rattle.st_format.specs.declared.format.Format.{Format}
 use Rattle.st_format.specs.Fields.{Fields, fields_of, same_depth, same_fields, same_sampling}
 use Rattle.st_format.specs.Limits.{IsHeight, IsRate, IsWidth}
 use Rattle.st_format.specs.Rate.{IsLowest}
+use Rattle.st_format.proofs.Decimals.{and_parts}
 
 abbrev Facts : Fields → Type 0
 Facts x = IsWidth x.sampling x.depth x.width × IsHeight x.height × IsRate x.n x.d × IsLowest x.n x.d
@@ -77,10 +78,6 @@ number_is a b e = (Decides-eqb a b).0 e
 
 number_self : (a : ℕ) → (a == a) ≡ true
 number_self a = (Decides-eqb a a).1 refl
-
-and_parts : (a b : Bool) → (a && b) ≡ true → (a ≡ true) × (b ≡ true)
-and_parts true b e = (refl, e)
-and_parts false b e = (cc, cc)
 
 abbrev fields : Sampling → Depth → ℕ → ℕ → ℕ → ℕ → Fields
 fields s b w h n d = record { sampling = s; depth = b; width = w; height = h; n = n; d = d }

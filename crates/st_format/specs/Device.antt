@@ -7,6 +7,10 @@ use Rattle.std.specs.Io.KnownBytes.{Consumes, Appends}
 abbrev pub CountsOne : ℕ → ℕ → Type 0
 CountsOne old new = new ≡ min (old + 1) (2 ^ 64 - 1)
 
+-- a count stays at 2^64 - 1 once it is there (own)
+abbrev pub capped : ℕ → ℕ
+capped n = min n (2 ^ 64 - 1)
+
 -- an `Err` is one failure more, and an `Ok` none (own)
 abbrev pub CountsFaults : {V E : Type 0} → ℕ → ℕ → Result V E → Type 0
 CountsFaults old new result = MatchResult result (λ _. new ≡ old) (λ _. CountsOne old new)

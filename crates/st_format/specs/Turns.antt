@@ -1,7 +1,9 @@
 -- The turns of a source of datagrams (own).
-use Rattle.std.specs.Prelude.{◌≡◌, ℕ, ◌<◌, List, [], ◌∷◌, ◌++◌, take, ⊤, Option, None, Some}
+use Rattle.std.specs.Prelude.{◌≡◌, ℕ, ◌<◌, Bool, true, false, List, [], ◌∷◌, ◌++◌, take, ⊤, Option}
+use Rattle.std.specs.Prelude.{None, Some}
 use Rattle.st_format.specs.Device.{CountsOne}
 use Rattle.st_format.specs.declared.path.Path.{Path}
+use Rattle.st_format.specs.declared.path.Path.TheVariants.{A, B}
 use Rattle.st_format.specs.declared.device.Turn.{Turn}
 use Rattle.st_format.specs.declared.device.Turn.TheVariants.{Datagram, Quiet, End}
 
@@ -10,6 +12,13 @@ use Rattle.st_format.specs.declared.device.Turn.TheVariants.{Datagram, Quiet, En
 pub data Due : Type 0 where
   Comes : Path → List ℕ → Due
   Nothing : Due
+
+-- two paths are one
+abbrev pub is_path : Path → Path → Bool
+is_path A A = true
+is_path A B = false
+is_path B A = false
+is_path B B = true
 
 -- the octets of the datagrams among turns, in order
 abbrev pub datagrams_of : List Due → List (List ℕ)

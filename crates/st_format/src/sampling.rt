@@ -39,6 +39,8 @@ pub struct Pgroup {
 }
 
 impl Depth {
+    ghost use Rattle.st_format.specs.Forms.{depth_named, depth_text};
+
     /// How many bits a sample has: 8, 10, 12 or 16.
     pub fn bits(self) -> u32
         ensures { result ≡ bits_of self }
@@ -48,6 +50,27 @@ impl Depth {
             Depth::D10 => 10,
             Depth::D12 => 12,
             Depth::D16 => 16,
+        }
+    }
+
+    /// The depth of a word, which is just that, as `08` isn't.
+    #[tactic(auto, unfolding(crate::specs::Forms::depth_named))]
+    pub fn of_word(text: &[u8]) -> Option<Depth>
+        ensures is { IfSome result (λ b. text.now ≡ depth_text b) }
+        ensures none { IfNone result ((b : Depth) → text.now ≢ depth_text b) }
+        // The same by comparisons, for the walks that go on from it.
+        ensures exact { result ≡ depth_named text.now }
+    {
+        if text == b"8".as_slice() {
+            Some(Depth::D8)
+        } else if text == b"10".as_slice() {
+            Some(Depth::D10)
+        } else if text == b"12".as_slice() {
+            Some(Depth::D12)
+        } else if text == b"16".as_slice() {
+            Some(Depth::D16)
+        } else {
+            None
         }
     }
 }

@@ -1,6 +1,6 @@
 //! The words of samplings, depths, paths and rates.
 ghost use Rattle.std.specs.Prelude.{◌≡◌, Some};
-ghost use Rattle.st_format.specs.Forms.{FindsBy, depth_named, depth_text, path_text};
+ghost use Rattle.st_format.specs.Forms.{FindsBy, depth_text, path_text};
 ghost use Rattle.st_format.specs.Forms.{rate_named};
 ghost use Rattle.st_format.specs.Pgroup.{bits_of};
 ghost use Rattle.st_format.specs.Words.{sampling_text};
@@ -89,24 +89,6 @@ impl fmt::Display for Depth {
             Depth::D12 => f.write_str("12"),
             Depth::D16 => f.write_str("16"),
         }
-    }
-}
-
-/// The depth whose word a text is.
-#[tactic(auto, unfolding(crate::specs::Forms::depth_named))]
-pub(crate) fn depth_named(text: &[u8]) -> Option<Depth>
-    ensures { result ≡ depth_named text.now }
-{
-    if text == b"8".as_slice() {
-        Some(Depth::D8)
-    } else if text == b"10".as_slice() {
-        Some(Depth::D10)
-    } else if text == b"12".as_slice() {
-        Some(Depth::D12)
-    } else if text == b"16".as_slice() {
-        Some(Depth::D16)
-    } else {
-        None
     }
 }
 

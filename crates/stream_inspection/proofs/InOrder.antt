@@ -6,6 +6,7 @@ use Rattle.std.proofs.lemmas.List.{take_all}
 use Rattle.std.specs.List.{AllZip, zip}
 use Rattle.capture_engines.specs.Files.{first_way, other_ways, way_at}
 use Rattle.capture_engines.specs.Sent.{FirstIs}
+use Rattle.capture_engines.proofs.InOrder.{NextPair, next_pair}
 use Rattle.flow.specs.declared.flows.Flows.{Flows}
 use Rattle.media_file.specs.Records.{Entry}
 use Rattle.recording_reader.specs.declared.fault.ReadingFault.{ReadingFault}
@@ -138,35 +139,6 @@ one_more ways told xs x end before b a old mid new files file = record {
 }
 
 -- ---- pairs of sources
-
--- one source more, with what it is
-record NextPair {S : Type 0} (Is : S × S → Type 0) (start now : List S) (k : ℕ) : Type 0 where
-  pub next : S × S
-  pub is : Is next
-  pub whole : zip (take (suc k) start) (take (suc k) now)
-      ≡ zip (take k start) (take k now) ++ next ∷ []
-  pub counted : length (zip (take k start) (take k now)) ≡ k
-
-next_pair : {S : Type 0} (Is : S × S → Type 0) (start now : List S) (k : ℕ)
-    → FirstIs Is (zip (drop k start) (drop k now)) → NextPair Is start now k
-next_pair Is [] now zero is = absurd is
-next_pair Is (s ∷ ss) [] zero is = absurd is
-next_pair Is (s ∷ ss) (t ∷ ts) zero is =
-    record { next = (s, t); is = is; whole = refl; counted = refl }
-next_pair Is [] now (suc k) is = absurd is
-next_pair Is (s ∷ ss) [] (suc k) is = absurd (no_pairs Is (drop k ss) is)
-  where
-    no_pairs : {S : Type 0} (Is : S × S → Type 0) (xs : List S) → FirstIs Is (zip xs []) → ⊥
-    no_pairs Is [] is = is
-    no_pairs Is (x ∷ xs) is = is
-next_pair {S} Is (s ∷ ss) (t ∷ ts) (suc k) is =
-    let n : NextPair Is ss ts k = next_pair Is ss ts k is in
-    record {
-      next = n.next;
-      is = n.is;
-      whole = ap (λ (l : List (S × S)). (s, t) ∷ l) n.whole;
-      counted = ap suc n.counted;
-    }
 
 -- so the files up to there were noted
 pub more_noted : {S A : Type 0} (ways : Ways) (told : S × S → List ℕ → Type 0)

@@ -8,20 +8,22 @@ use Rattle.std.proofs.lemmas.List.Sums.{sum_by-append}
 use Rattle.std.specs.List.{count_by, flat_map}
 use Rattle.std.specs.Prelude.{option_to_list}
 use Rattle.media_file.specs.Records.{Entry}
+use Rattle.media_file.specs.Writer.{entry}
 use Rattle.path_receiver.specs.Tallied.{Tallies, TalliesMore}
 use Rattle.path_receiver.specs.declared.tally.Tally.{Tally}
 use Rattle.path_receiver.specs.declared.answer.Refusal.{Refusal}
 use Rattle.path_receiver.specs.declared.answer.Taken.{Taken}
 use Rattle.rtp_header.specs.Reading.{rtp_walk}
-use Rattle.recording_counts.specs.Numbering.{capped}
+use Rattle.st_format.specs.Device.{capped}
 use Rattle.recording_counts.specs.Timestamps.{timestamps_of}
 use Rattle.recording_counts.specs.declared.packet.Packet.{Packet}
+use Rattle.recording_counts.specs.FlowCounts.{is_rtcp}
 use Rattle.recording_reader.specs.FileReader.{FileReader, FindsOne, record_seen}
 use Rattle.recording_reader.specs.declared.room.RecordView.{RecordView}
 use Rattle.stream_inspection.specs.Arrivals.{Arrival, answer_at, answers_in, answers_of, arrival}
-use Rattle.stream_inspection.specs.Arrivals.{arrival_if, arrivals_in, arrivals_of, is_control}
+use Rattle.stream_inspection.specs.Arrivals.{arrival_if, arrivals_in, arrivals_of}
 use Rattle.stream_inspection.specs.Arrivals.{packet_by, packets, video_in, video_of}
-use Rattle.stream_inspection.specs.Inspected.{IsInspected, Notes, NotesPacket, controls_of, entry}
+use Rattle.stream_inspection.specs.Inspected.{IsInspected, Notes, NotesPacket, controls_of}
 use Rattle.stream_inspection.specs.Numbers.{AreStreams}
 use Rattle.stream_inspection.specs.Skews.{AreProbes}
 use Rattle.stream_inspection.specs.declared.inspection.Inspection.{Inspection}
@@ -44,22 +46,22 @@ counted p xs x b is =
     sum_by-append (λ y. cond (p y) 1 0) xs (x ∷ [])
     ∙ ap (λ (c : Bool). count_by p xs + (0 + cond c 1 0)) is ∙ omega arith
 
-controls_more : (es : List Entry) (e : Entry) → is_control e.octets ≡ true
+controls_more : (es : List Entry) (e : Entry) → is_rtcp e.octets ≡ true
     → controls_of (es ++ e ∷ []) ≡ min (controls_of es + 1) (2 ^ 64 - 1)
 controls_more es e is =
-    ap capped (counted (λ x. is_control x.octets) es e true is)
+    ap capped (counted (λ x. is_rtcp x.octets) es e true is)
     ∙ omega arith
 
-controls_same : (es : List Entry) (e : Entry) → is_control e.octets ≡ false
+controls_same : (es : List Entry) (e : Entry) → is_rtcp e.octets ≡ false
     → controls_of (es ++ e ∷ []) ≡ controls_of es
 controls_same es e is =
-    ap capped (counted (λ x. is_control x.octets) es e false is)
+    ap capped (counted (λ x. is_rtcp x.octets) es e false is)
     ∙ omega arith
 
 -- ---- what a record adds
 
 -- one of RTCP
-module _ (t : Target) (es : List Entry) (e : Entry) (is : is_control e.octets ≡ true) where
+module _ (t : Target) (es : List Entry) (e : Entry) (is : is_rtcp e.octets ≡ true) where
   control_arrivals : arrivals_of t (es ++ e ∷ []) ≡ arrivals_of t es
   control_arrivals =
       one_behind (arrivals_in t) es e
@@ -74,7 +76,7 @@ module _ (t : Target) (es : List Entry) (e : Entry) (is : is_control e.octets �
       ∙ append-nil (answers_of t es)
 
 -- one of another kind
-module _ (t : Target) (es : List Entry) (e : Entry) (is : is_control e.octets ≡ false) where
+module _ (t : Target) (es : List Entry) (e : Entry) (is : is_rtcp e.octets ≡ false) where
   other_arrivals : (o : Option Packet) → packet_by t e.path (rtp_walk e.octets) ≡ o
       → arrivals_of t (es ++ e ∷ []) ≡ arrivals_of t es ++ arrival_if o e.moment
   other_arrivals o read =
@@ -110,7 +112,7 @@ inspected_as {A} t old new es fs same streams timestamps probes tally controls i
 
 -- one of RTCP was noted
 pub notes_control : {A : Type 0} (t : Target) (e : Entry) (old new : Inspection A)
-    → is_control e.octets ≡ true → new.streams ≡ old.streams → new.timestamps ≡ old.timestamps
+    → is_rtcp e.octets ≡ true → new.streams ≡ old.streams → new.timestamps ≡ old.timestamps
     → new.probes ≡ old.probes → new.tally ≡ old.tally
     → new.controls ≡ min (old.controls + 1) (2 ^ 64 - 1) → Notes t (e ∷ []) old new
 notes_control t e old new is streams timestamps probes tally controls = record {
@@ -127,7 +129,7 @@ notes_control t e old new is streams timestamps probes tally controls = record {
 
 -- one without a header was
 pub notes_other : {A : Type 0} (t : Target) (e : Entry) (old new : Inspection A)
-    → is_control e.octets ≡ false → packet_by t e.path (rtp_walk e.octets) ≡ None
+    → is_rtcp e.octets ≡ false → packet_by t e.path (rtp_walk e.octets) ≡ None
     → new.streams ≡ old.streams → new.timestamps ≡ old.timestamps
     → new.probes ≡ old.probes
     → TalliesMore old.tally new.tally (answer_at t e.octets)
@@ -145,7 +147,7 @@ notes_other t e old new is none streams timestamps probes tally controls = recor
 
 -- one with a header was: its answer, and then its packet
 pub notes_one : {A : Type 0} (t : Target) (e : Entry) (p : Packet) (old mid new : Inspection A)
-    → is_control e.octets ≡ false → packet_by t e.path (rtp_walk e.octets) ≡ Some p
+    → is_rtcp e.octets ≡ false → packet_by t e.path (rtp_walk e.octets) ≡ Some p
     → mid.streams ≡ old.streams → mid.timestamps ≡ old.timestamps → mid.probes ≡ old.probes
     → TalliesMore old.tally mid.tally (answer_at t e.octets)
     → mid.controls ≡ old.controls

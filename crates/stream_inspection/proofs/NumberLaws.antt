@@ -23,6 +23,7 @@ use Rattle.recording_counts.specs.declared.packet.StreamKey.{StreamKey}
 use Rattle.recording_counts.specs.declared.stream.StreamCount.{StreamCount}
 use Rattle.recording_counts.proofs.CountLaws.{highest_more}
 use Rattle.recording_counts.proofs.Keys.{exact_streams, stream_keys}
+use Rattle.recording_counts.proofs.StreamLaws.{numbered_more}
 use Rattle.stream_inspection.specs.Numbers.{AreStreams, any_high, is_high, numbers_in, of_stream}
 use Rattle.stream_inspection.specs.Numbers.{told_stream, told_streams, without_high}
 use Rattle.stream_inspection.specs.Skews.{numbering_of}
@@ -30,13 +31,6 @@ use Rattle.stream_inspection.specs.declared.numbering.Numbering.{Numbering}
 use Rattle.stream_inspection.specs.declared.stream_tables.StreamTables.{StreamTables}
 
 -- ---- the numbers of a stream
-
-numbered_more : (before : List Numbered) (own : List Packet) (p : Packet)
-    → numbered_after before (own ++ p ∷ [])
-    ≡ numbered_after before own ++ numbered_behind (numbered_after before own) p ∷ []
-numbered_more before [] p = refl
-numbered_more before (q ∷ own) p =
-    numbered_more (before ++ numbered_behind before q ∷ []) own p
 
 abbrev number : Numbered → ℕ
 number n = n.number

@@ -1,20 +1,19 @@
 -- What was noted of a file that a reader read.
 use Rattle.std.proofs.Common.{◌≡◌, ◌∙◌, ℕ, ◌⊎◌, inl, inr, List, [], ◌∷◌, ◌++◌, length, Bool, true}
-use Rattle.std.proofs.Common.{false, cond, Option, None, Some, Result, Ok, Err, refl, ap, sym, subst}
+use Rattle.std.proofs.Common.{false, Option, None, Some, Result, Ok, Err, refl, ap, sym, subst}
 use Rattle.std.specs.Prelude.{IfErr, IfOk, IsSome, MatchOption, OnOk}
-use Rattle.capture_engines.specs.Files.{HasFileText, fault_by, flows_in}
+use Rattle.capture_engines.specs.Files.{HasFileText, flows_in}
 use Rattle.capture_engines.specs.Received.{IsFrontRefusal, IsTakeRefusal}
 use Rattle.capture_engines.specs.declared.way.Way.{Way}
-use Rattle.capture_engines.proofs.Blaming.{reading_blamed}
-use Rattle.capture_engines.proofs.ReceivedRefusals.{text_refused}
+use Rattle.run_outcome.proofs.Blaming.{reading_blamed}
+use Rattle.capture_engines.proofs.ReceivedRefusals.{text_refused, no_text}
 use Rattle.flow.specs.declared.flows.Flows.{Flows}
 use Rattle.media_file.specs.Faults.{file_fault_origin}
-use Rattle.media_file.specs.Fronts.{front_at}
 use Rattle.media_file.specs.Records.{Entry, records_text}
 use Rattle.pcap_file.specs.Fields.{recording_fault_origin}
 use Rattle.recording_reader.specs.FileReader.{FileReader, HasGivenFile, HasGivenRecords, IsKnownBy}
 use Rattle.recording_reader.specs.Files.{AreFirst, HaveFileRecords, IfFile, IsFileFault}
-use Rattle.recording_reader.specs.Files.{records_of_file, text_before, text_of_file}
+use Rattle.recording_reader.specs.Files.{records_of_file, text_of_file}
 use Rattle.recording_reader.specs.Kinds.{is_recording}
 use Rattle.recording_reader.specs.declared.fault.ReadingFault.{ReadingFault}
 use Rattle.recording_reader.specs.declared.fault.ReadingFault.TheVariants.{Capture, Recording}
@@ -23,6 +22,7 @@ use Rattle.recording_reader.specs.declared.way.Standing.TheVariants.{Ended, Fail
 use Rattle.run_outcome.specs.Fault.{Accounts, counts}
 use Rattle.run_outcome.specs.Refusing.{OfRefusal}
 use Rattle.run_outcome.specs.declared.fault.Fault.{Fault}
+use Rattle.run_outcome.specs.LowerFaults.{reading_fault}
 use Rattle.st_format.specs.Given.{IfOfContent, OfContent, OfDevice, OfMemory, Origin}
 use Rattle.st_format.specs.History.{IsRead}
 use Rattle.st_format.proofs.Origins.{if_content, if_content_weaker}
@@ -51,7 +51,7 @@ if_end (Some f) P Q then is = file_weaker f P Q then is
 pub end_counted : (end : Option ReadingFault) (old new : ℕ) → counts_end end old new
     → Accounts (ended_by (Ok end)) (counts old new ∷ [])
 end_counted None old new is = is
-end_counted (Some f) old new is = reading_blamed f (fault_by f) old old new refl is refl
+end_counted (Some f) old new is = reading_blamed f (reading_fault f) old old new refl is refl
 
 -- what holds at each of some octets, where the fault is the content's
 each_content : (o : Origin) (told P : List ℕ → Type 0)
@@ -120,12 +120,6 @@ settles_file None after text octets is settles = (
 )
 
 -- ---- a file that was read up to an end
-
--- a recording has no text
-no_text : (octets text : List ℕ) → is_recording octets ≡ true → text_of_file octets ≡ text
-    → text ≡ []
-no_text octets text kind same =
-    sym same ∙ ap (λ (b : Bool). cond b [] (text_before (front_at octets))) kind
 
 module _ {S : Type 0} (gave : S → List ℕ) (ended : S → Type 0) (r : FileReader S) (w : Way)
     (by : r.flows ≡ flows_in w) (flows : r.is_recording ≡ true → IsSome r.flows)

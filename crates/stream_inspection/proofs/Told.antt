@@ -3,7 +3,6 @@ use Rattle.std.proofs.Common.{◌≡◌, ◌∙◌, ℕ, List, [], ◌∷◌, �
 use Rattle.std.proofs.Common.{map, inl, inr}
 use Rattle.std.specs.List.{flat_map, zip}
 use Rattle.std.proofs.Common.{Result, Ok, Err, OnOk}
-use Rattle.capture_engines.specs.Files.{fault_by}
 use Rattle.capture_engines.specs.Received.{FirstFileRefuses}
 use Rattle.flow.specs.declared.flows.Flows.{Flows}
 use Rattle.media_file.specs.Records.{Entry}
@@ -18,6 +17,7 @@ use Rattle.run_outcome.specs.declared.fault.Fault.TheVariants.{Refused, Device, 
 use Rattle.run_outcome.specs.Refusing.{OfRefusal}
 use Rattle.run_outcome.specs.declared.refusal.Refusal.{Refusal}
 use Rattle.run_outcome.specs.declared.refusal.Refusal.TheVariants as refusal
+use Rattle.run_outcome.specs.LowerFaults.{reading_fault}
 use Rattle.recording_counts.specs.Streams.{is_same, key_of}
 use Rattle.recording_counts.specs.Tables.{different, of_key}
 use Rattle.recording_counts.specs.declared.packet.Packet.{Packet}
@@ -127,12 +127,13 @@ refused_as Memory P h = tt
 pub end_refused : {A : Type 0} (form : Form) (t : Target) (i : Inspection A) (f : ReadingFault)
     (end : Option ReadingFault) (shown shown' : List ℕ) → end ≡ Some f
     → Prints form t i shown shown'
-    → OfRefusal (fault_by f) (IsEndRefusal form t i end shown shown')
+    → OfRefusal (reading_fault f) (IsEndRefusal form t i end shown shown')
 end_refused form t i f end shown shown' is prints =
-    refused_as (fault_by f) (IsEndRefusal form t i end shown shown')
+    refused_as (reading_fault f) (IsEndRefusal form t i end shown shown')
     (λ r same. record { fault = f; ended = is; is = same; printed = prints })
 
-content_of : (f : ReadingFault) (r : Refusal) (P : Type 0) → fault_by f ≡ Refused r → IfFile f P
+content_of : (f : ReadingFault) (r : Refusal) (P : Type 0) → reading_fault f ≡ Refused r
+    → IfFile f P
     → P
 content_of (Capture file.NoMemory) r P same is = absurd cc
 content_of (Capture file.Device) r P same is = absurd cc

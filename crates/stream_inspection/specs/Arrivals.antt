@@ -1,5 +1,5 @@
 -- What datagrams are counted as. RFC 3550, 5.1; RFC 4175, 4.2; RFC 5761, 4
-use Rattle.std.specs.Prelude.{◌≡◌, ℕ, ◌+◌, ◌*◌, ◌/◌, ◌==◌, Bool, ◌&&◌, nat_le, if◌then◌else◌}
+use Rattle.std.specs.Prelude.{◌≡◌, ℕ, ◌+◌, ◌*◌, ◌==◌, Bool, ◌&&◌, nat_le, if◌then◌else◌}
 use Rattle.std.specs.Prelude.{List, [], ◌∷◌, length, map, slice_index, Option, None, Some, Result}
 use Rattle.std.specs.Prelude.{Ok, Err}
 use Rattle.std.specs.List.{flat_map}
@@ -14,6 +14,7 @@ use Rattle.payload_header.specs.Reading.{payload_walk}
 use Rattle.path_receiver.specs.declared.answer.Refusal.{Refusal}
 use Rattle.path_receiver.specs.declared.answer.Taken.{Taken}
 use Rattle.path_receiver.specs.declared.answer.Taken.TheVariants.{Kept}
+use Rattle.recording_counts.specs.FlowCounts.{is_rtcp}
 use Rattle.recording_counts.specs.declared.packet.Packet.{Packet}
 use Rattle.stream_inspection.specs.declared.looking.Look.{Look}
 use Rattle.stream_inspection.specs.declared.target.Target.{Target}
@@ -29,13 +30,6 @@ arrival p moment = record { packet = p; moment = moment }
 -- the packets of arrivals
 abbrev pub packets : List Arrival → List Packet
 packets arrivals = map (λ a. a.packet) arrivals
-
--- whether a datagram is one of RTCP: of version 2, and with a packet type from 200 to 204 where RTP
--- has the marker and the payload type. RFC 5761, 4
-abbrev pub is_control : List ℕ → Bool
-is_control octets =
-    nat_le 2 (length octets) && (slice_index octets 0 / 64 == 2
-    && (nat_le 200 (slice_index octets 1) && nat_le (slice_index octets 1) 204))
 
 -- the extended number in front of a payload of video. RFC 4175, 4.2
 abbrev pub extended_in : Bool → List ℕ → Option ℕ
@@ -87,7 +81,7 @@ arrival_if (Some p) moment = arrival p moment ∷ []
 
 abbrev pub arrivals_in : Target → Entry → List Arrival
 arrivals_in t e =
-    if is_control e.octets then []
+    if is_rtcp e.octets then []
     else arrival_if (packet_by t e.path (rtp_walk e.octets)) e.moment
 
 abbrev pub arrivals_of : Target → List Entry → List Arrival
@@ -102,7 +96,7 @@ video_of t entries = flat_map (video_in t) (arrivals_of t entries)
 
 -- what a receiver answers to records that aren't RTCP
 abbrev pub answers_in : Target → Entry → List (Result Taken Refusal)
-answers_in t e = if is_control e.octets then [] else answer_at t e.octets ∷ []
+answers_in t e = if is_rtcp e.octets then [] else answer_at t e.octets ∷ []
 
 abbrev pub answers_of : Target → List Entry → List (Result Taken Refusal)
 answers_of t entries = flat_map (answers_in t) entries

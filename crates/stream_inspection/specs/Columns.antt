@@ -2,7 +2,8 @@
 use Rattle.std.specs.Prelude.{ℕ, List, ◌++◌, codes, Some}
 use Rattle.std.specs.Fmt.{decimal}
 use Rattle.path_receiver.specs.Answers.{refusal_name, refusal_number}
-use Rattle.stream_inspection.specs.Values.{commas_text, path_text, wide_signed, wide_text, yes_text}
+use Rattle.st_format.specs.Forms.{path_text}
+use Rattle.stream_inspection.specs.Values.{commas_text, wide_signed, wide_text, yes_text}
 use Rattle.stream_inspection.specs.declared.rows.PathRow.{PathRow}
 use Rattle.stream_inspection.specs.declared.rows.Row.{Row}
 use Rattle.stream_inspection.specs.declared.rows.Row.TheVariants.{Path, Together, Timestamp, Skew}

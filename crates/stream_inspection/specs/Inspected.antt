@@ -1,26 +1,22 @@
 -- What is counted of the records of files.
 use Rattle.std.specs.Prelude.{◌≡◌, ℕ, List, ◌∷◌, [], ◌++◌}
 use Rattle.std.specs.List.{count_by}
-use Rattle.st_format.specs.declared.path.Path.{Path}
 use Rattle.media_file.specs.Records.{Entry}
 use Rattle.path_receiver.specs.Tallied.{Tallies}
-use Rattle.recording_counts.specs.Numbering.{capped}
+use Rattle.st_format.specs.Device.{capped}
+use Rattle.recording_counts.specs.FlowCounts.{is_rtcp}
 use Rattle.recording_counts.specs.Timestamps.{timestamps_of}
 use Rattle.recording_counts.specs.declared.packet.Packet.{Packet}
-use Rattle.stream_inspection.specs.Arrivals.{Arrival, answers_of, arrivals_of, is_control}
+use Rattle.stream_inspection.specs.Arrivals.{Arrival, answers_of, arrivals_of}
 use Rattle.stream_inspection.specs.Arrivals.{packets, video_in, video_of}
 use Rattle.stream_inspection.specs.Numbers.{AreStreams}
 use Rattle.stream_inspection.specs.Skews.{AreProbes}
 use Rattle.stream_inspection.specs.declared.inspection.Inspection.{Inspection}
 use Rattle.stream_inspection.specs.declared.target.Target.{Target}
 
--- a record of its parts
-abbrev pub entry : Path → ℕ → List ℕ → Entry
-entry path moment octets = record { path = path; moment = moment; octets = octets }
-
 -- how many records are RTCP
 abbrev pub controls_of : List Entry → ℕ
-controls_of entries = capped (count_by (λ e. is_control e.octets) entries)
+controls_of entries = capped (count_by (λ e. is_rtcp e.octets) entries)
 
 -- An inspection is that of these records: the streams of their packets, the timestamps and probes
 -- of those with the payload type, what a receiver answers, and how many are RTCP.

@@ -4,7 +4,9 @@ use Rattle.std.specs.Fmt.{decimal}
 use Rattle.path_receiver.specs.Answers.{refusal_name, refusal_number}
 use Rattle.path_receiver.specs.declared.answer.Refusal.{Refusal}
 use Rattle.recording_counts.specs.declared.packet.StreamKey.{StreamKey}
-use Rattle.stream_inspection.specs.Values.{bool_text, commas_text, null_signed, null_text, path_text}
+use Rattle.recording_counts.specs.FlowJson.{truth_json}
+use Rattle.st_format.specs.Forms.{path_text}
+use Rattle.stream_inspection.specs.Values.{commas_text, null_signed, null_text}
 use Rattle.stream_inspection.specs.declared.rows.PathRow.{PathRow}
 use Rattle.stream_inspection.specs.declared.rows.Row.{Row}
 use Rattle.stream_inspection.specs.declared.rows.Row.TheVariants.{Path, Together, Timestamp, Skew}
@@ -65,7 +67,7 @@ abbrev pub timestamp_json : TimestampRow → List ℕ
 timestamp_json r =
     codes "{\"kind\":\"timestamp\"," ++ (key_json r.key.stream
     ++ (codes "," ++ (came_json r
-    ++ (codes ",\"marker\":" ++ (bool_text r.marker
+    ++ (codes ",\"marker\":" ++ (truth_json r.marker
     ++ (codes ",\"ticks\":" ++ (null_text r.ticks
     ++ (codes ",\"skew\":" ++ (null_signed r.skew ++ codes "}")))))))))
 
@@ -84,7 +86,8 @@ json_text (Skew r) = skew_json r
 json_text (Refused e count) =
     codes "{\"kind\":\"refused\"," ++ (reason_json e
     ++ (codes ",\"datagrams\":" ++ (decimal count ++ codes "}")))
-json_text (Control count) = codes "{\"kind\":\"rtcp\",\"datagrams\":" ++ (decimal count ++ codes "}")
+json_text (Control count) =
+    codes "{\"kind\":\"rtcp\",\"datagrams\":" ++ (decimal count ++ codes "}")
 json_text (Nothing payload_type) =
     codes "{\"kind\":\"nothing\",\"payload_type\":" ++ (decimal payload_type ++ codes "}")
 

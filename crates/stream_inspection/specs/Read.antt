@@ -3,7 +3,7 @@
 use Rattle.std.specs.Prelude.{◌≡◌, ℕ, ◌-◌, ◌^◌, ◌⊎◌, ⊤, List, [], ◌∷◌, ◌++◌, length, take}
 use Rattle.std.specs.Prelude.{Option, None, Some, Result, Ok, Err}
 use Rattle.std.specs.List.{AllZip}
-use Rattle.capture_engines.specs.Files.{HasFileText, fault_by, first_way, flows_in, other_ways}
+use Rattle.capture_engines.specs.Files.{HasFileText, first_way, flows_in, other_ways}
 use Rattle.capture_engines.specs.declared.way.Way.{Way}
 use Rattle.flow.specs.declared.flows.Flows.{Flows}
 use Rattle.media_file.specs.Records.{Entry}
@@ -16,6 +16,7 @@ use Rattle.recording_reader.specs.declared.way.Standing.{Standing}
 use Rattle.recording_reader.specs.declared.way.Standing.TheVariants.{Ended, Failed, Reads}
 use Rattle.run_outcome.specs.declared.fault.Fault.{Fault}
 use Rattle.run_outcome.specs.declared.refusal.Refusal.{Refusal}
+use Rattle.run_outcome.specs.LowerFaults.{reading_fault}
 use Rattle.stream_inspection.specs.Aim.{Announces}
 use Rattle.stream_inspection.specs.Inspected.{IsInspected}
 use Rattle.stream_inspection.specs.declared.inspection.Inspection.{Inspection}
@@ -36,7 +37,7 @@ counts_end (Some f) old new = CountsReadingFault f old new
 -- what an end comes to
 abbrev pub ended_by : Result (Option ReadingFault) Fault → Result (Unit {0}) Fault
 ended_by (Ok None) = Ok tt
-ended_by (Ok (Some f)) = Err (fault_by f)
+ended_by (Ok (Some f)) = Err (reading_fault f)
 ended_by (Err f) = Err f
 
 -- so many records are counted of a file

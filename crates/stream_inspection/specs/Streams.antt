@@ -1,15 +1,16 @@
 -- What is told of streams (own).
-use Rattle.std.specs.Prelude.{ℕ, ◌+◌, ◌-◌, ◌^◌, ◌==◌, min, Bool, ◌||◌, nat_lt, if◌then◌else◌, List, []}
+use Rattle.std.specs.Prelude.{ℕ, ◌+◌, ◌-◌, ◌^◌, ◌==◌, min, Bool, ◌||◌, nat_lt, if◌then◌else◌, List}
+use Rattle.std.specs.Prelude.{[]}
 use Rattle.std.specs.Prelude.{◌++◌, codes, Option, None, Some}
 use Rattle.std.specs.Fmt.{decimal}
 use Rattle.st_format.specs.declared.path.Path.{Path}
 use Rattle.st_format.specs.declared.path.Path.TheVariants as path
-use Rattle.recording_counts.specs.Numbering.{capped}
+use Rattle.st_format.specs.Forms.{path_text}
+use Rattle.st_format.specs.Device.{capped}
 use Rattle.recording_counts.specs.declared.packet.StreamKey.{StreamKey}
 use Rattle.recording_counts.specs.declared.path_count.PathCount.{PathCount}
 use Rattle.recording_counts.specs.declared.stream.StreamCount.{StreamCount}
 use Rattle.stream_inspection.specs.Lines.{heading_lines, row_line}
-use Rattle.stream_inspection.specs.Values.{path_text}
 use Rattle.stream_inspection.specs.declared.rows.PathRow.{PathRow}
 use Rattle.stream_inspection.specs.declared.rows.Row.TheVariants.{Path as PathOf, Together}
 use Rattle.stream_inspection.specs.declared.rows.TogetherRow.{TogetherRow}

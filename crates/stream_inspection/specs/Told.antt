@@ -1,18 +1,19 @@
 -- What is told of files (own).
-use Rattle.std.specs.Prelude.{◌≡◌, ℕ, ◌⊎◌, List, [], ◌∷◌, ◌++◌, slice_index, take, Option, None, Some}
+use Rattle.std.specs.Prelude.{◌≡◌, ℕ, ◌⊎◌, List, [], ◌∷◌, ◌++◌, slice_index, take, Option, None}
+use Rattle.std.specs.Prelude.{Some}
 use Rattle.std.specs.Prelude.{Result}
 use Rattle.std.specs.List.{AllZip, flat_map}
-use Rattle.capture_engines.specs.Files.{fault_by}
-use Rattle.capture_engines.specs.Printed.{refusals}
 use Rattle.capture_engines.specs.Received.{IsFilesRefusal}
-use Rattle.path_receiver.specs.Tallied.{Tallies, place_of}
+use Rattle.path_receiver.specs.Tallied.{Tallies, slot_of}
 use Rattle.path_receiver.specs.declared.tally.Tally.{Tally}
 use Rattle.flow.specs.declared.flows.Flows.{Flows}
 use Rattle.media_file.specs.Records.{Entry}
 use Rattle.path_receiver.specs.declared.answer.Refusal.{Refusal as Reason}
+use Rattle.path_receiver.specs.Answers.{all_refusals}
 use Rattle.recording_reader.specs.declared.fault.ReadingFault.{ReadingFault}
 use Rattle.run_outcome.specs.declared.fault.Fault.TheVariants as outcome
 use Rattle.run_outcome.specs.declared.refusal.Refusal.{Refusal}
+use Rattle.run_outcome.specs.LowerFaults.{reading_fault}
 use Rattle.recording_counts.specs.Timestamps.{timestamps_of}
 use Rattle.recording_counts.specs.declared.stream.StreamCount.{StreamCount}
 use Rattle.recording_counts.specs.declared.timestamp.TimestampCount.{TimestampCount}
@@ -38,11 +39,11 @@ use Rattle.stream_inspection.specs.declared.text.Form.TheVariants.{Columns, Json
 -- the line of a refusal that came, by the counts of all
 abbrev pub refused_line : Form → List ℕ → Reason → List ℕ
 refused_line form counts e =
-    counted_line form (Refused e (slice_index counts (place_of e)))
-    (slice_index counts (place_of e))
+    counted_line form (Refused e (slice_index counts (slot_of e)))
+    (slice_index counts (slot_of e))
 
 abbrev pub refusals_text : Form → List ℕ → List ℕ
-refusals_text form counts = flat_map (refused_line form counts) refusals
+refusals_text form counts = flat_map (refused_line form counts) all_refusals
 
 -- the line of a window, or that there is none
 abbrev pub window_line : Form → ℕ → List ℕ → List ℕ
@@ -99,7 +100,7 @@ abbrev pub IsStreamsRefusal : {S : Type 0} → Wanted → Form → Option (List 
 IsStreamsRefusal w form sdp ways told files shown shown' r =
     ((shown' ≡ shown) × (IsBeginRefusal w sdp r
     ⊎ IsFilesRefusal (0 ∷ []) (begins w sdp) ways told files r))
-    ⊎ ((f : ReadingFault) × (count : ℕ) × (fault_by f ≡ outcome.Refused r)
+    ⊎ ((f : ReadingFault) × (count : ℕ) × (reading_fault f ≡ outcome.Refused r)
     × Tells w form sdp ways told (take count files) (Some f) shown shown')
 
 -- ---- on the way there
@@ -116,5 +117,5 @@ pub record IsEndRefusal {A : Type 0} (form : Form) (t : Target) (i : Inspection 
     (end : Option ReadingFault) (shown shown' : List ℕ) (r : Refusal) : Type 0 where
   pub fault : ReadingFault
   pub ended : end ≡ Some fault
-  pub is : fault_by fault ≡ outcome.Refused r
+  pub is : reading_fault fault ≡ outcome.Refused r
   pub printed : Prints form t i shown shown'

@@ -3,8 +3,6 @@ use Rattle.std.specs.Prelude.{ℕ, ◌-◌, ◌^◌, Bool, nat_lt, if◌then◌e
 use Rattle.std.specs.Prelude.{codes, length, replicate, Option, None, Some}
 use Rattle.std.specs.Fmt.{decimal}
 use Rattle.std.specs.List.{flat_map}
-use Rattle.st_format.specs.declared.path.Path.{Path}
-use Rattle.st_format.specs.declared.path.Path.TheVariants.{A, B}
 
 -- a number in a column of thirteen, or a dash where there is none
 abbrev pub wide : ℕ → List ℕ
@@ -32,16 +30,9 @@ abbrev pub null_signed : Option ℕ → List ℕ
 null_signed None = codes "null"
 null_signed (Some n) = signed_text n
 
-abbrev pub path_text : Path → List ℕ
-path_text A = codes "A"
-path_text B = codes "B"
-
--- whether it is so, in a column, and as JSON says it
+-- whether it is so, in a column
 abbrev pub yes_text : Bool → List ℕ
 yes_text b = if b then codes "          yes" else codes "           no"
-
-abbrev pub bool_text : Bool → List ℕ
-bool_text b = if b then codes "true" else codes "false"
 
 -- numbers with commas between
 abbrev pub commas_text : List ℕ → List ℕ

@@ -61,7 +61,7 @@ pub(crate) fn note_files<A: Allocator + Copy, S: ByteSource>(
     Ok(None)
 }
 
-/// Notes the file of a place.
+/// Notes the file of a place. It alone is lent, so what is known of the others stays.
 fn note_at<A: Allocator + Copy, S: ByteSource>(
     alloc: A,
     begun: &mut Option<Target>,

@@ -13,10 +13,10 @@ use crate::inspection::Inspection;
 use crate::target::{Target, Wanted, begin};
 use crate::telling::text_of;
 use crate::text::Form;
-use capture_engines::{Seen, of_reading};
+use capture_engines::Seen;
 use flow::Flows;
 use recording_reader::ReadingFault;
-use run_outcome::{Fault, Refusal, room};
+use run_outcome::{Fault, Refusal, of_reading, room};
 use st_format::{ByteSink, ByteSource, write_whole};
 use std::alloc::Allocator;
 

@@ -1,15 +1,16 @@
 //! What is counted of files.
 ghost use Rattle.std.specs.Prelude.{◌≡◌, ◌∷◌, [], OnOk, option_to_list};
-ghost use Rattle.stream_inspection.specs.Inspected.{IsInspected, Notes, NotesPacket, entry};
+ghost use Rattle.media_file.specs.Writer.{entry};
+ghost use Rattle.stream_inspection.specs.Inspected.{IsInspected, Notes, NotesPacket};
 ghost use Rattle.stream_inspection.specs.Arrivals.{arrival};
 ghost use Rattle.stream_inspection.specs.declared.target.Target.{Target as TargetValue};
 
-use crate::looking::{Look, is_control, look_at};
+use crate::looking::{Look, look_at};
 use crate::probes::ProbeTable;
 use crate::stream_tables::StreamTables;
 use crate::target::Target;
 use path_receiver::{Observer, Tally};
-use recording_counts::{Packet, TimestampTable};
+use recording_counts::{Packet, TimestampTable, is_rtcp};
 use recording_reader::DatagramReader;
 use st_format::{ByteSource, Path};
 use std::alloc::{AllocError, Allocator};
@@ -78,7 +79,7 @@ impl<A: Allocator + Copy> Inspection<A> {
         ensures { OnOk result (Notes target.now (entry path moment octets.now ∷ []) self.old
             self.new) }
     {
-        if is_control(octets) {
+        if is_rtcp(octets) {
             self.controls = self.controls.saturating_add(1);
             return Ok(());
         }

@@ -1,6 +1,6 @@
 //! What a datagram is counted as.
 ghost use Rattle.std.specs.Prelude.{◌≡◌};
-ghost use Rattle.stream_inspection.specs.Arrivals.{Looks, answer_by, extended_in, is_control};
+ghost use Rattle.stream_inspection.specs.Arrivals.{Looks, answer_by, extended_in};
 ghost use Rattle.stream_inspection.specs.Arrivals.{packet_of};
 ghost use Rattle.rtp_header.specs.Views.{seen_rtp};
 
@@ -17,14 +17,6 @@ use st_format::Path;
 pub(crate) struct Look {
     pub(crate) answer: Result<Taken, Refusal>,
     pub(crate) packet: Option<Packet>,
-}
-
-/// Whether a datagram is one of RTCP: of version 2, and with a packet type from 200 to 204 where
-/// RTP has the marker and the payload type (RFC 5761, 4).
-pub(crate) fn is_control(octets: &[u8]) -> bool
-    ensures { result ≡ is_control octets.now }
-{
-    octets.len() >= 2 && octets[0] / 64 == 2 && octets[1] >= 200 && octets[1] <= 204
 }
 
 /// What a datagram that came by a path is.

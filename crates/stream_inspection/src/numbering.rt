@@ -1,13 +1,12 @@
 //! The numbers that the packets of a stream have so far.
-ghost use Rattle.std.specs.Prelude.{◌≡◌, ◌++◌, ◌∷◌, List, [], max};
-ghost use Rattle.std.specs.Option.{option_map_or};
+ghost use Rattle.std.specs.Prelude.{◌≡◌, ◌++◌, ◌∷◌, List, []};
 ghost use Rattle.recording_counts.specs.Numbering.{number_after};
 ghost use Rattle.recording_counts.specs.declared.packet.Packet.{Packet as PacketValue};
 ghost use Rattle.stream_inspection.specs.Numbers.{without_high};
 ghost use Rattle.stream_inspection.specs.Skews.{numbering_of};
 
 use crate::numbers::{has_high, without_high};
-use recording_counts::{Packet, number_after};
+use recording_counts::{Packet, greatest, number_after};
 
 /// What is known of the packet numbers of a stream.
 #[derive(Clone, Copy)]
@@ -62,15 +61,5 @@ impl Numbering {
             short: Some(greatest(self.short, number.short)),
             high: self.high || has_high(packet),
         }
-    }
-}
-
-/// The higher one of a number and the highest before it, if there is one.
-fn greatest(highest: Option<u64>, number: u64) -> u64
-    ensures { result ≡ option_map_or (λ h. max h number) highest number }
-{
-    match highest {
-        Some(highest) => highest.max(number),
-        None => number,
     }
 }

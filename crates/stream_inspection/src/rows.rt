@@ -3,7 +3,7 @@ ghost use Rattle.std.specs.Prelude.{Some};
 ghost use Rattle.stream_inspection.specs.Columns.{column_text};
 ghost use Rattle.stream_inspection.specs.Json.{json_text};
 
-use crate::values::{Commas, Letter, Null, NullSkew, Skew, Truth, Wide, Yes};
+use crate::values::{Commas, Null, NullSkew, Skew, Truth, Wide, Yes};
 use path_receiver::Refusal;
 use recording_counts::{StreamKey, TimestampKey};
 use st_format::Path;
@@ -96,7 +96,7 @@ impl fmt::Display for Columns {
     fn fmt<W: fmt::Write>(&self, f: &mut fmt::Formatter<W>) -> fmt::Result {
         match self.0 {
             Row::Path(row) => {
-                let path = Letter(row.path);
+                let path = row.path;
                 let datagrams = Wide(Some(row.datagrams));
                 let lowest = Wide(row.lowest);
                 let highest = Wide(row.highest);
@@ -268,7 +268,7 @@ impl fmt::Display for Json {
         match self.0 {
             Row::Path(row) => {
                 let key = JsonKey(row.key);
-                let path = Letter(row.path);
+                let path = row.path;
                 let range = JsonRange(row);
                 let wrong = JsonWrong(row);
                 write!(

@@ -11,7 +11,6 @@ ghost use Rattle.stream_inspection.specs.Streams.{is_wrong, lower, span, wrong_l
 use crate::rows::{PathRow, Row, TogetherRow};
 use crate::stream_tables::StreamTables;
 use crate::text::{Form, put_heading, put_row};
-use crate::values::Letter;
 use recording_counts::{PathCount, StreamCount, StreamKey};
 use st_format::Path;
 use std::alloc::{AllocError, Allocator};
@@ -43,7 +42,7 @@ impl fmt::Display for Wrong {
 
     fn fmt<W: fmt::Write>(&self, f: &mut fmt::Formatter<W>) -> fmt::Result {
         let row = self.0;
-        let path = Letter(row.path);
+        let path = row.path;
         if row.datagrams == 0 {
             return write!(f, "  nothing came by {path}");
         }

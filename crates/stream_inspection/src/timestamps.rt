@@ -4,20 +4,19 @@ ghost use Rattle.recording_counts.specs.declared.timestamp.TimestampCount.{Times
 ghost use Rattle.stream_inspection.specs.Arrivals.{Arrival};
 ghost use Rattle.stream_inspection.specs.Skews.{AreProbes};
 ghost use Rattle.stream_inspection.specs.Timestamps.{AreLasts, heading_text, ticks_behind};
-ghost use Rattle.stream_inspection.specs.Timestamps.{timestamp_line, timestamps_behind, timestamps_text};
+ghost use Rattle.stream_inspection.specs.Timestamps.{timestamp_line, timestamps_behind};
+ghost use Rattle.stream_inspection.specs.Timestamps.{timestamps_text};
 ghost use Rattle.stream_inspection.specs.Timestamps.{window_of};
 ghost use Rattle.window_finding.specs.First.{distinct};
 
 use crate::probes::ProbeTable;
 use crate::rows::{Row, TimestampRow};
 use crate::text::{Form, put_heading, put_row};
+use path_receiver::MOST_TIMESTAMPS;
 use recording_counts::{StreamKey, TimestampCount};
 use std::alloc::{AllocError, Allocator};
 use std::collections::BTreeMap;
 use std::fmt;
-
-/// How many timestamps a window has at most.
-const MOST: usize = 16;
 
 /// The heading of timestamps of a payload type.
 #[derive(Clone, Copy)]
@@ -173,7 +172,7 @@ fn add<A: Allocator>(window: &mut Vec<u32, A>, timestamp: u32) -> Result<(), All
     ensures { OnOk result ((earlier : List ℕ) → window.old.items ≡ take 16 (distinct earlier)
         → window.new.items ≡ take 16 (distinct (earlier ++ timestamp ∷ []))) }
 {
-    if window.len() >= MOST {
+    if window.len() >= MOST_TIMESTAMPS {
         return Ok(());
     }
     if window.contains(&timestamp) {

@@ -1,9 +1,9 @@
 //! Values as text.
 ghost use Rattle.std.specs.Prelude.{Some};
-ghost use Rattle.stream_inspection.specs.Values.{bool_text, commas_text, null_text, path_text};
+ghost use Rattle.recording_counts.specs.FlowJson.{truth_json};
+ghost use Rattle.stream_inspection.specs.Values.{commas_text, null_text};
 ghost use Rattle.stream_inspection.specs.Values.{signed_text, wide_signed, wide_text, yes_text};
 
-use st_format::Path;
 use std::fmt;
 
 /// A number in a column of thirteen, or `-` where there is none.
@@ -92,21 +92,6 @@ impl fmt::Display for NullSkew {
     }
 }
 
-/// A path by its letter.
-#[derive(Clone, Copy)]
-pub(crate) struct Letter(pub(crate) Path);
-
-impl fmt::Display for Letter {
-    ghost output = { λ l. Some (path_text l.0) };
-
-    fn fmt<W: fmt::Write>(&self, f: &mut fmt::Formatter<W>) -> fmt::Result {
-        match self.0 {
-            Path::A => f.write_str("A"),
-            Path::B => f.write_str("B"),
-        }
-    }
-}
-
 /// Whether it is so, in a column of thirteen.
 #[derive(Clone, Copy)]
 pub(crate) struct Yes(pub(crate) bool);
@@ -128,7 +113,7 @@ impl fmt::Display for Yes {
 pub(crate) struct Truth(pub(crate) bool);
 
 impl fmt::Display for Truth {
-    ghost output = { λ t. Some (bool_text t.0) };
+    ghost output = { λ t. Some (truth_json t.0) };
 
     fn fmt<W: fmt::Write>(&self, f: &mut fmt::Formatter<W>) -> fmt::Result {
         if self.0 {

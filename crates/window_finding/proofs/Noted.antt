@@ -56,13 +56,6 @@ first_more n payload_type ssrc ds d w w' t one added is =
 
 -- ---- turns
 
-pub datagrams_of-append : (xs ys : List Due)
-    → datagrams_of (xs ++ ys) ≡ datagrams_of xs ++ datagrams_of ys
-datagrams_of-append [] ys = refl
-datagrams_of-append (Comes path octets ∷ xs) ys =
-    ap (λ (ds : List (List ℕ)). octets ∷ ds) (datagrams_of-append xs ys)
-datagrams_of-append (Nothing ∷ xs) ys = datagrams_of-append xs ys
-
 abbrev octets_of : List (Path × List ℕ) → List (List ℕ)
 octets_of came = map (λ (x : Path × List ℕ). x.1) came
 

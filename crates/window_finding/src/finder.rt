@@ -12,17 +12,13 @@ ghost use Rattle.window_finding.specs.Finding.{AnnouncesType};
 ghost use Rattle.window_finding.specs.First.{distinct, first_timestamps, timestamp_in};
 ghost use Rattle.window_finding.specs.Turns.{IsDone, IsStop};
 
-use capture_engines::of_reading;
-use media_file::FileFault;
+use media_file::{FileFault, MOST_RECORDS};
 use recording_reader::DatagramReader;
 use rtp_header::read_rtp;
-use run_outcome::{Fault, of_capture};
+use run_outcome::{Fault, of_capture, of_reading};
 use sdp_format::read_located;
 use st_format::ByteSource;
 use std::alloc::{AllocError, Allocator};
-
-/// The greatest number of datagrams of one file (own).
-const TURNS: u64 = 16_777_216;
 
 /// What is sought.
 #[derive(Clone, Copy)]
@@ -93,7 +89,8 @@ impl<A: Allocator> Finder<A> {
         ensures payload_type { self.new.payload_type ≡ self.old.payload_type }
         ensures added { OnOk result ((ts : List ℕ)
             → self.old.window.items ≡ take self.old.sought.count (distinct ts)
-            → self.new.window.items ≡ take self.old.sought.count (distinct (ts ++ timestamp ∷ []))) }
+            → self.new.window.items
+            ≡ take self.old.sought.count (distinct (ts ++ timestamp ∷ []))) }
     {
         if self.is_full() || self.window.contains(&timestamp) {
             return Ok(());
@@ -145,7 +142,7 @@ impl<A: Allocator> Finder<A> {
             (S.failures reader.new.source) ∷ []) }
         ensures names { S.names reader.new.source ≡ S.names reader.old.source }
     {
-        for _ in 0..TURNS {
+        for _ in 0..MOST_RECORDS {
             if self.is_full() {
                 return Ok(());
             }

@@ -91,7 +91,6 @@ fn find_timestamps<A: Allocator + Copy, S: ByteSource>(
     }
 }
 
-/// Begins by the SDP text, where one is given.
 fn begin<A: Allocator + Copy>(
     alloc: A,
     sought: Sought,
@@ -111,7 +110,6 @@ fn begin<A: Allocator + Copy>(
     }
 }
 
-/// Begins by an SDP text.
 fn open_by<A: Allocator + Copy>(alloc: A, sought: Sought, sdp: &[u8]) -> Result<Finder<A>, Fault>
     ensures opened { IfOk result (λ s. FindsBy sought sdp.now s []) }
     ensures refusal { IfErr result (λ f. OfRefusal f (IsOpeningRefusal (0 ∷ []) sdp.now)) }
@@ -146,7 +144,8 @@ fn find_all<A: Allocator + Copy, S: ByteSource>(
     Ok(())
 }
 
-/// Takes the timestamps of the file of a place.
+/// Takes the timestamps of the file of a place. It alone is lent, so what is known of the others
+/// stays.
 fn find_at<A: Allocator + Copy, S: ByteSource>(
     alloc: A,
     sought: Sought,
@@ -163,7 +162,8 @@ fn find_at<A: Allocator + Copy, S: ByteSource>(
     ensures front { take place files.new ≡ take place files.old }
     ensures behind { drop (place + 1) files.new ≡ drop (place + 1) files.old }
     ensures found { OnOk result (FirstIs
-        (λ s. FindsFile sought (way_at ways.now place) (WasRead S.gave S.ended s) begun.old begun.new)
+        (λ s. FindsFile sought (way_at ways.now place) (WasRead S.gave S.ended s)
+        begun.old begun.new)
         (zip (drop place files.old) (drop place files.new))) }
     ensures begun { OnOk result (begun.new ≢ None) }
     ensures refusal { IfErr result (λ f. OfRefusal f (λ r. FirstIs
@@ -216,7 +216,6 @@ fn find_one<A: Allocator + Copy, S: ByteSource>(
     found
 }
 
-/// Whether as many timestamps were found as are sought.
 fn has_all<A: Allocator>(begun: &Option<Finder<A>>) -> bool
     ensures { IsTrue result
         → MatchOption begun.now ⊥ (λ s. s.sought.count ≤ length s.window.items) }
@@ -259,7 +258,6 @@ fn find_opened<A: Allocator + Copy, S: ByteSource>(
     found
 }
 
-/// Begins by a file's text.
 fn open_by_text<A: Allocator + Copy>(
     alloc: A,
     sought: Sought,

@@ -4,11 +4,9 @@ ghost use Rattle.run_outcome.specs.Timestamps.{AreTimestamps};
 ghost use Rattle.window_finding.specs.Words.{AsksFirst};
 
 use itoa::Buffer;
+use path_receiver::MOST_TIMESTAMPS;
 use st_format::{read_number, split_once};
 use std::alloc::{AllocError, Allocator};
-
-/// How many timestamps a window has at most.
-const MOST: u32 = 16;
 
 /// How many of the first timestamps a text asks for: 16 by `all`, and the number from 1 to 16 that
 /// stands behind `first:`. None by any other text.
@@ -16,15 +14,16 @@ pub fn read_first(text: &[u8]) -> Option<u32>
     ensures is { IfSome result (λ count. AsksFirst text.now count) }
     ensures none { IfNone result ((count : ℕ) → AsksFirst text.now count → ⊥) }
 {
+    let most = MOST_TIMESTAMPS as u32;
     if text == b"all".as_slice() {
-        return Some(MOST);
+        return Some(most);
     }
     let (word, number) = split_once(text, b':')?;
     if word != b"first".as_slice() {
         return None;
     }
     let count = read_number(number)?;
-    if count == 0 || count > MOST {
+    if count == 0 || count > most {
         return None;
     }
     Some(count)
@@ -44,7 +43,6 @@ pub fn spell_timestamps<A: Allocator>(alloc: A, window: &[u32]) -> Result<Vec<u8
     Ok(text)
 }
 
-/// Puts the digits of a number behind a text.
 fn put_number<A: Allocator>(text: &mut Vec<u8, A>, number: u32) -> Result<(), AllocError>
     ensures { OnOk result (text.new.items ≡ text.old.items ++ decimal number) }
 {

@@ -9,8 +9,8 @@ use path_receiver::{OpenFault, PlayFault, check_window};
 use st_format::{Format, Picture};
 use std::alloc::Allocator;
 
-/// The most pictures of one sender (own).
-const MOST_PICTURES: usize = 10_000;
+/// The most pictures of one sender (own): the first one behind them is at fault.
+pub const MOST_PICTURES: usize = 10_000;
 
 /// The most receivers of a schedule (own).
 const MOST_RECEIVERS: u8 = 8;

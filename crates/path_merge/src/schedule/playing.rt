@@ -8,7 +8,7 @@ ghost use Rattle.path_merge.specs.Admitted.{IsFirstBad};
 ghost use Rattle.path_merge.specs.Played.{ArePictures, IsPlayed, IsReceiverCount};
 ghost use Rattle.path_merge.specs.Reached.{IsFrameOf};
 ghost use Rattle.path_merge.specs.Sent.{AreSentBy, IsSendersFrame, scene_of, sender_of};
-ghost use Rattle.path_merge.specs.Stage.{StopsAt, FollowsAll, IsReady};
+ghost use Rattle.path_merge.specs.Stage.{RefusesAt, FollowsAll, IsReady};
 ghost use Rattle.path_merge.specs.Stays.{Stay};
 
 use crate::schedule::check::check;
@@ -107,7 +107,7 @@ fn follow_all<A: Allocator + Copy, B: Allocator, C: Allocator>(
     ensures followed { OnOk result
         (FollowsAll plan.now stamp pictures.now events.now stage.old stage.new) }
     ensures bad { IfErr result (λ fault. (place : ℕ) → fault ≡ PlayFault.BadEvent place →
-        StopsAt plan.now stamp pictures.now events.now place stage.old) }
+        RefusesAt plan.now stamp pictures.now events.now place stage.old) }
     ensures others { IfErr result (λ fault. (fault ≡ PlayFault.NoMemory)
         ⊎ ((place : ℕ) × (fault ≡ PlayFault.BadEvent place))) }
 {

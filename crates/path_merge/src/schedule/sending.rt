@@ -2,7 +2,7 @@
 ghost use Rattle.std.specs.Prelude.{◌≡◌, ◌<◌, ◌≤◌, ◌*◌, ◌+◌, ◌==◌, ◌∷◌, [], All, IfOk, OnErr};
 ghost use Rattle.std.specs.Prelude.{Err, length};
 ghost use Rattle.packet_plan.specs.Sending.{EachHasRoom};
-ghost use Rattle.path_merge.specs.Steps.{after_packet, text_at, to_come};
+ghost use Rattle.path_merge.specs.Steps.{after_packet, datagram_at, to_come};
 
 use crate::schedule::stop::Stop;
 use packet_plan::{Plan, Stamp};
@@ -54,7 +54,7 @@ pub fn next_datagram<A: Allocator, B: Allocator, C: Allocator>(
     Ok(octets)
 }
 
-#[tactic(auto, unfolding(crate::specs::Steps::text_at))]
+#[tactic(auto, unfolding(crate::specs::Steps::datagram_at))]
 fn datagram_of<A: Allocator, B: Allocator, C: Allocator>(
     alloc: A,
     plan: &Plan<B>,
@@ -67,7 +67,7 @@ fn datagram_of<A: Allocator, B: Allocator, C: Allocator>(
     requires format { picture.now.format ≡ plan.now.format }
     requires room { EachHasRoom plan.now (length buf.old) }
     requires index { index < length plan.now.packets }
-    ensures text { IfOk result (λ v. v.items ≡ text_at plan.now picture.now stamp index) }
+    ensures text { IfOk result (λ v. v.items ≡ datagram_at plan.now picture.now stamp index) }
     ensures memory { OnErr result (result ≡ Err Stop.NoMemory) }
     ensures room { length buf.new ≡ length buf.old }
 {

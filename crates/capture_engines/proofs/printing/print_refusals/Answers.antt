@@ -1,6 +1,7 @@
 use Rattle.std.proofs.Common.{append-nil, ◌∙◌, refl, sym}
 use Rattle.std.proofs.lemmas.Result.{err_from_is_err_and}
-use Rattle.capture_engines.specs.Printed.{refusal_line, refusals}
+use Rattle.path_receiver.specs.Answers.{all_refusals}
+use Rattle.capture_engines.specs.Printed.{refusal_line}
 use Rattle.capture_engines.proofs.Printed.{refusals_cut, refusals_more}
 use Rattle.run_outcome.proofs.Printed.{texts_all}
 use Rattle.capture_engines.proofs.printing.print_refusals.Goals as goal
@@ -30,5 +31,5 @@ returns-in_err-print_counted-clause-cut g c =
 pub returns-clause-printed : goal.returns-clause-printed
 returns-clause-printed g c =
     let l = c.loop-place in
-    texts_all (refusal_line c.args.refused.now) refusals l.place _ _ c.loop-place-test.false
+    texts_all (refusal_line c.args.refused.now) all_refusals l.place _ _ c.loop-place-test.false
     l.invariant.printed

@@ -3,7 +3,8 @@ use Rattle.std.specs.List.{flat_map}
 use Rattle.std.proofs.lemmas.Result.{err_from_is_err_and}
 use Rattle.st_format.specs.Device.{GrowsPart}
 use Rattle.media_file.proofs.Written.{part_first, part_then, took_both}
-use Rattle.capture_engines.specs.Printed.{counted_line, refusal_line, refusals, tally_text}
+use Rattle.path_receiver.specs.Answers.{all_refusals}
+use Rattle.capture_engines.specs.Printed.{counted_line, refusal_line, tally_text}
 use Rattle.run_outcome.specs.declared.line.Line.TheVariants.{OutsideCount}
 use Rattle.run_outcome.proofs.Printed.{on_err, on_ok}
 use Rattle.capture_engines.proofs.printing.print_tally.Goals as goal
@@ -14,13 +15,13 @@ returns-in_err-print_refusals-clause-cut g c =
     let p = err_from_is_err_and c.from_residual.result c.from_residual.ensures.1 in
     rw (p.1)
     (part_first (g.O.ByteSink.took c.args.output.now)
-    (g.O.ByteSink.took c.print_refusals.new.output) (flat_map (refusal_line t.refused) refusals)
+    (g.O.ByteSink.took c.print_refusals.new.output) (flat_map (refusal_line t.refused) all_refusals)
     (counted_line t.outside (OutsideCount t.outside)) c.in_err-print_refusals.ensures.cut)
 
 pub returns-clause-printed : goal.returns-clause-printed
 returns-clause-printed g c =
     let t = c.args.tally.now in
-    let lines : List ℕ = flat_map (refusal_line t.refused) refusals in
+    let lines : List ℕ = flat_map (refusal_line t.refused) all_refusals in
     let last : List ℕ = counted_line t.outside (OutsideCount t.outside) in
     let old = g.O.ByteSink.took c.args.output.now in
     let mid = g.O.ByteSink.took c.print_refusals.new.output in
@@ -32,7 +33,7 @@ returns-clause-printed g c =
 pub returns-clause-cut : goal.returns-clause-cut
 returns-clause-cut g c =
     let t = c.args.tally.now in
-    let lines : List ℕ = flat_map (refusal_line t.refused) refusals in
+    let lines : List ℕ = flat_map (refusal_line t.refused) all_refusals in
     let last : List ℕ = counted_line t.outside (OutsideCount t.outside) in
     let old = g.O.ByteSink.took c.args.output.now in
     let mid = g.O.ByteSink.took c.print_refusals.new.output in

@@ -1,6 +1,6 @@
 use Rattle.std.proofs.Common.{List, subst, sym, ℕ}
 use Rattle.run_outcome.proofs.Printed.{on_ok}
-use Rattle.capture_engines.specs.Sending.{SaysSdp}
+use Rattle.run_outcome.specs.TextRefusals.{SaysText}
 use Rattle.capture_engines.proofs.sending.send.Goals as goal
 
 pub returns-clause-sent : goal.returns-clause-sent
@@ -9,7 +9,7 @@ returns-clause-sent g c =
     (λ printed. record {
       text = c.deref.result.now;
       says =
-          subst (λ (l : List ℕ). SaysSdp g.S.ByteSource.gave g.S.ByteSource.ended
+          subst (λ (l : List ℕ). SaysText g.S.ByteSource.gave g.S.ByteSource.ended
           c.args.sdp.now c.read_said.new.sdp l)
           (sym c.deref.ensures.value) c.in_ok-said.ensures.says;
       count = c.in_ok-sent.sent;

@@ -5,8 +5,7 @@ use Rattle.run_outcome.specs.Moments.{WasRead}
 use Rattle.run_outcome.proofs.Refusals.{of_refusal_map}
 use Rattle.capture_engines.specs.Sent.{IsPicturesRefusal}
 use Rattle.run_outcome.proofs.Printed.{on_ok}
-use Rattle.capture_engines.specs.Sending.{SaysSdp}
-use Rattle.run_outcome.specs.TextRefusals.{IsCaptureText}
+use Rattle.run_outcome.specs.TextRefusals.{IsCaptureText, SaysText}
 use Rattle.capture_engines.specs.Typed.{IsTypedBy}
 use Rattle.capture_engines.proofs.TypedTexts.{text_given}
 use Rattle.capture_engines.proofs.typed.send_typed.Goals as goal
@@ -17,7 +16,7 @@ returns-clause-sent g c =
     (λ printed. record {
       text = c.deref-2.result.now;
       says =
-          subst (λ (l : List ℕ). SaysSdp g.S.ByteSource.gave g.S.ByteSource.ended
+          subst (λ (l : List ℕ). SaysText g.S.ByteSource.gave g.S.ByteSource.ended
           c.args.sdp.now c.read_said.new.sdp l)
           (sym c.deref-2.ensures.value) c.in_ok-said.ensures.says;
       typed = c.in_ok-typed.typed;

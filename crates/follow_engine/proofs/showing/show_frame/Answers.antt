@@ -1,11 +1,12 @@
 use Rattle.std.proofs.Common.{◌≡◌, ◌++◌, ◌∷◌, []}
+use Rattle.std.proofs.lemmas.Result.{err_from_is_err_and}
 use Rattle.run_outcome.proofs.Printed.{are_counts, on_ok}
 use Rattle.following.specs.Following.{Handed}
 use Rattle.follow_engine.specs.Events.{Left}
 use Rattle.follow_engine.specs.Line.{ended_line}
 use Rattle.follow_engine.specs.Running.{Told}
 use Rattle.follow_engine.specs.declared.line.FollowLine.TheVariants as line
-use Rattle.follow_engine.proofs.Blamed.{accounts_output}
+use Rattle.follow_engine.proofs.Blamed.{accounts_output, blames_pictures}
 use Rattle.follow_engine.proofs.Tells.{told_left}
 use Rattle.follow_engine.proofs.showing.show_frame.Goals as goal
 
@@ -29,5 +30,14 @@ returns-clause-failures g c =
     let shown = g.P.PictureSink.failures in
     let told = g.O.ByteSink.failures in
     accounts_output c.print.result (shown c.args.pictures.now) (shown c.show.new.self)
-    (told c.args.output.now) (told c.print.new.output) c.in_ok-show.ensures.counted
+    (told c.args.output.now) (told c.print.new.output) c.in_ok-show.ensures.failures
     c.print.ensures.failures
+
+pub returns-in_err-show-clause-failures : goal.returns-in_err-show-clause-failures
+returns-in_err-show-clause-failures g c =
+    let shown = g.P.PictureSink.failures in
+    let told = g.O.ByteSink.failures in
+    let p = err_from_is_err_and c.from_residual.result c.from_residual.ensures.1 in
+    rw (p.1, p.2)
+    (blames_pictures c.in_err-show.field-0.0 (shown c.args.pictures.now) (shown c.show.new.self)
+    (told c.args.output.now) c.in_err-show.ensures.failures)

@@ -1,5 +1,5 @@
 use Rattle.std.proofs.Common.{arith, refl}
-use Rattle.frame_assembly.proofs.MissingFlags.{some_samples}
+use Rattle.st_format.proofs.Columns.{some_samples}
 use Rattle.frame_report.proofs.Gathering.{put_all, put_none}
 use Rattle.frame_report.proofs.MissingTexts.{rows_none}
 use Rattle.frame_report.proofs.missing.put_missing.Goals as goal

@@ -1,8 +1,9 @@
 use Rattle.std.proofs.lemmas.Result.{err_from_is_err_and}
 use Rattle.media_file.proofs.GaveCaptures.{capture_gave_cut}
+use Rattle.export_engine.proofs.Recordings.{head_wrong}
 use Rattle.paced_export.specs.PacedExported.StopsPacing.{Unread}
 use Rattle.paced_export.specs.Counts.{counted}
-use Rattle.paced_export.proofs.PacedRecordings.{head_stops, head_wrong, recording_all}
+use Rattle.paced_export.proofs.PacedRecordings.{head_stops, recording_all}
 use Rattle.paced_export.proofs.PacedRecordings.{recording_stops, recording_wrong}
 use Rattle.std.proofs.Common.{refl}
 use Rattle.paced_export.proofs.packets.write_paced.Goals as goal

@@ -7,12 +7,13 @@ use Rattle.media_file.specs.declared.fault.FileFault.TheVariants.{Device}
 use Rattle.media_file.proofs.Gave.{fault_device}
 use Rattle.media_file.proofs.Loops.{none_left}
 use Rattle.media_file.proofs.GaveLoops.{gave_many, gave_wrong}
+use Rattle.export_engine.proofs.PacketLoops.{source_counted, one_packet}
 use Rattle.paced_export.specs.Counts.{counted}
 use Rattle.paced_export.specs.Paced.{paced_entry}
 use Rattle.paced_export.specs.Pacing.{timestamp_in}
 use Rattle.paced_export.proofs.PacedLists.{entry_is}
-use Rattle.paced_export.proofs.PacedLoops.{memory_wrong, one_packet, paced_all, paced_few}
-use Rattle.paced_export.proofs.PacedLoops.{paced_first, paced_next, seen_few, source_counted}
+use Rattle.paced_export.proofs.PacedLoops.{memory_wrong, paced_all, paced_few}
+use Rattle.paced_export.proofs.PacedLoops.{paced_first, paced_next, seen_few}
 use Rattle.paced_export.proofs.PacedLoops.{stops_before, stops_counting, stops_full, stops_within}
 use Rattle.paced_export.proofs.PacedLoops.{stops_writing, written_wrong}
 use Rattle.paced_export.proofs.packets.write_records.Goals as goal

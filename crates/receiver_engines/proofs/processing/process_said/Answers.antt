@@ -4,10 +4,11 @@ use Rattle.run_outcome.specs.Moments.{WasRead, pair}
 use Rattle.std.specs.List.{zip}
 use Rattle.run_outcome.proofs.Printed.{on_ok}
 use Rattle.run_outcome.proofs.Refusals.{of_refusal_map}
+use Rattle.run_outcome.specs.TextRefusals.{SaysText}
 use Rattle.key_mix.specs.declared.Job.TheVariants.{Key}
 use Rattle.receiver_engines.proofs.Late.{on_err}
 use Rattle.receiver_engines.proofs.Parts.{sends_all, sends_none}
-use Rattle.receiver_engines.specs.Processing.{PrintsSent, SaysText, SendsSaidFiles}
+use Rattle.receiver_engines.specs.Processing.{PrintsSent, SendsSaidFiles}
 use Rattle.receiver_engines.proofs.processing.process_said.Goals as goal
 
 pub returns-clause-sent : goal.returns-clause-sent
@@ -21,7 +22,7 @@ returns-clause-sent g c =
     let ended = g.S.ByteSource.ended in
     let widened : c.from.result ≡ sent = search rules in
     on_ok c.print.result (PrintsSent c.from.result old new)
-    ((text : List ℕ) × SaysText gave ended c.args.sdp.now c.read_said.new.sdp text
+    ((text : List ℕ) × SaysText gave ended c.args.sdp.now c.read_if_given.new.sdp text
     × ((count : ℕ) × SendsSaidFiles text (WasRead gave ended)
     (zip c.args.states.now c.process_files.new.states)
     (pair c.args.hold.now c.process_files.new.hold)
@@ -30,7 +31,7 @@ returns-clause-sent g c =
     count × PrintsSent count old new))
     (λ printed. (
       text,
-      subst (λ (l : List ℕ). SaysText gave ended c.args.sdp.now c.read_said.new.sdp l)
+      subst (λ (l : List ℕ). SaysText gave ended c.args.sdp.now c.read_if_given.new.sdp l)
           (sym c.deref.ensures.value) c.in_ok-said.ensures.says,
       (
         sent,

@@ -1,7 +1,7 @@
 use Rattle.std.proofs.Common.{◌≡◌, ◌∙◌, ◌+◌, ◌<◌, ap, arith, false, refl, subst, sym, ℕ}
 use Rattle.std.specs.BTreeMap.{get}
 use Rattle.std.specs.Ordering.{nat_cmp}
-use Rattle.recording_counts.specs.Runs.{Begins, reaches}
+use Rattle.recording_counts.specs.Runs.{BeginsRun, reaches}
 use Rattle.recording_counts.proofs.TreeLaws.{alone, apart_from, begins, led, put_apart, reached, there, unreached}
 use Rattle.recording_counts.proofs.number_set.put_below.Goals as goal
 
@@ -16,7 +16,7 @@ returns-then-reaches-clause-put g c = (
 
 pub put_between-requires-clause-begins : goal.put_between-requires-clause-begins
 put_between-requires-clause-begins g c =
-    subst (λ (f : ℕ). Begins f c.args.number c.args.below.now) (sym c.begin_of-first.ensures)
+    subst (λ (f : ℕ). BeginsRun f c.args.number c.args.below.now) (sym c.begin_of-first.ensures)
     (begins c.args.top.first c.args.below.now c.args.number c.requires.runs.1
     c.last_from-before.result c.last_from-before.ensures
     (sym c.reaches.ensures ∙ c.if-reaches.false))
@@ -37,8 +37,8 @@ pub returns-then-first-number-clause-put : goal.returns-then-first-number-clause
 returns-then-first-number-clause-put g c =
     let no : reaches c.last_from-before.result c.args.number ≡ false =
     sym c.reaches.ensures ∙ c.if-reaches.false in
-    let b : Begins c.begin_of-first.result c.args.number c.args.below.now =
-    subst (λ (f : ℕ). Begins f c.args.number c.args.below.now) (sym c.begin_of-first.ensures)
+    let b : BeginsRun c.begin_of-first.result c.args.number c.args.below.now =
+    subst (λ (f : ℕ). BeginsRun f c.args.number c.args.below.now) (sym c.begin_of-first.ensures)
     (begins c.args.top.first c.args.below.now c.args.number c.requires.runs.1
     c.last_from-before.result c.last_from-before.ensures no) in
     led c.args.top c.args.below.now c.args.number c.requires.runs c.remove.new.self
@@ -52,8 +52,8 @@ pub returns-else-first-number-clause-put : goal.returns-else-first-number-clause
 returns-else-first-number-clause-put g c =
     let no : reaches c.last_from-before.result c.args.number ≡ false =
     sym c.reaches.ensures ∙ c.if-reaches.false in
-    let b : Begins c.begin_of-first.result c.args.number c.args.below.now =
-    subst (λ (f : ℕ). Begins f c.args.number c.args.below.now) (sym c.begin_of-first.ensures)
+    let b : BeginsRun c.begin_of-first.result c.args.number c.args.below.now =
+    subst (λ (f : ℕ). BeginsRun f c.args.number c.args.below.now) (sym c.begin_of-first.ensures)
     (begins c.args.top.first c.args.below.now c.args.number c.requires.runs.1
     c.last_from-before.result c.last_from-before.ensures no) in
     let same : c.begin_of-first.result ≡ c.args.number =
@@ -65,5 +65,5 @@ returns-else-first-number-clause-put g c =
     b c.requires.runs.1.ordered
     (ap (get nat_cmp c.args.below.now) same
     ∙ alone c.args.top c.args.below.now c.args.number c.requires.runs
-    (subst (λ (f : ℕ). Begins f c.args.number c.args.below.now) same b))
+    (subst (λ (f : ℕ). BeginsRun f c.args.number c.args.below.now) same b))
     (λ q other. refl)

@@ -5,12 +5,12 @@ use Rattle.media_file.specs.Fronts.{front_text}
 use Rattle.media_file.specs.declared.front.Version.TheVariants.{Two}
 use Rattle.run_outcome.specs.Text.{GivesText}
 use Rattle.run_outcome.proofs.Refusals.{none_refused, of_refusal_map}
+use Rattle.run_outcome.proofs.Blaming.{failed_one}
 use Rattle.std.proofs.lemmas.Result.{err_from_is_err_and}
 use Rattle.recording_engines.specs.Files.{AllOpened}
 use Rattle.recording_engines.specs.Imported.{AsksFlows}
 use Rattle.recording_engines.proofs.Blames.{blames_files, blames_joined, blames_output}
 use Rattle.recording_engines.proofs.Quiet.{if_refused, never_refused}
-use Rattle.recording_engines.proofs.FileFaults.{failed_one}
 use Rattle.recording_engines.proofs.Endings.{has_imported, has_stopped, imports, opened_fresh}
 use Rattle.recording_engines.proofs.Endings.{opened_ready, taken_of}
 use Rattle.recording_engines.proofs.Lengths.{taken_length}

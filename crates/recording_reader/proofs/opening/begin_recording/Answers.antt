@@ -1,7 +1,6 @@
 use Rattle.std.proofs.Common.{◌≡◌, ◌∙◌, Some, [], length, subst, ℕ}
 use Rattle.std.proofs.lemmas.Result.{err_from_is_err_and}
-use Rattle.pcap_file.specs.Runs.{HasFailed, HasRead, layout_seen}
-use Rattle.recording_reader.specs.Records.{room}
+use Rattle.pcap_file.specs.Runs.{HasFailed, HasRead, layout_seen, most_packet}
 use Rattle.recording_reader.proofs.Beginnings.{recording_begins, recording_no_memory}
 use Rattle.recording_reader.proofs.Beginnings.{recording_stops}
 use Rattle.recording_reader.proofs.opening.begin_recording.Goals as goal
@@ -21,7 +20,7 @@ returns-in_err-layout-clause-fault g c =
     let p =
     err_from_is_err_and c.from_residual-in_err-layout.result
     c.from_residual-in_err-layout.ensures.1 in
-    let same : length c.deref_mut.result.now ≡ room =
+    let same : length c.deref_mut.result.now ≡ most_packet =
     c.deref_mut.ensures.len ∙ c.in_ok-room.ensures.octets in
     rw (p.1, p.2)
     (λ before is. recording_stops before _ c.args.four.now c.requires.four c.requires.magic is
@@ -33,7 +32,7 @@ pub returns-clause-begins : goal.returns-clause-begins
 returns-clause-begins g c =
     let told = g.S.ByteSource in
     let e = c.in_ok-layout.ensures in
-    let same : length c.deref_mut.result.now ≡ room =
+    let same : length c.deref_mut.result.now ≡ most_packet =
     c.deref_mut.ensures.len ∙ c.in_ok-room.ensures.octets in
     λ before is. recording_begins before _ c.args.four.now c.requires.four c.requires.magic is
     (record {

@@ -2,7 +2,7 @@ use Rattle.std.proofs.Common.{◌≡◌, ◌∙◌, ℕ, sym, subst, length}
 use Rattle.std.proofs.lemmas.Result.{err_from_is_err_and}
 use Rattle.pcap_file.specs.Runs.{ReadsEnd, ReadsFault, ReadsPacket, layout_seen, packet_seen}
 use Rattle.pcap_file.proofs.Growing.{grew_on}
-use Rattle.recording_reader.specs.Records.{room}
+use Rattle.pcap_file.specs.Runs.{most_packet}
 use Rattle.recording_reader.proofs.Passing.{none_left, passed_end, passed_fault}
 use Rattle.recording_reader.proofs.Passing.{passed_found, passed_more}
 use Rattle.recording_reader.proofs.reading.read_on.Goals as goal
@@ -12,7 +12,7 @@ returns-in_err-packet-clause-fault g c =
     let l = c.loop-packet in
     let told = g.S.ByteSource in
     let f = c.in_err-packet.field-0.0 in
-    let same : length l.buf ≡ room = l.invariant.room ∙ sym c.requires in
+    let same : length l.buf ≡ most_packet = l.invariant.room ∙ sym c.requires in
     let p = err_from_is_err_and c.from_residual.result c.from_residual.ensures.1 in
     rw (p.1, p.2)
     (passed_fault c.args.flows.now (told.gave c.args.source.now) (told.gave l.source)
@@ -27,7 +27,7 @@ returns-in-Ok-clause-read g c =
     let l = c.loop-packet in
     let told = g.S.ByteSource in
     let q = packet_seen c.in-Some.packet c.next_packet.new.buf in
-    let same : length l.buf ≡ room = l.invariant.room ∙ sym c.requires in
+    let same : length l.buf ≡ most_packet = l.invariant.room ∙ sym c.requires in
     passed_found c.args.flows.now (told.gave c.args.source.now) (told.gave l.source)
     (told.gave c.next_packet.new.source) (told.ended c.next_packet.new.source) c.args.layout.now
     c.next_packet.new.layout (layout_seen l.layout) c.args.left_out.now l.left_out
@@ -43,7 +43,7 @@ loop-packet-preserved g c =
     let l = c.loop-packet in
     let told = g.S.ByteSource in
     let q = packet_seen c.in-Some.packet c.next_packet.new.buf in
-    let same : length l.buf ≡ room = l.invariant.room ∙ sym c.requires in
+    let same : length l.buf ≡ most_packet = l.invariant.room ∙ sym c.requires in
     record {
       room = c.in_ok-packet.ensures.room ∙ l.invariant.room;
       failures = c.in_ok-packet.ensures.counted ∙ l.invariant.failures;
@@ -66,7 +66,7 @@ pub returns-clause-read : goal.returns-clause-read
 returns-clause-read g c =
     let l = c.loop-packet in
     let told = g.S.ByteSource in
-    let same : length l.buf ≡ room = l.invariant.room ∙ sym c.requires in
+    let same : length l.buf ≡ most_packet = l.invariant.room ∙ sym c.requires in
     let none = none_left c.in_ok-packet.field-0 c.in_default.not-Some in
     passed_end c.args.flows.now (told.gave c.args.source.now) (told.gave l.source)
     (told.gave c.next_packet.new.source) (told.ended c.next_packet.new.source) c.args.layout.now

@@ -20,13 +20,14 @@ returns-clause-limit g c =
     let whole = subst (λ (l : List ℕ). IsWholeLines (take 16777216 l) c.whole_lines-end.result)
     c.deref.ensures.value c.whole_lines-end.ensures in
     let long = within_limit given 16777216 c.whole_lines-end.result
-    (omega (arith, c.if-len-le-LIMIT.false, c.len.ensures)) whole.within in
+    (omega (arith, c.if-len-le-MOST_TEXT.false, c.len.ensures)) whole.within in
     rw c.truncate.ensures.items (omega (arith, long.0, long.1))
 
 pub returns-clause-cut : goal.returns-clause-cut
 returns-clause-cut g c =
     let given = c.args.octets.items in
-    let past : 16777216 < length given = omega (arith, c.if-len-le-LIMIT.false, c.len.ensures) in
+    let past : 16777216 < length given =
+    omega (arith, c.if-len-le-MOST_TEXT.false, c.len.ensures) in
     let whole = subst (λ (l : List ℕ). IsWholeLines (take 16777216 l) c.whole_lines-end.result)
     c.deref.ensures.value c.whole_lines-end.ensures in
     let long = within_limit given 16777216 c.whole_lines-end.result past whole.within in

@@ -5,7 +5,6 @@ use Rattle.std.proofs.lemmas.Result.{err_from_is_err_and}
 use Rattle.std.specs.List.{sum_by}
 use Rattle.std.specs.Prelude.{◌≤◌}
 use Rattle.run_outcome.specs.Fault.{Blames, counts}
-use Rattle.recording_engines.specs.Faults.{reading_fault}
 use Rattle.recording_engines.specs.Files.{failures_by}
 use Rattle.recording_engines.proofs.Taken.{map_set}
 use Rattle.side_by_side.specs.Going.{IsReadBy}
@@ -17,6 +16,7 @@ use Rattle.side_by_side.proofs.Reading.{all_get, all_one_more, all_set, all_unfa
 use Rattle.side_by_side.proofs.Reading.{failures_same, on_set, sound_given, stopped_set}
 use Rattle.side_by_side.proofs.Reading.{unfailed_read}
 use Rattle.side_by_side.proofs.choosing.read_all.Goals as goal
+use Rattle.run_outcome.specs.LowerFaults.{reading_fault}
 
 pub loop-place-init : goal.loop-place-init
 loop-place-init g c = record {

@@ -1,9 +1,9 @@
 use Rattle.std.proofs.Common.{ap, subst, sym}
-use Rattle.recording_engines.proofs.FileFaults.{reading_blames}
 use Rattle.side_by_side.specs.Side.{ReadsReader}
 use Rattle.side_by_side.specs.declared.going.Going.{Going}
 use Rattle.side_by_side.proofs.Reading.{found, found_fault, not_ended, unfailed_cases}
 use Rattle.side_by_side.proofs.side.read_reader.Goals as goal
+use Rattle.run_outcome.proofs.Blaming.{reading_blames}
 
 pub returns-in-Ok-clause-read : goal.returns-in-Ok-clause-read
 returns-in-Ok-clause-read g c =

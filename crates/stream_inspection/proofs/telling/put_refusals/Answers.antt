@@ -1,5 +1,5 @@
 use Rattle.std.proofs.Common.{append-nil, sym}
-use Rattle.capture_engines.specs.Printed.{refusals}
+use Rattle.path_receiver.specs.Answers.{all_refusals}
 use Rattle.run_outcome.proofs.Printed.{texts_all}
 use Rattle.stream_inspection.specs.Told.{refused_line}
 use Rattle.stream_inspection.proofs.Refusals.{refusals_more}
@@ -17,5 +17,5 @@ loop-place-preserved g c =
 pub returns : goal.returns
 returns g c =
     let l = c.loop-place in
-    texts_all (refused_line c.args.form c.args.refused.now) refusals l.place _ _
+    texts_all (refused_line c.args.form c.args.refused.now) all_refusals l.place _ _
     c.loop-place-test.false l.invariant

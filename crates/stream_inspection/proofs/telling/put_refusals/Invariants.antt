@@ -1,5 +1,5 @@
 use Rattle.std.proofs.Common.{◌≡◌, ◌++◌}
-use Rattle.capture_engines.specs.Printed.{refusals}
+use Rattle.path_receiver.specs.Answers.{all_refusals}
 use Rattle.run_outcome.proofs.Printed.{texts_before}
 use Rattle.stream_inspection.specs.Told.{refused_line}
 use Rattle.stream_inspection.proofs.telling.put_refusals.Given as goal
@@ -7,4 +7,4 @@ use Rattle.stream_inspection.proofs.telling.put_refusals.Given as goal
 abbrev pub invariant-loop-place : goal.invariant-loop-place
 invariant-loop-place g l =
     l.text.items ≡ l.initial.text.items
-    ++ texts_before (refused_line l.fn.form l.refused) refusals l.place
+    ++ texts_before (refused_line l.fn.form l.refused) all_refusals l.place

@@ -2,8 +2,8 @@ use Rattle.std.proofs.Common.{[], ◌∷◌, ◌∙◌, ap, rules, sym}
 use Rattle.window_finding.proofs.Distinct.{full_stays, has, known_stays, new_comes}
 use Rattle.stream_inspection.proofs.timestamps.add.Goals as goal
 
-pub returns-then-len-ge-MOST : goal.returns-then-len-ge-MOST
-returns-then-len-ge-MOST g c = λ earlier is.
+pub returns-then-len-ge-MOST_TIMESTAMPS : goal.returns-then-len-ge-MOST_TIMESTAMPS
+returns-then-len-ge-MOST_TIMESTAMPS g c = λ earlier is.
     full_stays 16 c.args.window.now.items earlier (c.args.timestamp ∷ []) is (search rules)
 
 pub returns-then-contains : goal.returns-then-contains

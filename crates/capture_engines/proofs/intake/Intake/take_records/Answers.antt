@@ -1,6 +1,6 @@
 use Rattle.std.proofs.Common.{◌≡◌, ◌∷◌, [], ap, arith, false, length, length-append, refl, rules}
 use Rattle.std.proofs.Common.{true, ◌∙◌}
-use Rattle.capture_engines.proofs.Blaming.{reading_blamed}
+use Rattle.run_outcome.proofs.Blaming.{reading_blamed}
 use Rattle.capture_engines.proofs.Readings.{same_twice}
 use Rattle.capture_engines.proofs.Taken.{takes_found, takes_no_records, takes_same}
 use Rattle.capture_engines.proofs.intake.Intake.take_records.Goals as goal

@@ -2,7 +2,7 @@ use Rattle.std.proofs.Common.{ℕ, Err, ap, arith, subst, slice_index_or}
 use Rattle.std.proofs.lemmas.Option.{slice_get-get_or}
 use Rattle.path_merge.specs.declared.schedule.event.Event.TheVariants.{Send}
 use Rattle.path_merge.specs.declared.schedule.stop.Stop.{Stop}
-use Rattle.path_merge.specs.Stage.{StopsAt}
+use Rattle.path_merge.specs.Stage.{RefusesAt}
 use Rattle.std.proofs.Common.{inl, inr, length, refl}
 use Rattle.path_merge.specs.Stage.{FollowsTo}
 use Rattle.path_merge.proofs.Stopped.{not_event}
@@ -27,7 +27,7 @@ loop-place-preserved g c = record {
 pub returns-in-Err-Unfit-clause-bad : goal.returns-in-Err-Unfit-clause-bad
 returns-in-Err-Unfit-clause-bad g c place e =
     subst (λ
-    (n : ℕ). StopsAt c.args.plan.now c.args.stamp c.args.pictures.now c.args.events.now n
+    (n : ℕ). RefusesAt c.args.plan.now c.args.stamp c.args.pictures.now c.args.events.now n
     c.args.stage.now) (same_place c.loop-place.place place e)
     (fails_here c.args.plan.now c.args.stamp c.args.pictures.now c.args.events.now
     c.loop-place.place (slice_index_or c.args.events.now c.loop-place.place Send)

@@ -1,7 +1,7 @@
 use Rattle.std.proofs.Common.{length, sym, ◌∙◌}
 use Rattle.std.proofs.lemmas.List.{length-take-le}
 use Rattle.std.proofs.lemmas.Result.{err_from_is_err_and}
-use Rattle.path_merge.specs.Steps.{text_at}
+use Rattle.path_merge.specs.Steps.{datagram_at}
 use Rattle.path_receiver.proofs.Failed.{err_known, none_ok}
 use Rattle.path_receiver.proofs.Lives.{in_pair, in_static}
 use Rattle.path_merge.proofs.SendLemmas.{octets_within, room_at}
@@ -59,7 +59,7 @@ pub returns-in_err-from_slice-clause-room : goal.returns-in_err-from_slice-claus
 returns-in_err-from_slice-clause-room g c = c.datagram-length.ensures.length
 
 pub returns-clause-text : goal.returns-clause-text
-unfolding text_at
+unfolding datagram_at
 returns-clause-text g c = c.in_ok-from_slice.ensures.items ∙ c.datagram-length.ensures.text
 
 pub returns-clause-memory : goal.returns-clause-memory

@@ -2,7 +2,7 @@ use Rattle.std.proofs.Common.{ℕ, arith, ap, ◌∙◌}
 use Rattle.st_format.specs.Picture.{Values, timestamp_of}
 use Rattle.packet_plan.specs.declared.stamp.Stamp.{Stamp}
 use Rattle.st_format.specs.declared.format.Format.{Format}
-use Rattle.path_merge.specs.Steps.{after_packet, text_at}
+use Rattle.path_merge.specs.Steps.{after_packet, datagram_at}
 use Rattle.path_merge.proofs.SendLemmas.{next_made}
 use Rattle.std.proofs.Common.{◌<◌, ◌≤◌, sym, subst, refl, length}
 use Rattle.std.proofs.Common.{◌*◌}
@@ -40,7 +40,7 @@ returns-clause-sent g c =
     c.format.ensures)
     (c.in_ok-octets.ensures.text
     ∙ ap
-    (λ (p : Values). text_at c.args.plan.now p own c.args.next.now.index)
+    (λ (p : Values). datagram_at c.args.plan.now p own c.args.next.now.index)
     c.index-pictures-next.is)
     (c.move_on.ensures ∙ ap (λ (n : ℕ). after_packet n c.args.next.now) c.len.ensures.value)
 

@@ -1,7 +1,7 @@
 use Rattle.std.proofs.Common.{◌≡◌, ◌∷◌, [], ap, arith, length, length-append, refl, rules, true}
 use Rattle.std.proofs.Common.{◌∙◌}
 use Rattle.capture_engines.specs.Files.{octets_of}
-use Rattle.capture_engines.proofs.Blaming.{reading_blamed}
+use Rattle.run_outcome.proofs.Blaming.{reading_blamed}
 use Rattle.capture_engines.proofs.Readings.{same_twice}
 use Rattle.window_finding.proofs.Found.{none_came, record_came, turn_found}
 use Rattle.window_finding.proofs.finder.Finder.find_in.Goals as goal

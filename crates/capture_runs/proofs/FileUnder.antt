@@ -1,0 +1,254 @@
+-- The file below a sink of pictures.
+use Rattle.std.proofs.Common.{◌≡◌, ◌∙◌, ℕ, List, [], ◌∷◌, ◌++◌, Option, None, Some}
+use Rattle.std.proofs.Common.{Result, Ok, Err}
+use Rattle.std.specs.Prelude.{IfOk, MatchResult}
+use Rattle.std.proofs.Common.{ap, append-nil, append_assoc, refl, subst, sym}
+use Rattle.capture_runs.specs.Followed.{FollowsFiles, IsListed}
+use Rattle.capture_runs.specs.Pictured.{IsSinkOver, SameFile, TakesPictures, failures_under}
+use Rattle.capture_runs.specs.Pictured.{file_under, octets_under}
+use Rattle.capture_runs.specs.Replayed.{replayed_ended, replayed_gave}
+use Rattle.capture_runs.specs.declared.unplaced.UnplacedOutput.{UnplacedOutput}
+use Rattle.capture_runs.specs.declared.replayed.Replayed.{Replayed}
+use Rattle.devices.specs.Passed.{file_took, writing_failures}
+use Rattle.devices.specs.Written.{took_in}
+use Rattle.devices.specs.declared.file_output.FileOutput.{FileOutput}
+use Rattle.flow.specs.declared.flows.Flows.{Flows}
+use Rattle.follow_engine.specs.Events.{frames_of_events}
+use Rattle.follow_engine.specs.Followed.{FollowsWhole, followed_events}
+use Rattle.follow_engine.specs.Shown.{TakesAll, TakesIn}
+use Rattle.follow_engine.specs.Sides.{SideRead}
+use Rattle.follow_engine.specs.declared.opening.FollowAsked.{FollowAsked}
+use Rattle.follow_engine.specs.declared.telling.FollowTotals.{FollowTotals}
+use Rattle.following.specs.Following.{Handed}
+use Rattle.frame_sinks.specs.Pictures.{form_stream, pictures_of}
+use Rattle.frame_sinks.specs.Sinks.{TakesFrame}
+use Rattle.frame_sinks.specs.declared.filling.Filling.{Filling}
+use Rattle.frame_sinks.specs.declared.form_sink.FormSink.{FormSink}
+use Rattle.frame_sinks.proofs.Streams.{all_written}
+use Rattle.run_outcome.specs.Fault.{Accounts, counts, failures_in}
+use Rattle.run_outcome.specs.declared.fault.Fault.{Fault}
+use Rattle.run_outcome.specs.declared.fault.Fault.TheVariants.{Device, Memory, Refused}
+use Rattle.run_outcome.specs.Refusing.{OfRefusal}
+use Rattle.run_outcome.specs.declared.refusal.Refusal.{Refusal}
+use Rattle.side_by_side.specs.declared.side.Side.{Side}
+use Rattle.st_format.specs.declared.format.Format.{Format}
+use Rattle.st_format.specs.Picture.{Values}
+
+-- ---- a sink that may be none
+
+none_stays : {K : Type 0} (takes : K → Handed → K → Type 0) (k l : Option K) (hs : List Handed)
+    → k ≡ None → TakesAll (TakesIn takes) k hs l → l ≡ None
+none_stays takes k l [] none is = is ∙ none
+none_stays takes k l (h ∷ hs) none is =
+    let one : TakesIn takes None h is.0 =
+    subst (λ (x : Option _). TakesIn takes x h is.0) none is.1 in
+    none_stays takes is.0 l hs one is.2
+
+-- one took frames
+abbrev TookAll : {K : Type 0} → (K → Handed → K → Type 0) → K → List Handed → Option K → Type 0
+TookAll takes k hs l = (m : _) × (l ≡ Some m) × TakesAll takes k hs m
+
+some_step : {K : Type 0} (takes : K → Handed → K → Type 0) (k : K) (h : Handed) (l : Option K)
+    (hs : List Handed) (mid : Option K) → TakesIn takes (Some k) h mid
+    → TakesAll (TakesIn takes) mid hs l
+    → ((m : K) → TakesAll (TakesIn takes) (Some m) hs l → TookAll takes m hs l)
+    → TookAll takes k (h ∷ hs) l
+some_step takes k h l hs None one more next = absurd one
+some_step takes k h l hs (Some m) one more next =
+    let r = next m more in (r.0, r.1, (m, one, r.2))
+
+some_took : {K : Type 0} (takes : K → Handed → K → Type 0) (k : K) (l : Option K)
+    (hs : List Handed) → TakesAll (TakesIn takes) (Some k) hs l → TookAll takes k hs l
+some_took takes k l [] is = (k, is, refl)
+some_took takes k l (h ∷ hs) is =
+    some_step takes k h l hs is.0 is.1 is.2 (λ m. some_took takes m l hs)
+
+-- ---- what the file took
+
+-- where it has not its name yet, that is what went to it
+took_unplaced : (s : UnplacedOutput) → file_took s.file ≡ octets_under s
+took_unplaced s = ap (λ (p : _). took_in p s.file.sink.progress) s.unplaced
+
+sink_wrote : {A : Type 0} (filling : Filling) (fill : Option (List ℕ)) (f : FileOutput)
+    (k m : FormSink UnplacedOutput A) (hs : List Handed)
+    → IsSinkOver filling fill (Some f) (Some k) → TakesAll (TakesFrame octets_under) k hs m
+    → file_took m.sink.file
+    ≡ file_took f ++ form_stream None (pictures_of filling fill None hs)
+sink_wrote filling fill f k m hs is all =
+    took_unplaced m.sink ∙ all_written octets_under k m hs all
+    ∙ ap (λ (t : List ℕ). t ++ form_stream k.format (pictures_of k.filling k.fill k.held hs))
+    (sym (took_unplaced k.sink))
+    ∙ ap (λ (x : FileOutput). file_took x
+    ++ form_stream k.format (pictures_of k.filling k.fill k.held hs)) is.0
+    ∙ ap (λ (x : Filling). file_took f ++ form_stream k.format (pictures_of x k.fill k.held hs))
+    is.1
+    ∙ ap (λ (x : Option (List ℕ)). file_took f
+    ++ form_stream k.format (pictures_of filling x k.held hs)) is.2
+    ∙ ap (λ (x : Option Format). file_took f
+    ++ form_stream x (pictures_of filling fill k.held hs)) is.3
+    ∙ ap (λ (x : Option Values). file_took f
+    ++ form_stream None (pictures_of filling fill x hs)) is.4
+
+took_pictures : {A : Type 0} (filling : Filling) (fill : Option (List ℕ))
+    (out : Option FileOutput) (k l : Option (FormSink UnplacedOutput A)) (hs : List Handed)
+    → IsSinkOver filling fill out k → TakesAll (TakesIn (TakesFrame octets_under)) k hs l
+    → TakesPictures filling fill hs out (file_under l)
+took_pictures filling fill None k l hs is all =
+    ap file_under (none_stays (TakesFrame octets_under) k l hs is all)
+took_pictures filling fill (Some f) None l hs is all = absurd is
+took_pictures filling fill (Some f) (Some k) l hs is all =
+    let r = some_took (TakesFrame octets_under) k l hs all in
+    subst (λ (x : Option (FormSink UnplacedOutput _)).
+    TakesPictures filling fill hs (Some f) (file_under x)) (sym r.1)
+    (sink_wrote filling fill f k r.0 hs is r.2)
+
+-- ---- frames that are listed
+
+listed : (hs frames : List Handed) → TakesAll IsListed frames hs (frames ++ hs)
+listed [] frames = append-nil frames
+listed (h ∷ hs) frames = (
+  frames ++ h ∷ [],
+  refl,
+  subst (λ (l : List Handed). TakesAll IsListed (frames ++ h ∷ []) hs l)
+      (append_assoc frames (h ∷ []) hs) (listed hs (frames ++ h ∷ [])),
+)
+
+pub follows_files : {A B : Type 0} (w : FollowAsked) (sdp : Option (List ℕ))
+    (ways : List (Result Flows Refusal)) (files : List (Side B Replayed × Side B Replayed))
+    (filling : Filling) (fill : Option (List ℕ)) (out : Option FileOutput)
+    (k l : Option (FormSink UnplacedOutput A)) (took took' : List ℕ) (totals : FollowTotals)
+    → IsSinkOver filling fill out k
+    → FollowsWhole w sdp ways (SideRead replayed_gave replayed_ended) files
+    (TakesIn (TakesFrame octets_under)) k l took took' totals
+    → FollowsFiles w sdp ways files filling fill out (file_under l) took took'
+follows_files w sdp ways files filling fill out k l took took' totals over is =
+    let frames : List Handed = frames_of_events (followed_events w is.opening is.entries) in
+    record {
+      frames = frames;
+      totals = totals;
+      follows =
+          record {
+            opening = is.opening;
+            entries = is.entries;
+            no_window = is.no_window;
+            source_is = is.source_is;
+            announced = is.announced;
+            goes = is.goes;
+            printed = is.printed;
+            shown = listed frames [];
+            told_totals = is.told_totals;
+          };
+      written = took_pictures filling fill out k l frames over is.shown;
+    }
+
+-- the same by other names of the text and of the ways
+pub follows_same : {A B : Type 0} (w : FollowAsked) (sdp sdp' : Option (List ℕ))
+    (ways ways' : List (Result Flows Refusal))
+    (files : List (Side B Replayed × Side B Replayed))
+    (k l : Option (FormSink UnplacedOutput A)) (took took' : List ℕ) (totals : FollowTotals)
+    → sdp ≡ sdp' → ways ≡ ways'
+    → FollowsWhole w sdp ways (SideRead replayed_gave replayed_ended) files
+    (TakesIn (TakesFrame octets_under)) k l took took' totals
+    → FollowsWhole w sdp' ways' (SideRead replayed_gave replayed_ended) files
+    (TakesIn (TakesFrame octets_under)) k l took took' totals
+follows_same w sdp sdp' ways ways' files k l took took' totals text way is =
+    subst (λ (x : Option (List ℕ)). FollowsWhole w x ways'
+    (SideRead replayed_gave replayed_ended) files (TakesIn (TakesFrame octets_under)) k l took
+    took' totals) text
+    (subst (λ (x : List (Result Flows Refusal)). FollowsWhole w sdp x
+    (SideRead replayed_gave replayed_ended) files (TakesIn (TakesFrame octets_under)) k l took
+    took' totals) way is)
+
+-- ---- how often it failed
+
+pub failed_before : {A : Type 0} (filling : Filling) (fill : Option (List ℕ))
+    (out : Option FileOutput) (k : Option (FormSink UnplacedOutput A))
+    → IsSinkOver filling fill out k
+    → failures_in failures_under k ≡ failures_in writing_failures out
+failed_before filling fill None k is = ap (λ (x : Option _). failures_in failures_under x) is
+failed_before filling fill (Some f) None is = absurd is
+failed_before filling fill (Some f) (Some k) is = ap writing_failures is.0
+
+pub failed_after : {A : Type 0} (l : Option (FormSink UnplacedOutput A))
+    → failures_in failures_under l ≡ failures_in writing_failures (file_under l)
+failed_after None = refl
+failed_after (Some l) = refl
+
+-- the same of what a run came to
+pub accounts_file : {V : Type 0} (r : Result V Fault) (a a' b b' m m' c c' : ℕ) → b ≡ m → b' ≡ m'
+    → Accounts r (counts a a' ∷ counts b b' ∷ counts c c' ∷ [])
+    → Accounts r (counts a a' ∷ counts m m' ∷ counts c c' ∷ [])
+accounts_file r a a' b b' m m' c c' before after is =
+    subst (λ (x : ℕ). Accounts r (counts a a' ∷ counts m x ∷ counts c c' ∷ [])) after
+    (subst (λ (x : ℕ). Accounts r (counts a a' ∷ counts x b' ∷ counts c c' ∷ [])) before is)
+
+-- ---- a file that is settled
+
+pub settled_pictures : (filling : Filling) (fill : Option (List ℕ)) (frames : List Handed)
+    (out mid new : Option FileOutput) → TakesPictures filling fill frames out mid
+    → SameFile mid new → TakesPictures filling fill frames out new
+settled_pictures filling fill frames None None new is same = same
+settled_pictures filling fill frames None (Some g) new is same = absurd cc
+settled_pictures filling fill frames (Some f) None new is same = absurd is
+settled_pictures filling fill frames (Some f) (Some g) None is same = absurd same
+settled_pictures filling fill frames (Some f) (Some g) (Some h) is same = same.0 ∙ is
+
+pub settled_failures : (mid new : Option FileOutput) → SameFile mid new
+    → failures_in writing_failures new ≡ failures_in writing_failures mid
+settled_failures None new same = ap (failures_in writing_failures) same
+settled_failures (Some f) None same = absurd same
+settled_failures (Some f) (Some g) same = same.1
+
+pub settled_follows : {A : Type 0} (w : FollowAsked) (sdp : Option (List ℕ))
+    (ways : List (Result Flows Refusal)) (files : List (Side A Replayed × Side A Replayed))
+    (filling : Filling) (fill : Option (List ℕ)) (out mid new : Option FileOutput)
+    (took took' : List ℕ) → FollowsFiles w sdp ways files filling fill out mid took took'
+    → SameFile mid new → FollowsFiles w sdp ways files filling fill out new took took'
+settled_follows w sdp ways files filling fill out mid new took took' is same = record {
+  frames = is.frames;
+  totals = is.totals;
+  follows = is.follows;
+  written = settled_pictures filling fill is.frames out mid new is.written same;
+}
+
+-- ---- a run that is refused before it begins
+
+pub refused_first : (f : Fault) (out : Option FileOutput) (took : List ℕ)
+    → OfRefusal f (λ r. (f ≡ Refused r) × (out ≡ out) × (took ≡ took))
+refused_first (Refused r) out took = (refl, refl, refl)
+refused_first Device out took = tt
+refused_first Memory out took = tt
+
+-- ---- a run that is settled
+
+pub done_settled : {A : Type 0} (opened : Result (Option (List ℕ)) Fault) (w : FollowAsked)
+    (sdp : Option (List ℕ)) (ways : List (Result Flows Refusal))
+    (files : List (Side A Replayed × Side A Replayed)) (filling : Filling)
+    (out mid new : Option FileOutput) (took took' : List ℕ) → SameFile mid new
+    → IfOk opened (λ fill. FollowsFiles w sdp ways files filling fill out mid took took')
+    → IfOk opened (λ fill. FollowsFiles w sdp ways files filling fill out new took took')
+done_settled (Ok fill) w sdp ways files filling out mid new took took' same is =
+    settled_follows w sdp ways files filling fill out mid new took took' is same
+done_settled (Err f) w sdp ways files filling out mid new took took' same is = tt
+
+pub refused_settled : {V : Type 0} (opened : Result V Fault) (P Q : Type 0) (r : Refusal)
+    (old mid new : Option FileOutput) → SameFile mid new
+    → MatchResult opened (λ _. P) (λ g. (g ≡ Refused r) × (mid ≡ old) × Q)
+    → MatchResult opened (λ _. P) (λ g. (g ≡ Refused r) × SameFile old new × Q)
+refused_settled (Ok v) P Q r old mid new same is = is
+refused_settled (Err g) P Q r old mid new same is =
+    (is.0, subst (λ (x : Option FileOutput). SameFile x new) is.1 same, is.2)
+
+pub owed_settled : {V W : Type 0} (opened : Result V Fault) (o : Result W Fault) (a a' c c' : ℕ)
+    (out mid new : Option FileOutput) → SameFile mid new
+    → MatchResult opened (λ _. Accounts o (counts a a'
+    ∷ counts (failures_in writing_failures out) (failures_in writing_failures mid)
+    ∷ counts c c' ∷ [])) (λ f. o ≡ Err f)
+    → MatchResult opened (λ _. Accounts o (counts a a'
+    ∷ counts (failures_in writing_failures out) (failures_in writing_failures new)
+    ∷ counts c c' ∷ [])) (λ f. o ≡ Err f)
+owed_settled (Ok v) o a a' c c' out mid new same is =
+    accounts_file o a a' (failures_in writing_failures out) (failures_in writing_failures mid)
+    (failures_in writing_failures out) (failures_in writing_failures new) c c' refl
+    (sym (settled_failures mid new same)) is
+owed_settled (Err f) o a a' c c' out mid new same is = is

@@ -1,0 +1,52 @@
+-- What `follow` opens on this machine, and refuses before it reads files (own).
+use Rattle.std.specs.Prelude.{◌≡◌, ◌⊎◌, ℕ, Bool, List, [], ◌∷◌, ◌++◌, IsTrue, Option, Result}
+use Rattle.std.specs.List.{AllByRecursion}
+use Rattle.capture_runs.specs.Pictured.{IsFillRefusal, TakesPictures}
+use Rattle.capture_runs.specs.Refused.{IsFlowRefusal, IsTooLong}
+use Rattle.capture_runs.specs.Replayed.{replayed_ended, replayed_gave}
+use Rattle.capture_runs.specs.declared.opening.Files.{Files}
+use Rattle.capture_runs.specs.declared.replayed.Replayed.{Replayed}
+use Rattle.devices.specs.declared.file_output.FileOutput.{FileOutput}
+use Rattle.flow.specs.declared.flows.Flows.{Flows}
+use Rattle.follow_engine.specs.Followed.{FollowsWhole}
+use Rattle.follow_engine.specs.Opened.{AllClosedSides}
+use Rattle.follow_engine.specs.Refused.{IsWordRefusal}
+use Rattle.follow_engine.specs.Sides.{SideRead}
+use Rattle.follow_engine.specs.declared.opening.FollowAsked.{FollowAsked}
+use Rattle.follow_engine.specs.declared.telling.FollowTotals.{FollowTotals}
+use Rattle.following.specs.Following.{Handed}
+use Rattle.frame_sinks.specs.declared.filling.Filling.{Filling}
+use Rattle.recording_engines.specs.Files.{gave_by}
+use Rattle.run_outcome.specs.declared.refusal.Refusal.{Refusal}
+use Rattle.run_outcome.specs.declared.refusal.Refusal.TheVariants.{OutputIsInput}
+use Rattle.run_outcome.specs.declared.refusal.Writer.TheVariants.{Follow}
+use Rattle.side_by_side.specs.declared.side.Side.{Side}
+
+-- none was looked at yet
+abbrev pub AreNewSides : {A : Type 0} → List (Side A Replayed) → Type 0
+AreNewSides sides =
+    AllClosedSides sides × AllByRecursion (λ s. gave_by replayed_gave s.file ≡ []) sides
+
+-- The refusals before a file is read, in their order: of the words, and of the fill's; that what is
+-- to be written is read; of the SDP's length; of the words for flows.
+abbrev pub IsFollowOpening : FollowAsked → Option (List ℕ) → Bool → Option (List ℕ)
+    → Option (List ℕ) → Files → Refusal → Type 0
+IsFollowOpening w fill is_input a b files r = IsWordRefusal w.frames w.ssrc.now r
+    ⊎ (IsFillRefusal fill r ⊎ ((r ≡ OutputIsInput Follow) × IsTrue is_input
+    ⊎ (IsTooLong files.sdp r ⊎ IsFlowRefusal a b r)))
+
+-- these frames are listed, each behind those before it
+abbrev pub IsListed : List Handed → Handed → List Handed → Type 0
+IsListed frames h more = more ≡ frames ++ h ∷ []
+
+-- The stream of these files was followed, and told; and the pictures of all frames that left it were
+-- written, one behind the other, where there is a file for them.
+pub record FollowsFiles {A : Type 0} (w : FollowAsked) (sdp : Option (List ℕ))
+    (ways : List (Result Flows Refusal)) (files : List (Side A Replayed × Side A Replayed))
+    (filling : Filling) (fill : Option (List ℕ)) (out out' : Option FileOutput)
+    (took took' : List ℕ) : Type 0 where
+  pub frames : List Handed
+  pub totals : FollowTotals
+  pub follows : FollowsWhole w sdp ways (SideRead replayed_gave replayed_ended) files IsListed []
+      frames took took' totals
+  pub written : TakesPictures filling fill frames out out'

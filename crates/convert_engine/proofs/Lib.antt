@@ -1,0 +1,4 @@
+mod Contents
+mod Passing
+mod Saying
+mod Refusals

@@ -1,0 +1,134 @@
+-- What stands before a picture, and what a frame is settled over, by what was tested of formats.
+use Rattle.std.proofs.Common.{◌≡◌, ◌∙◌, ℕ, Bool, true, false, List, [], ◌++◌, Option, None, Some}
+use Rattle.std.proofs.Common.{ap, append-nil, arith, drop, length, refl, sym, take}
+use Rattle.std.proofs.lemmas.List.{drop_all, take_all}
+use Rattle.std.proofs.lemmas.Bool.{cond-false, cond-true}
+use Rattle.following.specs.Following.{Handed}
+use Rattle.frame_sinks.specs.Fills.{fill_of}
+use Rattle.frame_sinks.specs.Pictures.{form_head, head_for, held_by, is_of, picture_of}
+use Rattle.frame_sinks.specs.Sinks.{TakesFrame}
+use Rattle.frame_sinks.specs.declared.filling.Filling.{Filling}
+use Rattle.frame_sinks.specs.declared.form_sink.FormSink.{FormSink}
+use Rattle.picture_engine.specs.Views.{settled_with}
+use Rattle.picture_forms.specs.Faults.{CountsFault, IsDevice}
+use Rattle.picture_forms.specs.declared.fault.FormFault.{FormFault}
+use Rattle.picture_forms.specs.declared.fault.FormFault.TheVariants as form
+use Rattle.receiver_engines.specs.Inputs.{settled_by_fill, settled_over}
+use Rattle.run_outcome.proofs.Blaming.{failed_one}
+use Rattle.settled_forms.specs.Settled.{form_text}
+use Rattle.st_format.specs.declared.format.Format.{Format}
+use Rattle.st_format.specs.Device.{Failed}
+use Rattle.st_format.specs.Fields.{fields_of, same_fields}
+use Rattle.st_format.specs.Picture.{Values, value_at}
+use Rattle.st_format.specs.Raster.{Raster}
+
+-- ---- the head
+
+pub no_head : (begun : Option Format) (f : Format) (b : Bool) (took : List ℕ) → b ≡ is_of begun f
+    → b ≡ true → took ≡ took ++ head_for begun f
+no_head begun f b took is so =
+    sym (ap (λ (t : List ℕ). took ++ t) (cond-true (is_of begun f) [] (form_head f) (sym is ∙ so))
+    ∙ append-nil took)
+
+pub head_due : (begun : Option Format) (f : Format) (b : Bool) → b ≡ is_of begun f → b ≡ false
+    → form_head f ≡ head_for begun f
+head_due begun f b is so = sym (cond-false (is_of begun f) [] (form_head f) (sym is ∙ so))
+
+-- ---- the picture
+
+pub picture_held : (fill : Option (List ℕ)) (p : Values) (q : Raster) (b : Bool)
+    → b ≡ same_fields (fields_of p.format) (fields_of q.format) → b ≡ true
+    → settled_over (value_at p) q ≡ picture_of fill (Some p) q
+unfolding picture_of
+picture_held fill p q b is so =
+    sym (ap (λ (h : Option Values). settled_with h (fill_of fill q.format) q)
+    (cond-true (same_fields (fields_of p.format) (fields_of q.format)) (Some p) None
+    (sym is ∙ so)))
+
+pub picture_unheld : (fill : Option (List ℕ)) (p : Values) (q : Raster) (b : Bool)
+    → b ≡ same_fields (fields_of p.format) (fields_of q.format) → b ≡ false
+    → picture_of fill None q ≡ picture_of fill (Some p) q
+unfolding picture_of
+picture_unheld fill p q b is so =
+    sym (ap (λ (h : Option Values). settled_with h (fill_of fill q.format) q)
+    (cond-false (same_fields (fields_of p.format) (fields_of q.format)) (Some p) None
+    (sym is ∙ so)))
+
+pub picture_filled : (fill : Option (List ℕ)) (values : List ℕ) (q : Raster) (f : Format)
+    → values ≡ fill_of fill f → f ≡ q.format → settled_by_fill values q ≡ picture_of fill None q
+unfolding picture_of
+picture_filled fill values q f is same =
+    ap (λ (v : List ℕ). settled_by_fill v q) (is ∙ ap (λ (g : Format). fill_of fill g) same)
+
+-- its format is the frame's
+settled_format : (held : Option Values) (fill : List ℕ) (q : Raster)
+    → (settled_with held fill q).format ≡ q.format
+settled_format None fill q = refl
+settled_format (Some p) fill q = refl
+
+pub picture_format : (fill : Option (List ℕ)) (held : Option Values) (q : Raster)
+    → (picture_of fill held q).format ≡ q.format
+unfolding picture_of
+picture_format fill held q = settled_format _ (fill_of fill q.format) q
+
+-- ---- a sink that failed
+
+pub form_failed : (f : FormFault) (old new : ℕ) → IsDevice f → CountsFault f old new
+    → Failed old new
+form_failed form.NoMemory old new is counted = absurd is
+form_failed form.Device old new is counted = failed_one old new counted
+form_failed form.BadMagic old new is counted = absurd is
+form_failed form.BadHeader old new is counted = absurd is
+form_failed form.UnsupportedForm old new is counted = absurd is
+form_failed form.BadFormat old new is counted = absurd is
+form_failed form.Truncated old new is counted = absurd is
+form_failed form.ValueTooLarge old new is counted = absurd is
+
+-- ---- a frame that was taken
+
+abbrev pub values : Format → List ℕ → Values
+values f samples = record { format = f; samples = samples }
+
+-- these samples are the picture's
+pub picture_is : (f : Format) (samples : List ℕ) (p : Values) → f ≡ p.format
+    → samples ≡ p.samples → values f samples ≡ p
+picture_is f samples p format is =
+    ap (λ (g : Format). values g samples) format ∙ ap (λ (s : List ℕ). values p.format s) is
+
+-- what a vector of so many holds behind a loan of all of it
+pub samples_back : (len : ℕ) (items lent : List ℕ) → len ≡ length items
+    → length lent ≡ length items → take len (lent ++ drop (length lent) items) ≡ lent
+samples_back len items lent is same =
+    let none : drop (length lent) items ≡ [] = drop_all (length lent) items (omega arith) in
+    ap (λ (t : List ℕ). take len (lent ++ t)) none
+    ∙ ap (λ (t : List ℕ). take len t) (append-nil lent) ∙ take_all len lent (omega arith)
+
+-- A sink found room, which made m of it; its sink of octets took the picture; and that was kept.
+pub takes_frame : {K A : Type 0} (took : K → List ℕ) (k m l : FormSink K A) (sink : K)
+    (p : Values) (h : Handed) → m.sink ≡ k.sink → m.filling ≡ k.filling → m.fill ≡ k.fill
+    → m.format ≡ k.format → m.held ≡ k.held
+    → took sink ≡ took m.sink
+    ++ (head_for m.format h.frame.format ++ form_text (picture_of m.fill m.held h.frame))
+    → p ≡ picture_of m.fill m.held h.frame → l.sink ≡ sink → l.filling ≡ m.filling
+    → l.fill ≡ m.fill → l.format ≡ Some h.frame.format → l.held ≡ held_by m.filling p
+    → TakesFrame took k h l
+takes_frame took k m l sink p h same filling fill format held written is sunk filled by begun kept =
+    let f : Format = h.frame.format in
+    let now : Values = picture_of m.fill m.held h.frame in
+    let was : Values = picture_of k.fill k.held h.frame in
+    let picture : now ≡ was =
+    ap (λ (x : Option (List ℕ)). picture_of x m.held h.frame) fill
+    ∙ ap (λ (x : Option Values). picture_of k.fill x h.frame) held in
+    record {
+      written =
+          ap took sunk ∙ written
+          ∙ ap (λ (x : _). took x ++ (head_for m.format f ++ form_text now)) same
+          ∙ ap (λ (x : Option Format). took k.sink ++ (head_for x f ++ form_text now)) format
+          ∙ ap (λ (x : Values). took k.sink ++ (head_for k.format f ++ form_text x)) picture;
+      format = begun;
+      held =
+          kept ∙ ap (λ (x : Filling). held_by x p) filling
+          ∙ ap (λ (x : Values). held_by k.filling x) (is ∙ picture);
+      filling = filled ∙ filling;
+      fill = by ∙ fill;
+    }

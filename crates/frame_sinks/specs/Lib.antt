@@ -1,0 +1,3 @@
+pub mod Fills
+pub mod Pictures
+pub mod Sinks

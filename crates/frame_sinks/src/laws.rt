@@ -1,0 +1,53 @@
+//! Laws of sinks of pictures. Each is the contract of a function that does nothing.
+ghost use Rattle.std.specs.Prelude.{◌≡◌, ◌++◌, ◌∷◌, ℕ, List, None, Option, Result};
+ghost use Rattle.std.specs.List.{AllByRecursion, flat_map};
+ghost use Rattle.flow.specs.declared.flows.Flows.{Flows};
+ghost use Rattle.follow_engine.specs.Events.{frames_of_events};
+ghost use Rattle.follow_engine.specs.Followed.{FollowsWhole, followed_events};
+ghost use Rattle.follow_engine.specs.Shown.{TakesAll};
+ghost use Rattle.follow_engine.specs.Sides.{SideRead};
+ghost use Rattle.follow_engine.specs.declared.opening.FollowAsked.{FollowAsked};
+ghost use Rattle.follow_engine.specs.declared.telling.FollowTotals.{FollowTotals};
+ghost use Rattle.following.specs.Following.{Handed};
+ghost use Rattle.frame_sinks.specs.Pictures.{form_stream, pictures_of};
+ghost use Rattle.frame_sinks.specs.Sinks.{TakesFrame};
+ghost use Rattle.frame_sinks.specs.declared.form_sink.FormSink.{FormSink};
+ghost use Rattle.picture_forms.specs.Layouts.{IsRgb, IsYcc, pixmap_text, y4m_text};
+ghost use Rattle.run_outcome.specs.declared.refusal.Refusal.{Refusal};
+ghost use Rattle.side_by_side.specs.declared.side.Side.{Side};
+ghost use Rattle.st_format.specs.declared.format.Format.{Format};
+ghost use Rattle.st_format.specs.Picture.{Values};
+
+use st_format::{ByteSink, ByteSource};
+use std::alloc::Allocator;
+
+/// What is written of frames that a sink takes one after the other is the stream of their pictures,
+/// octet for octet.
+pub fn written<K: ByteSink, A: Allocator>()
+    ensures { (k l : FormSink K A) (hs : List Handed) → TakesAll (TakesFrame K.took) k hs l
+        → K.took l.sink ≡ K.took k.sink
+        ++ form_stream k.format (pictures_of k.filling k.fill k.held hs) }
+{}
+
+/// So where files are followed: what is written is the stream of the pictures of all frames that
+/// leave a follower of their records.
+pub fn follows<K: ByteSink, A: Allocator, B: Allocator, S: ByteSource>()
+    ensures { (w : FollowAsked) (sdp : Option (List ℕ)) (ways : List (Result Flows Refusal))
+        (files : List (Side B S × Side B S)) (k l : FormSink K A) (printed printed' : List ℕ)
+        (totals : FollowTotals) →
+        (is : FollowsWhole w sdp ways (SideRead S.gave S.ended) files (TakesFrame K.took) k l
+        printed printed' totals) → K.took l.sink ≡ K.took k.sink
+        ++ form_stream k.format (pictures_of k.filling k.fill k.held
+        (frames_of_events (followed_events w is.opening is.entries))) }
+{}
+
+/// A stream of pictures of one format is a YUV4MPEG2 file of them where they are YCbCr, and where
+/// they are RGB their portable pixmaps.
+pub fn one_format()
+    ensures ycc { (f : Format) (p : Values) (ps : List Values) → IsYcc f.sampling →
+        AllByRecursion (λ q. q.format ≡ f) (p ∷ ps) →
+        form_stream None (p ∷ ps) ≡ y4m_text f (p ∷ ps) }
+    ensures rgb { (f : Format) (ps : List Values) → IsRgb f.sampling →
+        AllByRecursion (λ q. q.format ≡ f) ps →
+        form_stream None ps ≡ flat_map pixmap_text ps }
+{}

@@ -1,0 +1,4 @@
+mod Fills
+mod Forms
+mod Settled
+pub mod Reasons

@@ -1,0 +1,31 @@
+-- The text of a capture, where one is given.
+use Rattle.std.proofs.Common.{◌≡◌, List, ℕ, [], Option, Some, None, sym, refl, ◌∙◌, subst}
+use Rattle.std.proofs.Common.{append-nil}
+use Rattle.run_outcome.specs.Text.{GivesText}
+use Rattle.run_outcome.specs.TextRefusals.{SaysCaptureText, SaysText}
+use Rattle.st_format.specs.History.{IsRead, since}
+use Rattle.st_format.proofs.Histories.{since_is}
+
+-- no SDP is given
+pub said_none : {S : Type 0} (gave : S → List ℕ) (ended : S → Type 0) (sdp later : Option S)
+    (text : List ℕ) → sdp ≡ None → text ≡ [] → SaysText gave ended sdp later text
+said_none {S} gave ended sdp later text none empty =
+    subst (λ (x : Option S). SaysText gave ended x later text) (sym none) empty
+
+-- it was read whole
+pub said_some : {S : Type 0} (gave : S → List ℕ) (ended : S → Type 0) (sdp : Option S)
+    (source now : S) (text : List ℕ) → sdp ≡ Some source
+    → GivesText 65535 (gave source) (gave now) (ended now) text
+    → SaysCaptureText (IsRead (gave source) (gave now) (ended now))
+    → SaysText gave ended sdp (Some now) text
+said_some {S} gave ended sdp source now text some gives says =
+    subst (λ (x : Option S). SaysText gave ended x (Some now) text) (sym some) (
+      gives.given,
+      gives.ended,
+      says text (record {
+        behind = [];
+        parts = sym (append-nil (since (gave source) (gave now))
+            ∙ since_is (gave source) (gave now) text gives.given);
+        all = λ over. refl;
+      }),
+    )

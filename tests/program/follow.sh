@@ -1,0 +1,213 @@
+# follow: every frame of recordings, told as it leaves. Recordings and what they lack are as examples/recordings/README.md
+# tells them; what a line says follows from that by hand.
+
+# follows NAME OUTPUT WORDS..: whether follow tells this, and nothing of faults.
+follows() {
+    name=$1
+    output=$2
+    shift 2
+    run follow "$@"
+    says "follow: $name" 0 "$output" ''
+}
+
+# A recording for each path, that of B from the third frame on: side by side each frame is whole, in whichever order they are
+# named, and with one frame in at a time, for each file gives its datagrams when their turn comes.
+four='frame 900 present 128 missing 0 contested 0 late 0
+frame 4500 present 128 missing 0 contested 0 late 0
+frame 8100 present 128 missing 0 contested 0 late 0
+frame 11700 present 128 missing 0 contested 0 late 0
+frames 4 kept 14 late 0 far 0 refused 0'
+for window in 8 1 16; do
+    follows "two paths, window $window" "$four" --sdp "$recordings/late.sdp" --window $window \
+        "$recordings/late-a.pcap" "$recordings/late-b.pcap"
+    follows "two paths exchanged, window $window" "$four" --sdp "$recordings/late.sdp" --window $window \
+        "$recordings/late-b.pcap" "$recordings/late-a.pcap"
+done
+# Where a frame leaves as soon as it is whole, what B has beyond comes late: packet 8 of the third frame, 11 of the fourth.
+follows 'two paths, eager' 'frame 900 present 128 missing 0 contested 0 late 0
+frame 4500 present 128 missing 0 contested 0 late 0
+frame 8100 present 128 missing 0 contested 0 late 0
+frame 11700 present 128 missing 0 contested 0 late 1
+frames 4 kept 12 late 2 far 0 refused 0' --sdp "$recordings/late.sdp" --eager \
+    "$recordings/late-a.pcap" "$recordings/late-b.pcap"
+
+# Path A alone lacks packet 7 of the third frame and 9 of the fourth, of 48 samples each.
+follows 'path A alone' 'frame 900 present 128 missing 0 contested 0 late 0
+frame 4500 present 128 missing 0 contested 0 late 0
+frame 8100 present 80 missing 48 contested 0 late 0
+frame 11700 present 80 missing 48 contested 0 late 0
+frames 4 kept 10 late 0 far 0 refused 0' --sdp "$recordings/late.sdp" "$recordings/late-a.pcap"
+
+# Both paths in one recording, in which each one's packets stand in runs: A's two frames, four packets of six each, and then
+# B's. Two frames have to be in at once; with one, B's four packets of the first frame come late.
+follows 'runs in one recording' 'frame 900 present 1152 missing 0 contested 0 late 0
+frame 4500 present 1152 missing 0 contested 0 late 0
+frames 2 kept 16 late 0 far 0 refused 0' --sdp "$recordings/two-cards.sdp" --window 2 "$recordings/two-cards.pcapng"
+follows 'runs in one recording, a window of one' 'frame 900 present 768 missing 384 contested 0 late 0
+frame 4500 present 1152 missing 0 contested 0 late 4
+frames 2 kept 12 late 4 far 0 refused 0
+late wants window 2' --sdp "$recordings/two-cards.sdp" --window 1 "$recordings/two-cards.pcapng"
+
+# Both paths have one address and port: the first recording is of A.
+follows 'one address and port' 'frame 900 present 128 missing 0 contested 0 late 0
+frame 4500 present 128 missing 0 contested 0 late 0
+frames 2 kept 10 late 0 far 0 refused 0' --sdp "$recordings/alike.sdp" "$recordings/alike-a.pcap" "$recordings/alike-b.pcap"
+
+# Timestamps that go back, so that only late datagrams come: for longer than ten seconds of 90 kHz by their timestamps, which is
+# the first packet of the last frame, or exactly so long. And the other way round: too far ahead of the first frame.
+# stamped FIRST LAST: late-a.pcap with other timestamps in the packets of its first frame and its last, as stamped.pcap.
+stamped() {
+    cp "$recordings/late-a.pcap" stamped.pcap
+    for place in 86 224 362 1124 1262; do
+        digits=$1
+        [ "$place" -lt 1000 ] || digits=$2
+        {
+            head -c "$place" stamped.pcap
+            octets "$digits"
+            tail -c +"$((place + 5))" stamped.pcap
+        } >stamped.part
+        mv stamped.part stamped.pcap
+    done
+}
+stamped 001E8804 000DCD35
+follows 'timestamps that begin anew' 'frame 2000900 present 128 missing 0 contested 0 late 6
+anew 904501
+frame 904501 present 32 missing 96 contested 0 late 0
+frames 2 kept 4 late 6 far 0 refused 0
+late wants window 2' --sdp "$recordings/late.sdp" --window 1 stamped.pcap
+stamped 001E8804 000DCD34
+follows 'timestamps that lie ten seconds back' 'frame 2000900 present 128 missing 0 contested 0 late 7
+frames 1 kept 3 late 7 far 0 refused 0
+late wants window 2' --sdp "$recordings/late.sdp" --window 1 stamped.pcap
+stamped FFF00000 000DCD35
+follows 'timestamps too far ahead' 'frame 4293918720 present 128 missing 0 contested 0 late 0
+anew 904501
+frame 904501 present 32 missing 96 contested 0 late 0
+frames 2 kept 4 late 0 far 6 refused 0' --sdp "$recordings/late.sdp" stamped.pcap
+
+# Pictures of the frames. digits FORM WIDE EACH FILL IS_HELD TEXT..: the digits of the pictures that the payloads of TShark's
+# texts have, 8 rows of WIDE octets, EACH a column, as frames of YUV4MPEG2 of 4:2:2 or as portable pixmaps: a sample without an
+# octet has its component's of FILL, or where pictures are held that of the picture before.
+digits() {
+    form=$1
+    wide=$2
+    each=$3
+    fill=$4
+    held=$5
+    shift 5
+    awk -F'\t' -v form="$form" -v wide="$wide" -v each="$each" -v fill="$fill" -v held="$held" '
+        function number(text,   value, i) {
+            value = 0
+            for (i = 1; i <= length(text); i++)
+                value = 16 * value + index("0123456789abcdef", substr(text, i, 1)) - 1
+            return value
+        }
+        length($NF) > 40 && $NF ~ /^8[0-9a-f]*$/ {
+            said = $NF
+            stamp = substr(said, 9, 8)
+            if (!(stamp in seen)) {
+                seen[stamp] = 1
+                stamps[count++] = stamp
+            }
+            at = 29
+            lines = 0
+            do {
+                size[lines] = number(substr(said, at, 4))
+                row[lines] = number(substr(said, at + 4, 4))
+                first = number(substr(said, at + 8, 4))
+                column[lines++] = first % 32768
+                at += 12
+            } while (first >= 32768)
+            for (i = 0; i < lines; i++)
+                for (k = 0; k < size[i]; k++) {
+                    sample[stamp, wide * row[i] + each * column[i] + k] = substr(said, at, 2)
+                    at += 2
+                }
+        }
+        function component(place) {
+            if (form == "ppm") return place % 3 + 1
+            return place % 4 == 0 ? 2 : place % 4 == 2 ? 3 : 1
+        }
+        function every(first, step,   place) {
+            for (place = first; place < 8 * wide; place += step) printf "%s", last[place]
+        }
+        END {
+            split(fill, values, " ")
+            for (n = 0; n < count; n++) {
+                for (place = 0; place < 8 * wide; place++)
+                    if ((stamps[n], place) in sample) last[place] = sample[stamps[n], place]
+                    else if (!held || n == 0) last[place] = values[component(place)]
+                if (form == "ppm") {
+                    printf "50360a3820380a3235350a"
+                    every(0, 1)
+                } else {
+                    printf "4652414d450a"
+                    every(1, 2)
+                    every(0, 4)
+                    every(2, 4)
+                }
+            }
+        }' "$@"
+}
+
+# pictured NAME FORM WIDE EACH FILL IS_HELD TEXTS: whether pictures.out has these pictures, of YCbCr behind a stream's line.
+pictured() {
+    {
+        [ "$2" = ppm ] || printf 'YUV4MPEG2 W8 H8 F25:1 Ip A1:1 C422\n'
+        # shellcheck disable=SC2086
+        octets "$(digits "$2" "$3" "$4" "$5" "$6" $7)"
+    } >want.pictures
+    alike "follow: $1, the pictures" pictures.out want.pictures
+    rm -f pictures.out
+}
+follows 'two paths, with pictures' "$four" --sdp "$recordings/late.sdp" --out pictures.out \
+    "$recordings/late-a.pcap" "$recordings/late-b.pcap"
+pictured 'two paths' y4m 16 2 '00 00 00' 0 "$recordings/late-a.txt $recordings/late-b.txt"
+run follow --sdp "$recordings/late.sdp" --out - "$recordings/late-a.pcap" "$recordings/late-b.pcap"
+mv out pictures.out
+mv err out
+: >err
+says 'follow: pictures on standard output, the lines on standard error' 0 "$four" ''
+pictured 'standard output' y4m 16 2 '00 00 00' 0 "$recordings/late-a.txt $recordings/late-b.txt"
+# Without a fill black, of narrow range; values above the greatest count as that.
+run follow --sdp "$recordings/late.sdp" --out pictures.out "$recordings/late-a.pcap"
+pictured 'path A alone' y4m 16 2 '10 80 80' 0 "$recordings/late-a.txt"
+run follow --sdp "$recordings/late.sdp" --fill 1,2,300 --out pictures.out "$recordings/late-a.pcap"
+pictured 'a fill' y4m 16 2 '01 02 ff' 0 "$recordings/late-a.txt"
+# The frame before is held, of path B's first one the fill: it lacks packet 6, of its upper rows, and the next one packet 10.
+run follow --sdp "$recordings/late.sdp" --hold --out pictures.out "$recordings/late-a.pcap"
+pictured 'path A alone, held' y4m 16 2 '10 80 80' 1 "$recordings/late-a.txt"
+run follow --sdp "$recordings/late.sdp" --hold --fill 9,8,7 --out pictures.out "$recordings/late-b.pcap"
+pictured 'path B alone, held' y4m 16 2 '09 08 07' 1 "$recordings/late-b.txt"
+run follow --sdp "$recordings/ipv6.sdp" --out pictures.out "$recordings/ipv6.pcap"
+pictured 'pixmaps' ppm 24 3 '00 00 00' 0 "$recordings/ipv6.txt"
+
+# Refusals, in their order: the words, the SDP, the files before their records, and their records. Where a record is at fault
+# the frames are not told that were still in.
+refuses_follow() {
+    name=$1
+    fault=$2
+    shift 2
+    run follow "$@"
+    says "follow: refused: $name" 1 '' "st2110: $fault"
+}
+for window in 0 17 4294967295; do
+    refuses_follow "window $window" 'open 2 BadWindow' --window $window --ssrc no --a no missing.pcap
+done
+refuses_follow 'a source' 'receive 2 BadSource' --ssrc no --a no missing.pcap
+refuses_follow 'a flow' 'import 2 BadFlow' --a no missing.pcap
+refuses_follow 'no SDP' 'receive 4 NoSdp' "$recordings/late-a.pcap"
+refuses_follow 'cut short' 'recording 2 Truncated' --sdp "$recordings/loopback.sdp" "$recordings/cut.pcap"
+# The fill's text is looked at behind the other words, and then the place of the file, before the SDP. Where a record is at
+# fault no file has the name.
+for fill in 1,2 1,2,3,4 1,2,x 65536,0,0; do
+    refuses_follow "the fill '$fill'" 'follow 1 BadFill' --sdp missing.sdp --fill "$fill" --out late.copy missing.pcap
+done
+refuses_follow 'the window before the fill' 'open 2 BadWindow' --window 0 --fill 1,2 missing.pcap
+cp "$recordings/late-a.pcap" late.copy
+refuses_follow 'the output before the SDP' 'follow 2 OutputIsInput' --sdp missing.sdp --out late.copy late.copy
+refuses_follow 'the fill before the output' 'follow 1 BadFill' --fill 1,2 --out late.copy late.copy
+rm late.copy
+refuses_follow 'cut short, with pictures' 'recording 2 Truncated' --sdp "$recordings/loopback.sdp" --out cut.y4m \
+    "$recordings/cut.pcap"
+none 'follow: no file of pictures has the name' cut.y4m
