@@ -1,0 +1,4 @@
+pub mod Settled
+pub mod SameStream
+pub mod Leaving
+pub mod FollowedText
