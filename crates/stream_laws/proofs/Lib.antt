@@ -1,4 +1,5 @@
 pub mod Settled
 pub mod SameStream
 pub mod Leaving
+pub mod NoneLate
 pub mod FollowedText

@@ -4,6 +4,7 @@
 //!
 //! - All frames that leave a stream have one format: `frames_of_format`. So, whatever was lost, what
 //!   is written of them is one YUV4MPEG2 stream: `one_y4m_stream`.
+//! - Where none was late or too far ahead, a stream isn't followed anew: `plain_by_totals`.
 //! - The datagrams that go into a stream are those of its files: `all_of_files`.
 //! - Where files bring all of a sender's datagrams in time, the frames are its pictures, nothing
 //!   missing: `sender_stream`; and settled these are the pictures, by whatever fill:
@@ -22,10 +23,11 @@ ghost use Rattle.devices.specs.Passed.{file_took};
 ghost use Rattle.devices.specs.declared.file_output.FileOutput.{FileOutput};
 ghost use Rattle.flow.specs.declared.flows.Flows.{Flows};
 ghost use Rattle.follow_engine.specs.Events.{frames_of_events, running_from};
-ghost use Rattle.follow_engine.specs.Followed.{FollowsWhole, followed_events};
+ghost use Rattle.follow_engine.specs.Followed.{FollowsWhole, followed_events, followed_run};
 ghost use Rattle.follow_engine.specs.Order.{datagrams_in, strands_by};
 ghost use Rattle.follow_engine.specs.Plain.{NoneAnew};
 ghost use Rattle.follow_engine.specs.Sides.{SideRead};
+ghost use Rattle.follow_engine.specs.Telling.{totals_of};
 ghost use Rattle.follow_engine.specs.declared.opening.FollowAsked.{FollowAsked};
 ghost use Rattle.follow_engine.specs.declared.telling.FollowTotals.{FollowTotals};
 ghost use Rattle.following.specs.Follower.{opened};
@@ -61,9 +63,17 @@ pub fn frames_of_format()
         h.frame.format ≡ o.format }
 {}
 
-/// So what is written of such a stream of YCbCr, of one frame or more, into a sink that nothing was
-/// written to, is one YUV4MPEG2 stream, octet for octet, whatever was lost: that of the frames'
-/// pictures.
+/// A stream of which the totals that are told say `late 0` and `far 0` isn't followed anew.
+pub fn plain_by_totals()
+    ensures { (w : FollowAsked) (o : Opening) (entries : List Entry) →
+        (totals_of (followed_run w o entries)).late ≡ 0 →
+        (totals_of (followed_run w o entries)).far ≡ 0 →
+        NoneAnew w.is_eager (running_from (opened o w.frames 900000)) (datagrams_in entries) }
+{}
+
+/// What is written of a stream of YCbCr that isn't followed anew, of one frame or more, into a sink
+/// that nothing was written to, is one YUV4MPEG2 stream, octet for octet, whatever was lost: that of
+/// the frames' pictures.
 pub fn one_y4m_stream<K: ByteSink, A: Allocator, B: Allocator, S: ByteSource>()
     ensures { (w : FollowAsked) (sdp : Option (List ℕ)) (ways : List (Result Flows Refusal))
         (files : List (Side B S × Side B S)) (k l : FormSink K A) (printed printed' : List ℕ)
