@@ -37,8 +37,8 @@ use Rattle.side_by_side.specs.declared.side.Side.{Side}
 use Rattle.st_format.specs.declared.format.Format.{Format}
 use Rattle.st_format.specs.Member.{IsMember}
 use Rattle.st_format.specs.Picture.{Values}
-use Rattle.stream_laws.specs.Brought.{AreWhole, AwaitsPictures, BringDatagrams, GoesInTime}
-use Rattle.stream_laws.proofs.Leaving.{frame_format, sender_frames}
+use Rattle.stream_laws.specs.Brought.{AreWhole, AwaitsPictures, BringDatagrams, IsInTime}
+use Rattle.stream_laws.proofs.Leaving.{frame_format, in_time_frames}
 use Rattle.stream_laws.proofs.SameStream.{files_taken, same_as_both}
 use Rattle.stream_laws.proofs.Settled.{pictures_formats, pictures_whole, sender_formats}
 
@@ -96,7 +96,7 @@ module _ {S T : Type 0} (told : S → List ℕ → Type 0) (takes : T → Handed
         (capture : List ℕ) (sent : IsSentFile wanted text format ps capture)
         → BringDatagrams told ways files sent.datagrams
         → AwaitsPictures is.opening (run_sender format wanted) ps
-        → GoesInTime w is.opening wanted.base is.entries
+        → IsInTime w is.opening wanted.base is.entries
         → frames ≡ pictures_from (run_sender format wanted) 0 ps
     sent_frames wanted text format ps capture sent bring awaits time =
         let s : Sender = run_sender format wanted in
@@ -112,7 +112,7 @@ module _ {S T : Type 0} (told : S → List ℕ → Type 0) (takes : T → Handed
               (files_taken (steering_of is.opening) ways bring.octets is.entries
               (is.goes bring.octets bring.read)) bring.same;
         } in
-        sender_frames w is.opening s ps is.entries brought time
+        in_time_frames w is.opening s ps is.entries brought time
 
 -- ---- into a sink
 
@@ -152,7 +152,7 @@ module _ {S K A : Type 0} (told : S → List ℕ → Type 0) (took : K → List 
         (sent : IsSentFile wanted text format (p ∷ ps) capture)
         → BringDatagrams told ways files sent.datagrams
         → AwaitsPictures is.opening (run_sender format wanted) (p ∷ ps)
-        → GoesInTime w is.opening wanted.base is.entries → IsYcc format.sampling
+        → IsInTime w is.opening wanted.base is.entries → IsYcc format.sampling
         → k.format ≡ None → took l.sink ≡ took k.sink ++ y4m_text format (p ∷ ps)
     sink_ycc wanted text format p ps capture sent bring awaits time ycc begun =
         new_stream begun
@@ -165,7 +165,7 @@ module _ {S K A : Type 0} (told : S → List ℕ → Type 0) (took : K → List 
         (capture : List ℕ) (sent : IsSentFile wanted text format ps capture)
         → BringDatagrams told ways files sent.datagrams
         → AwaitsPictures is.opening (run_sender format wanted) ps
-        → GoesInTime w is.opening wanted.base is.entries → IsRgb format.sampling
+        → IsInTime w is.opening wanted.base is.entries → IsRgb format.sampling
         → k.format ≡ None → took l.sink ≡ took k.sink ++ flat_map pixmap_text ps
     sink_rgb wanted text format ps capture sent bring awaits time rgb begun =
         new_stream begun
@@ -199,7 +199,7 @@ module _ {A : Type 0} (w : FollowAsked) (sdp : Option (List ℕ))
         (capture : List ℕ) (sent : IsSentFile wanted text format ps capture)
         → BringDatagrams Told ways files sent.datagrams
         → AwaitsPictures o (run_sender format wanted) ps
-        → GoesInTime w o wanted.base is.follows.entries
+        → IsInTime w o wanted.base is.follows.entries
         → is.frames ≡ pictures_from (run_sender format wanted) 0 ps
     file_frames wanted text format ps capture sent bring awaits time =
         all_listed (frames_of_events (followed_events w o is.follows.entries)) [] is.frames
@@ -212,7 +212,7 @@ module _ {A : Type 0} (w : FollowAsked) (sdp : Option (List ℕ))
         (sent : IsSentFile wanted text format (p ∷ ps) capture)
         → BringDatagrams Told ways files sent.datagrams
         → AwaitsPictures o (run_sender format wanted) (p ∷ ps)
-        → GoesInTime w o wanted.base is.follows.entries → IsYcc format.sampling
+        → IsInTime w o wanted.base is.follows.entries → IsYcc format.sampling
         → file_took out' ≡ file_took out ++ y4m_text format (p ∷ ps)
     file_ycc wanted text format p ps capture sent bring awaits time ycc =
         is.written
@@ -224,7 +224,7 @@ module _ {A : Type 0} (w : FollowAsked) (sdp : Option (List ℕ))
         (capture : List ℕ) (sent : IsSentFile wanted text format ps capture)
         → BringDatagrams Told ways files sent.datagrams
         → AwaitsPictures o (run_sender format wanted) ps
-        → GoesInTime w o wanted.base is.follows.entries → IsRgb format.sampling
+        → IsInTime w o wanted.base is.follows.entries → IsRgb format.sampling
         → file_took out' ≡ file_took out ++ flat_map pixmap_text ps
     file_rgb wanted text format ps capture sent bring awaits time rgb =
         is.written

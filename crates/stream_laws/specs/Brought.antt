@@ -1,11 +1,13 @@
 -- Files that bring a sender's pictures into a stream that is followed (own).
-use Rattle.std.specs.Prelude.{◌≡◌, ℕ, false, List, length, Result}
+use Rattle.std.specs.Prelude.{◌≡◌, ◌⊎◌, ℕ, false, List, length, Result}
 use Rattle.std.specs.List.{AllZip}
 use Rattle.capture_engines.specs.Files.{files_datagrams}
 use Rattle.flow.specs.declared.flows.Flows.{Flows}
 use Rattle.follow_engine.specs.Events.{running_from}
+use Rattle.follow_engine.specs.Followed.{followed_run}
 use Rattle.follow_engine.specs.Order.{datagrams_in}
 use Rattle.follow_engine.specs.Plain.{NoneAnew}
+use Rattle.follow_engine.specs.Telling.{totals_of}
 use Rattle.follow_engine.specs.declared.opening.FollowAsked.{FollowAsked}
 use Rattle.following.specs.Follower.{opened}
 use Rattle.following.specs.Pictures.{times_from}
@@ -48,3 +50,13 @@ pub record GoesInTime (w : FollowAsked) (o : Opening) (base : ℕ) (entries : Li
     pub orderly : IsOrderly w.frames 900000 (times_from o base (datagrams_in entries))
     pub plain : NoneAnew w.is_eager (running_from (opened o w.frames 900000))
         (datagrams_in entries)
+
+-- The totals of a stream say `late 0` and `far 0`: each datagram was kept or refused.
+pub record LosesNone (w : FollowAsked) (o : Opening) (entries : List Entry) : Type 0 where
+  pub frames : IsWindowSize w.frames
+  pub late : (totals_of (followed_run w o entries)).late ≡ 0
+  pub far : (totals_of (followed_run w o entries)).far ≡ 0
+
+-- In time by their order, or else by what was told of them.
+abbrev pub IsInTime : FollowAsked → Opening → ℕ → List Entry → Type 0
+IsInTime w o base entries = GoesInTime w o base entries ⊎ LosesNone w o entries

@@ -49,7 +49,7 @@ ghost use Rattle.side_by_side.specs.declared.steering.Steering.{Steering};
 ghost use Rattle.st_format.specs.Member.{IsMember, SameDatagrams};
 ghost use Rattle.st_format.specs.Picture.{Values};
 ghost use Rattle.st_format.specs.declared.format.Format.{Format};
-ghost use Rattle.stream_laws.specs.Brought.{AreWhole, AwaitsPictures, BringDatagrams, GoesInTime};
+ghost use Rattle.stream_laws.specs.Brought.{AreWhole, AwaitsPictures, BringDatagrams, IsInTime};
 
 use st_format::{ByteSink, ByteSource};
 use std::alloc::Allocator;
@@ -99,11 +99,13 @@ pub fn all_of_files()
 
 /// Where all datagrams of a sender's list went into a stream in time, each by one file or another,
 /// and no others, the frames that leave it are the sender's pictures, all, in order, each with
-/// nothing missing (SMPTE ST 2022-7).
+/// nothing missing (SMPTE ST 2022-7). In time they went where frames leave as they are due, and none
+/// came after as many newer timestamps as there are frames; or where the totals say `late 0` and
+/// `far 0`, in whatever order they went, and also where frames leave early.
 pub fn sender_stream()
     ensures { (w : FollowAsked) (o : Opening) (s : Sender) (pictures : List Values)
         (entries : List Entry) → BroughtAll o s pictures (datagrams_in entries) →
-        GoesInTime w o s.base entries →
+        IsInTime w o s.base entries →
         frames_of_events (followed_events w o entries) ≡ pictures_from s 0 pictures }
 {}
 
@@ -116,8 +118,8 @@ pub fn whole_pictures()
 {}
 
 /// What was sent and followed is the pictures' file, octet for octet. Where the datagrams of a sent
-/// file came by one of the followed files or another, and no others, in an order that goes in time,
-/// what a sink that nothing was written to took is the YUV4MPEG2 file of the pictures where they
+/// file came by one of the followed files or another, and no others, in time (as `sender_stream`
+/// says), what a sink that nothing was written to took is the YUV4MPEG2 file of the pictures where they
 /// are YCbCr (`ycc`), and where they are RGB their portable pixmaps one behind the other (`rgb`):
 /// whatever each file lost, and by whatever fill (SMPTE ST 2022-7).
 pub fn sent_and_followed<K: ByteSink, A: Allocator, B: Allocator, S: ByteSource>()
@@ -130,7 +132,7 @@ pub fn sent_and_followed<K: ByteSink, A: Allocator, B: Allocator, S: ByteSource>
         printed printed' totals) →
         BringDatagrams (SideRead S.gave S.ended) ways files sent.datagrams →
         AwaitsPictures is.opening (run_sender format wanted) (first ∷ others) →
-        GoesInTime w is.opening wanted.base is.entries →
+        IsInTime w is.opening wanted.base is.entries →
         IsYcc format.sampling → k.format ≡ None →
         K.took l.sink ≡ K.took k.sink ++ y4m_text format (first ∷ others) }
     ensures rgb { (wanted : Sending) (text : List ℕ) (format : Format)
@@ -142,7 +144,7 @@ pub fn sent_and_followed<K: ByteSink, A: Allocator, B: Allocator, S: ByteSource>
         printed printed' totals) →
         BringDatagrams (SideRead S.gave S.ended) ways files sent.datagrams →
         AwaitsPictures is.opening (run_sender format wanted) pictures →
-        GoesInTime w is.opening wanted.base is.entries →
+        IsInTime w is.opening wanted.base is.entries →
         IsRgb format.sampling → k.format ≡ None →
         K.took l.sink ≡ K.took k.sink ++ flat_map pixmap_text pictures }
 {}
@@ -159,7 +161,7 @@ pub fn sent_and_followed_file<B: Allocator>()
         (is : FollowsFiles w sdp ways files filling fill (Some out) (Some out') printed printed') →
         BringDatagrams (SideRead replayed_gave replayed_ended) ways files sent.datagrams →
         AwaitsPictures is.follows.opening (run_sender format wanted) (first ∷ others) →
-        GoesInTime w is.follows.opening wanted.base is.follows.entries →
+        IsInTime w is.follows.opening wanted.base is.follows.entries →
         IsYcc format.sampling →
         file_took out' ≡ file_took out ++ y4m_text format (first ∷ others) }
     ensures rgb { (wanted : Sending) (text : List ℕ) (format : Format)
@@ -171,7 +173,7 @@ pub fn sent_and_followed_file<B: Allocator>()
         (is : FollowsFiles w sdp ways files filling fill (Some out) (Some out') printed printed') →
         BringDatagrams (SideRead replayed_gave replayed_ended) ways files sent.datagrams →
         AwaitsPictures is.follows.opening (run_sender format wanted) pictures →
-        GoesInTime w is.follows.opening wanted.base is.follows.entries →
+        IsInTime w is.follows.opening wanted.base is.follows.entries →
         IsRgb format.sampling →
         file_took out' ≡ file_took out ++ flat_map pixmap_text pictures }
 {}
