@@ -83,7 +83,7 @@ picture_read o p stamp i (q ∷ qs) (d ∷ ds) octets open_for sent (inr m) =
 -- ---- its ticks
 
 -- it is so many ticks behind the first picture
-record IsBehind (o : Opening) (base : ℕ) (octets : List ℕ) : Type 0 where
+record IsLaterBy (o : Opening) (base : ℕ) (octets : List ℕ) : Type 0 where
   datagram : Datagram
   read : reading_of o octets ≡ Ok datagram
   ticks : ℕ
@@ -96,7 +96,7 @@ ticks_below k n d pos le lt =
     (omega (arith, mul-le (k * 90000) d 899910000 n (omega arith) le))
 
 stamped_behind : (o : Opening) (f : Format) (base k : ℕ) (octets : List ℕ) → k < 10000
-    → IsStamped o octets (timestamp_of f base k) → IsBehind o base octets
+    → IsStamped o octets (timestamp_of f base k) → IsLaterBy o base octets
 stamped_behind o f base k octets lt is = record {
   datagram = is.datagram;
   read = is.read;
@@ -108,7 +108,7 @@ stamped_behind o f base k octets lt is = record {
 sent_behind : (o : Opening) (s : Sender) (k : ℕ) (ps : List Values) (first : ℕ)
     (ds : List (List ℕ)) (octets : List ℕ) → IsOpenFor o s.format s.payload_type s.ssrc
     → k + length ps ≤ 10000 → SendsFrom s k ps first ds → IsMember octets ds
-    → IsBehind o s.base octets
+    → IsLaterBy o s.base octets
 sent_behind o s k [] first ds octets open_for few sends m =
     absurd (subst (λ (ys : List (List ℕ)). IsMember octets ys) sends m)
 sent_behind o s k (p ∷ ps) first ds octets open_for few sends m =
@@ -125,7 +125,7 @@ sent_behind o s k (p ∷ ps) first ds octets open_for few sends m =
 ahead_ticks : (base t ts : ℕ) → t ≤ 899910000 → ts ≡ (base + t) % 2 ^ 32 → ahead_of ts base ≡ t
 ahead_ticks base t ts few e = omega arith
 
-time_is : (o : Opening) (base : ℕ) (octets : List ℕ) (is : IsBehind o base octets)
+time_is : (o : Opening) (base : ℕ) (octets : List ℕ) (is : IsLaterBy o base octets)
     → time_behind base (reading_of o octets) ≡ base + is.ticks
 time_is o base octets is =
     ap (time_behind base) is.read
@@ -185,7 +185,7 @@ module _ (o : Opening) (s : Sender) (ps : List Values) (ds : List (List ℕ))
   abbrev us : List ℕ
   us = times_from o s.base ds
 
-  at : (octets : List ℕ) → IsMember octets ds → IsBehind o s.base octets
+  at : (octets : List ℕ) → IsMember octets ds → IsLaterBy o s.base octets
   at octets m =
       let few : 0 + length ps ≤ 10000 = omega (arith, all.list.few) in
       sent_behind o s 0 ps all.first all.sent octets all.opened few all.list.sent
@@ -194,7 +194,7 @@ module _ (o : Opening) (s : Sender) (ps : List Values) (ds : List (List ℕ))
   pub are_timed : AreTimed o xs
   are_timed x d m read =
       let r = member-map (timed_from o s.base) x ds m in
-      let n : IsBehind o s.base r.0 = at r.0 r.1 in
+      let n : IsLaterBy o s.base r.0 = at r.0 r.1 in
       let e : d ≡ n.datagram =
       same_reading d n.datagram
       (sym read ∙ ap (λ (y : Timed). reading_of o y.octets) r.2 ∙ n.read) in
@@ -206,7 +206,7 @@ module _ (o : Opening) (s : Sender) (ps : List Values) (ds : List (List ℕ))
   within u m =
       let a = member-flat_map (time_of o) u xs m in
       let r = member-map (timed_from o s.base) a.0 ds a.1 in
-      let n : IsBehind o s.base r.0 = at r.0 r.1 in
+      let n : IsLaterBy o s.base r.0 = at r.0 r.1 in
       let e : u ≡ s.base + n.ticks =
       one_time u a.0.time (reading_of o a.0.octets) a.2
       ∙ ap (λ (y : Timed). y.time) r.2 ∙ time_is o s.base r.0 n in
