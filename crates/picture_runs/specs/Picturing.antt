@@ -1,26 +1,15 @@
 -- What `picture` is asked for, by the words of the command line (own).
-use Rattle.std.specs.Prelude.{◌≡◌, ◌≢◌, List, ℕ, Option, None, Some, codes, option_map}
+use Rattle.std.specs.Prelude.{◌≡◌, ◌≢◌, Option, None, codes, option_map}
 use Rattle.std.specs.Prelude.{IsFalse, IsTrue}
 use Rattle.std.specs.Option.{option_copied}
 use Rattle.command_line.specs.declared.words.PictureWords.{PictureWords}
 use Rattle.devices.specs.Passed.{file_path, written_name}
 use Rattle.devices.specs.declared.file_output.FileOutput.{FileOutput}
 use Rattle.devices.specs.declared.file_source.FileSource.{FileSource}
-use Rattle.form_files.specs.Form.{form_by_ending, form_named}
-use Rattle.form_files.specs.declared.form.Form.{Form}
 use Rattle.picture_engine.specs.declared.asked.PictureAsked.{PictureAsked}
 use Rattle.picture_engine.specs.declared.asked.View.{View}
 use Rattle.picture_engine.specs.declared.asked.View.TheVariants.{Settled, Marked}
-
--- a form that was named, or else that of a file's name
-abbrev pub form_or_ending : Option Form → List ℕ → Form
-form_or_ending None name = form_by_ending name
-form_or_ending (Some f) name = f
-
--- the form of a word, where one is given
-abbrev pub form_asked : Option (List ℕ) → List ℕ → Form
-form_asked None name = form_by_ending name
-form_asked (Some word) name = form_or_ending (form_named word) name
+use Rattle.picture_runs.specs.Asked.{form_asked}
 
 -- a frame is shown as the words say: with marks, or settled by the values of their text
 abbrev pub IsViewAsked : PictureWords → View → Type 0

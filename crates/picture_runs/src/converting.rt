@@ -1,5 +1,5 @@
 //! `convert` over the devices of this machine.
-ghost use Rattle.std.specs.Prelude.{◌≡◌, ◌∷◌, ◌⊎◌, [], IfErr, IsFalse, IsTrue, OnOk, option_map};
+ghost use Rattle.std.specs.Prelude.{◌≡◌, ◌∷◌, ◌⊎◌, [], IfErr, IsFalse, IsTrue, OnOk};
 ghost use Rattle.convert_engine.specs.Converting.{Converts, IsConvertRefusal};
 ghost use Rattle.devices.specs.Passed.{FileRead, HasNoPart, IsInPlace, IsUnplaced, LeavesNoPart};
 ghost use Rattle.devices.specs.Passed.{file_failures, file_gave, file_took, writing_failures};
@@ -8,8 +8,9 @@ ghost use Rattle.run_outcome.specs.Fault.{Accounts, IfRefused, counts};
 ghost use Rattle.run_outcome.specs.Refusing.{OfRefusal};
 ghost use Rattle.run_outcome.specs.declared.refusal.Refusal.TheVariants.{OutputIsInput};
 ghost use Rattle.run_outcome.specs.declared.refusal.Writer.TheVariants.{Convert};
-ghost use Rattle.picture_runs.specs.Conversions.{IsConversionOf, form_asked, read_by};
+ghost use Rattle.picture_runs.specs.Conversions.{IsConversionOf, read_by};
 
+use crate::asked::form_of;
 use command_end::{Command, Devices, Hints, Ran, find_output};
 use command_line::ConvertWords;
 use convert_engine::{Conversion, InputForm};
@@ -71,20 +72,6 @@ fn input_form(form: Form, place: u64, rate: Rate) -> InputForm
         Form::Picture | Form::Raw => InputForm::Picture,
         Form::Y4m => InputForm::Y4m(place),
         Form::Pixmap => InputForm::Pixmap(rate),
-    }
-}
-
-/// The form of a word, where one is given, and else of a file's name.
-fn form_of(word: Option<&str>, name: &str) -> Form
-    ensures { result ≡ form_asked (option_map (λ w. w.now) word.entry) name.now }
-{
-    let Some(word) = word else {
-        return Form::of_name(name);
-    };
-    match Form::of_word(word.as_bytes()) {
-        Some(form) => form,
-        // clap lets the words of forms through, and nothing else.
-        None => Form::of_name(name),
     }
 }
 

@@ -1,6 +1,7 @@
 //! The commands that write a picture as a file, over the devices of this machine.
 #![tactic(auto)]
 
+mod asked;
 mod converting;
 mod picturing;
 

@@ -4,11 +4,9 @@ ghost use Rattle.std.specs.Prelude.{OnOk, codes, option_map};
 ghost use Rattle.devices.specs.Passed.{FileRead, file_ended, file_failures, file_gave, file_path};
 ghost use Rattle.devices.specs.Passed.{HasNoPart, IsInPlace, IsUnplaced, LeavesNoPart, file_took};
 ghost use Rattle.devices.specs.Passed.{writing_failures};
-ghost use Rattle.form_files.specs.Form.{form_named};
 ghost use Rattle.picture_engine.specs.Refused.{IsShowRefusal};
 ghost use Rattle.picture_engine.specs.Shown.{ShowsFrame};
-ghost use Rattle.picture_runs.specs.Picturing.{IsAskedBy, IsPictureOf, IsViewAsked, form_asked};
-ghost use Rattle.picture_runs.specs.Picturing.{form_or_ending};
+ghost use Rattle.picture_runs.specs.Picturing.{IsAskedBy, IsPictureOf, IsViewAsked};
 ghost use Rattle.run_outcome.specs.Fault.{Accounts, IfRefused, counts, failures_in};
 ghost use Rattle.run_outcome.specs.Moments.{WasRead, pair};
 ghost use Rattle.run_outcome.specs.Refusing.{OfRefusal};
@@ -16,10 +14,10 @@ ghost use Rattle.run_outcome.specs.declared.refusal.Refusal.TheVariants.{OutputI
 ghost use Rattle.run_outcome.specs.declared.refusal.Writer.TheVariants.{Picture};
 ghost use Rattle.std.specs.Option.{option_copied};
 
+use crate::asked::form_of;
 use command_end::{Command, Devices, Hints, Ran, find_output};
 use command_line::PictureWords;
 use devices::{FileOutput, FileSource, OutputSink, Rest, named_file, one_is, reading_begun};
-use form_files::Form;
 use picture_engine::{PictureAsked, View, check_view};
 use run_outcome::{Fault, Writer};
 
@@ -64,7 +62,7 @@ fn asked<'a>(words: &PictureWords<'a>) -> PictureAsked<'a>
     PictureAsked {
         timestamp: words.timestamp,
         view: view(words),
-        form: form(words.form, words.out),
+        form: form_of(words.form, words.out),
     }
 }
 
@@ -85,26 +83,6 @@ fn octets(text: Option<&str>) -> Option<&[u8]>
     match text {
         Some(text) => Some(text.as_bytes()),
         None => None,
-    }
-}
-
-/// The form that a word names, where there is one, or else that of a file's name.
-fn form(word: Option<&str>, name: &str) -> Form
-    ensures { result ≡ form_asked (option_copied word.entry) name.now }
-{
-    match word {
-        Some(word) => named_form(word, name),
-        None => Form::of_name(name),
-    }
-}
-
-/// The form that a word names, or else that of a file's name.
-fn named_form(word: &str, name: &str) -> Form
-    ensures { result ≡ form_or_ending (form_named word.now) name.now }
-{
-    match Form::of_word(word.as_bytes()) {
-        Some(form) => form,
-        None => Form::of_name(name),
     }
 }
 

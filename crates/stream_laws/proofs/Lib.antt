@@ -1,0 +1,6 @@
+pub mod Settled
+pub mod SameStream
+pub mod NoneLate
+pub mod SenderTimes
+pub mod Leaving
+pub mod FollowedText

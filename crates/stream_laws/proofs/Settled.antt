@@ -1,0 +1,108 @@
+-- Frames of which nothing is missing, settled, are their pictures.
+use Rattle.std.proofs.Common.{◌≡◌, ◌∙◌, ℕ, ◌+◌, ◌<◌, ◌%◌, ◌^◌, List, [], ◌∷◌, Option, None, Some}
+use Rattle.std.proofs.Common.{ap, get_or, inl, inr, length, map, refl, slice_index, subst, sym}
+use Rattle.std.specs.List.{AllByRecursion, range_with_len}
+use Rattle.std.proofs.lemmas.List.{get_or-map}
+use Rattle.std.proofs.lemmas.List.FromFn.{fill_by_all}
+use Rattle.following.specs.Following.{Handed}
+use Rattle.following.specs.Pictures.{pictures_from}
+use Rattle.frame_assembly.specs.Settled.{settled_cell}
+use Rattle.frame_sinks.specs.Fills.{fill_of}
+use Rattle.frame_sinks.specs.Pictures.{held_by, held_for, picture_of, pictures_of}
+use Rattle.frame_sinks.specs.declared.filling.Filling.{Filling}
+use Rattle.frame_sinks.proofs.Written.{picture_format}
+use Rattle.packet_plan.specs.Sender.{Sender, SendsFrom}
+use Rattle.path_receiver.specs.Sender.{picture_raster}
+use Rattle.picture_engine.specs.Views.{settled_with}
+use Rattle.receiver_engines.specs.Inputs.{settled_over}
+use Rattle.st_format.specs.declared.cell.Cell.{Cell}
+use Rattle.st_format.specs.declared.cell.Cell.TheVariants.{Missing, Value}
+use Rattle.st_format.specs.declared.format.Format.{Format}
+use Rattle.st_format.specs.Member.{IsMember}
+use Rattle.st_format.specs.Picture.{Values, value_at}
+use Rattle.st_format.specs.Position.{Position, place, places, sample_count}
+use Rattle.st_format.specs.Raster.{cell_at}
+use Rattle.st_format.proofs.Numbering.{number_of-place}
+use Rattle.st_format.proofs.Rasters.{map-map}
+use Rattle.stream_laws.specs.Brought.{AreWhole}
+
+-- ---- one frame
+
+-- the value of a number, whatever lies below it
+settled_at : (base : Position → ℕ) (p : Values) (k : ℕ) → k < length p.samples
+    → get_or p.samples k 0
+    ≡ settled_cell (cell_at (picture_raster p) (place p.format k)) (base (place p.format k))
+settled_at base p k lt =
+    let at : Position = place p.format k in
+    let cells : List Cell = map (λ (v : ℕ). Value v) p.samples in
+    sym
+    (ap (λ (n : ℕ). settled_cell (get_or cells n Missing) (base at)) (number_of-place p.format k)
+    ∙ ap (λ (c : Cell). settled_cell c (base at))
+    (get_or-map (λ (v : ℕ). Value v) p.samples k 0 Missing lt))
+
+settled_samples : (base : Position → ℕ) (p : Values) → length p.samples ≡ sample_count p.format
+    → map (λ at. settled_cell (cell_at (picture_raster p) at) (base at)) (places p.format)
+    ≡ p.samples
+settled_samples base p long =
+    map-map (λ (at : Position). settled_cell (cell_at (picture_raster p) at) (base at))
+    (place p.format) (range_with_len 0 (sample_count p.format))
+    ∙ sym
+    (fill_by_all
+    (λ (k : ℕ). settled_cell (cell_at (picture_raster p) (place p.format k))
+    (base (place p.format k)))
+    p.samples (sample_count p.format) 0 long
+    (λ k lt. settled_at base p k (subst (λ (n : ℕ). k < n) (sym long) lt)))
+
+abbrev values : Format → List ℕ → Values
+values f samples = record { format = f; samples = samples }
+
+settled_whole : (base : Position → ℕ) (p : Values) → length p.samples ≡ sample_count p.format
+    → settled_over base (picture_raster p) ≡ p
+settled_whole base p long =
+    ap (λ (samples : List ℕ). values p.format samples) (settled_samples base p long)
+
+whole_over : (held : Option Values) (fill : List ℕ) (p : Values)
+    → length p.samples ≡ sample_count p.format → settled_with held fill (picture_raster p) ≡ p
+whole_over None fill p long = settled_whole (λ at. slice_index fill at.component) p long
+whole_over (Some q) fill p long = settled_whole (value_at q) p long
+
+picture_whole : (fill : Option (List ℕ)) (held : Option Values) (p : Values)
+    → length p.samples ≡ sample_count p.format → picture_of fill held (picture_raster p) ≡ p
+unfolding picture_of
+picture_whole fill held p long =
+    whole_over (held_for held p.format) (fill_of fill p.format) p long
+
+-- ---- a sender's
+
+pub pictures_whole : (filling : Filling) (fill : Option (List ℕ)) (held : Option Values)
+    (s : Sender) (k : ℕ) (ps : List Values) → AreWhole ps
+    → pictures_of filling fill held (pictures_from s k ps) ≡ ps
+pictures_whole filling fill held s k [] whole = refl
+pictures_whole filling fill held s k (p ∷ ps) whole =
+    let q : Values = picture_of fill held (picture_raster p) in
+    ap (λ (x : Values). x ∷ pictures_of filling fill (held_by filling q)
+    (pictures_from s (k + 1) ps)) (picture_whole fill held p (whole p (inl refl)))
+    ∙ ap (λ (qs : List Values). p ∷ qs)
+    (pictures_whole filling fill (held_by filling q) s (k + 1) ps (λ x m. whole x (inr m)))
+
+-- they have the sender's format
+pub sender_formats : (s : Sender) (k : ℕ) (ps : List Values) (first : ℕ) (sent : List (List ℕ))
+    → SendsFrom s k ps first sent → AllByRecursion (λ q. q.format ≡ s.format) ps
+sender_formats s k [] first sent sends = tt
+sender_formats s k (p ∷ ps) first sent sends = (
+  sends.format,
+  sender_formats s (k + 1) ps ((first + length sends.packets) % 2 ^ 32) sends.others sends.rest,
+)
+
+-- ---- of frames of one format
+
+pub pictures_formats : (f : Format) (filling : Filling) (fill : Option (List ℕ))
+    (held : Option Values) (hs : List Handed)
+    → ((h : Handed) → IsMember h hs → h.frame.format ≡ f)
+    → AllByRecursion (λ q. q.format ≡ f) (pictures_of filling fill held hs)
+pictures_formats f filling fill held [] all = tt
+pictures_formats f filling fill held (h ∷ hs) all = (
+  picture_format fill held h.frame ∙ all h (inl refl),
+  pictures_formats f filling fill (held_by filling (picture_of fill held h.frame)) hs
+      (λ x m. all x (inr m)),
+)

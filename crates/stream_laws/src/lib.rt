@@ -1,0 +1,10 @@
+//! Laws on whole runs of `follow`: which frames leave a stream, and that what is written of what
+//! `send` sent is the pictures' file, octet for octet.
+#![tactic(auto)]
+
+mod laws;
+
+pub use laws::{
+    all_of_files, frames_of_format, one_y4m_stream, plain_by_totals, sender_stream,
+    sent_and_followed, sent_and_followed_file, whole_pictures,
+};
