@@ -1,5 +1,5 @@
 -- The frames that leave a stream that isn't followed anew.
-use Rattle.std.proofs.Common.{◌≡◌, ◌∙◌, ℕ, Bool, List, ap, inl, inr, map, subst, sym}
+use Rattle.std.proofs.Common.{◌≡◌, ◌∙◌, ℕ, Bool, false, List, ap, inl, inr, map, subst, sym}
 use Rattle.follow_engine.specs.Events.{behind_all, frames_of_events, running_from}
 use Rattle.follow_engine.specs.Followed.{followed_events}
 use Rattle.follow_engine.specs.Order.{datagrams_in}
@@ -23,8 +23,10 @@ use Rattle.st_format.specs.Member.{IsMember}
 use Rattle.st_format.specs.Picture.{Values}
 use Rattle.st_format.specs.Raster.{Raster}
 use Rattle.stream_laws.specs.Brought.{GoesInTime, IsInTime, LosesNone}
-use Rattle.stream_laws.proofs.NoneLate.{IsClear, all_kept, totals_clear, totals_plain}
-use Rattle.stream_laws.proofs.SenderTimes.{are_near, are_timed, frames_of_times, timed-octets}
+use Rattle.stream_laws.proofs.LosesNone.{orderly_none}
+use Rattle.stream_laws.proofs.NoneLate.{IsClear, all_kept, kept_plain, totals_clear, totals_plain}
+use Rattle.stream_laws.proofs.SenderTimes.{are_near, are_timed, frames_of_times, near_one}
+use Rattle.stream_laws.proofs.SenderTimes.{timed-octets}
 
 pub frame_format : (w : FollowAsked) (o : Opening) (entries : List Entry) (h : Handed)
     → NoneAnew w.is_eager (running_from (opened o w.frames 900000)) (datagrams_in entries)
@@ -38,7 +40,23 @@ frame_format w o entries h plain m =
     (plain_frames w.is_eager (running_from f) ds plain) m) in
     ap (λ (r : Raster). r.format) some.is
 
--- They are a sender's pictures, where all of its datagrams came in such an order.
+-- A sender's stream is not followed anew, where its datagrams came in such an order.
+orderly_plain : (w : FollowAsked) (o : Opening) (s : Sender) (ps : List Values)
+    (entries : List Entry) → BroughtAll o s ps (datagrams_in entries)
+    → GoesInTime w o s.base entries
+    → NoneAnew w.is_eager (running_from (opened o w.frames 900000)) (datagrams_in entries)
+orderly_plain w o s ps entries brought time =
+    let f : Following = opened o w.frames 900000 in
+    let ds : List (List ℕ) = datagrams_in entries in
+    let xs : List Timed = map (timed_from o s.base) ds in
+    subst (λ (b : Bool). NoneAnew b (running_from f) ds) (sym time.due)
+    (subst (λ (es : List (List ℕ)). NoneAnew false (running_from f) es)
+    (timed-octets o s.base ds)
+    (kept_plain (running_from f) xs
+    (orderly_none o w.frames 900000 time.frames.some xs (are_timed o s ps ds brought)
+    time.orderly (near_one o s ps ds brought))))
+
+-- Its frames are the sender's pictures.
 sender_frames : (w : FollowAsked) (o : Opening) (s : Sender) (ps : List Values)
     (entries : List Entry) → BroughtAll o s ps (datagrams_in entries)
     → GoesInTime w o s.base entries
@@ -46,7 +64,7 @@ sender_frames : (w : FollowAsked) (o : Opening) (s : Sender) (ps : List Values)
 sender_frames w o s ps entries brought time =
     let f : Following = opened o w.frames 900000 in
     let ds : List (List ℕ) = datagrams_in entries in
-    plain_frames w.is_eager (running_from f) ds time.plain
+    plain_frames w.is_eager (running_from f) ds (orderly_plain w o s ps entries brought time)
     ∙ ap (λ (b : Bool). handed_all b f ds) time.due
     ∙ sym (handed_parts f ds)
     ∙ sender_pictures o w.frames 900000 s ps ds time.frames.some brought time.orderly

@@ -21,6 +21,7 @@ use Rattle.following.specs.declared.tally.FollowTally.{FollowTally}
 use Rattle.media_file.specs.Records.{Entry}
 use Rattle.path_receiver.specs.Opening.{Opening}
 use Rattle.path_receiver.specs.declared.answer.Refusal.{Refusal}
+use Rattle.stream_laws.proofs.LosesNone.{NoneIsLost}
 
 -- ---- one answer
 
@@ -108,6 +109,20 @@ all_kept eager r (x ∷ xs) is =
     ∙ ap (λ (s : Following). x ∷ kept_of eager s xs)
     (sym (follower_behind eager r x.octets (first_plain eager r x.octets ds is)))
     ∙ ap (λ (ys : List Timed). x ∷ ys) (all_kept eager behind_it xs is)
+
+-- so where none is lost, where no frame leaves early
+pub kept_plain : (r : Running) (xs : List Timed) → NoneIsLost r.follower xs
+    → NoneAnew false r (octets_of xs)
+kept_plain r [] none = tt
+kept_plain r (x ∷ xs) none =
+    let first : is_anew r x.octets ≡ false =
+    not_anew r.follower.most_ahead r.since (time_of x.octets) (answer_in r.follower x.octets)
+    none.0 in (
+      first,
+      kept_plain (behind false r x.octets) xs
+          (subst (λ (s : Following). NoneIsLost s xs)
+          (sym (follower_behind false r x.octets first)) none.1),
+    )
 
 -- ---- by the totals
 

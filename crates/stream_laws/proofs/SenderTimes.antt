@@ -224,7 +224,7 @@ module _ (o : Opening) (s : Sender) (ps : List Values) (ds : List (List ℕ))
   before_in before after u v e m =
       subst (λ (vs : List ℕ). IsMember v vs) (sym e) (member_left v before (u ∷ after) m)
 
-  near_one : (u v : ℕ) → IsMember u us → IsMember v us → IsNear u v
+  pub near_one : (u v : ℕ) → IsMember u us → IsMember v us → IsNear u v
   near_one u v m n =
       let a = within u m in
       let b = within v n in
