@@ -410,8 +410,8 @@ module _ (o : Opening) (size ahead : ℕ) (some : 0 < size) where
       }
 
   step : (xs ys : List Timed) (y : Timed) (r : Result Datagram Refusal)
-      → reading_of o y.octets ≡ r → IsGiven o size ahead (xs ++ y ∷ ys) → FromStage (xs ++ y ∷ []) ys
-      → FromStage xs (y ∷ ys)
+      → reading_of o y.octets ≡ r → IsGiven o size ahead (xs ++ y ∷ ys)
+      → FromStage (xs ++ y ∷ []) ys → FromStage xs (y ∷ ys)
   step xs ys y (Err e) read given go gone win last stage =
       go_on xs ys y last win win (due-refused o size ahead xs y e last win read)
       (refused_at (shaped o size ahead xs last win) y.octets e read)

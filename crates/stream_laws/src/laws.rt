@@ -2,10 +2,10 @@
 //! that does nothing. A caller of `follow_files` has the premises of each from that call's own
 //! clauses.
 //!
-//! - All frames that leave a stream have one format: `frames_of_format`. So, whatever was lost, what
-//!   is written of them is one YUV4MPEG2 stream: `one_y4m_stream`.
-//! - Where none was late or too far ahead, a stream isn't followed anew: `plain_by_totals`. So it is
-//!   of a sender's datagrams that come in time for the window: `none_late`.
+//! - All frames that leave a stream have one format: `frames_of_format`. So, whatever was lost,
+//!   what is written of them is one YUV4MPEG2 stream: `one_y4m_stream`.
+//! - Where none was late or too far ahead, a stream isn't followed anew: `plain_by_totals`. So it
+//!   is of a sender's datagrams that come in time for the window: `none_late`.
 //! - The datagrams that go into a stream are those of its files: `all_of_files`.
 //! - Where files bring all of a sender's datagrams in time, the frames are its pictures, nothing
 //!   missing: `sender_stream`; and settled these are the pictures, by whatever fill:
@@ -83,8 +83,8 @@ pub fn none_late()
 {}
 
 /// What is written of a stream of YCbCr that isn't followed anew, of one frame or more, into a sink
-/// that nothing was written to, is one YUV4MPEG2 stream, octet for octet, whatever was lost: that of
-/// the frames' pictures.
+/// that nothing was written to, is one YUV4MPEG2 stream, octet for octet, whatever was lost: that
+/// of the frames' pictures.
 pub fn one_y4m_stream<K: ByteSink, A: Allocator, B: Allocator, S: ByteSource>()
     ensures { (w : FollowAsked) (sdp : Option (List ℕ)) (ways : List (Result Flows Refusal))
         (files : List (Side B S × Side B S)) (k l : FormSink K A) (printed printed' : List ℕ)
@@ -110,9 +110,9 @@ pub fn all_of_files()
 
 /// Where all datagrams of a sender's list went into a stream in time, each by one file or another,
 /// and no others, the frames that leave it are the sender's pictures, all, in order, each with
-/// nothing missing (SMPTE ST 2022-7). In time they went where frames leave as they are due, and none
-/// came after as many newer timestamps as there are frames; or where the totals say `late 0` and
-/// `far 0`, in whatever order they went, and also where frames leave early.
+/// nothing missing (SMPTE ST 2022-7). They went in time where it is as `none_late` says; or where
+/// the totals say `late 0` and `far 0`, in whatever order they went, and also where frames leave
+/// early.
 pub fn sender_stream()
     ensures { (w : FollowAsked) (o : Opening) (s : Sender) (pictures : List Values)
         (entries : List Entry) → BroughtAll o s pictures (datagrams_in entries) →
@@ -130,9 +130,9 @@ pub fn whole_pictures()
 
 /// What was sent and followed is the pictures' file, octet for octet. Where the datagrams of a sent
 /// file came by one of the followed files or another, and no others, in time (as `sender_stream`
-/// says), what a sink that nothing was written to took is the YUV4MPEG2 file of the pictures where they
-/// are YCbCr (`ycc`), and where they are RGB their portable pixmaps one behind the other (`rgb`):
-/// whatever each file lost, and by whatever fill (SMPTE ST 2022-7).
+/// says), what a sink that nothing was written to took is the YUV4MPEG2 file of the pictures where
+/// they are YCbCr (`ycc`), and where they are RGB their portable pixmaps one behind the other
+/// (`rgb`): whatever each file lost, and by whatever fill (SMPTE ST 2022-7).
 pub fn sent_and_followed<K: ByteSink, A: Allocator, B: Allocator, S: ByteSource>()
     ensures ycc { (wanted : Sending) (text : List ℕ) (format : Format) (first : Values)
         (others : List Values) (capture : List ℕ) (w : FollowAsked) (sdp : Option (List ℕ))
