@@ -79,7 +79,8 @@ module _ (wanted : Sending) (text : List ℕ) (format : Format) (capture : List 
         ap (λ (xs : List Handed). form_stream None (pictures_of filling fill held xs)) frames
         ∙ ap (λ (qs : List Values). form_stream None qs)
         (pictures_whole filling fill held s 0 ps whole)
-        ∙ rgb_stream format ps rgb (sender_formats s 0 ps wanted.first sent.datagrams sent.sent.sent)
+        ∙ rgb_stream format ps rgb
+        (sender_formats s 0 ps wanted.first sent.datagrams sent.sent.sent)
 
 -- ---- a stream that was followed
 

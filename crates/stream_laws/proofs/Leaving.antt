@@ -1,5 +1,5 @@
 -- The frames that leave a stream that isn't followed anew.
-use Rattle.std.proofs.Common.{◌≡◌, ◌∙◌, ℕ, Bool, List, ap, inl, inr, map, subst, sym}
+use Rattle.std.proofs.Common.{◌≡◌, ◌∙◌, ℕ, Bool, false, List, ap, inl, inr, map, refl, subst, sym}
 use Rattle.follow_engine.specs.Events.{behind_all, frames_of_events, running_from}
 use Rattle.follow_engine.specs.Followed.{followed_events}
 use Rattle.follow_engine.specs.Order.{datagrams_in}
@@ -14,8 +14,6 @@ use Rattle.following.specs.Times.{AreTimed, Timed, handed_at, in_order, octets_o
 use Rattle.following.specs.Turned.{handed_all, kept_of}
 use Rattle.following.proofs.Lost.{kept_stream}
 use Rattle.following.proofs.Made.{of_some}
-use Rattle.following.proofs.Pictures.{sender_pictures}
-use Rattle.following.proofs.Turning.{handed_parts}
 use Rattle.media_file.specs.Records.{Entry}
 use Rattle.packet_plan.specs.Sender.{Sender}
 use Rattle.path_receiver.specs.Opening.{Opening}
@@ -23,8 +21,10 @@ use Rattle.st_format.specs.Member.{IsMember}
 use Rattle.st_format.specs.Picture.{Values}
 use Rattle.st_format.specs.Raster.{Raster}
 use Rattle.stream_laws.specs.Brought.{GoesInTime, IsInTime, LosesNone}
-use Rattle.stream_laws.proofs.NoneLate.{IsClear, all_kept, totals_clear, totals_plain}
-use Rattle.stream_laws.proofs.SenderTimes.{are_near, are_timed, frames_of_times, timed-octets}
+use Rattle.stream_laws.proofs.LosesNone.{orderly_none}
+use Rattle.stream_laws.proofs.NoneLate.{IsClear, all_kept, none_counted, totals_clear, totals_plain}
+use Rattle.stream_laws.proofs.SenderTimes.{are_near, are_timed, frames_of_times, near_one}
+use Rattle.stream_laws.proofs.SenderTimes.{timed-octets}
 
 pub frame_format : (w : FollowAsked) (o : Opening) (entries : List Entry) (h : Handed)
     → NoneAnew w.is_eager (running_from (opened o w.frames 900000)) (datagrams_in entries)
@@ -38,20 +38,26 @@ frame_format w o entries h plain m =
     (plain_frames w.is_eager (running_from f) ds plain) m) in
     ap (λ (r : Raster). r.format) some.is
 
--- They are a sender's pictures, where all of its datagrams came in such an order.
-sender_frames : (w : FollowAsked) (o : Opening) (s : Sender) (ps : List Values)
+-- ---- a sender's
+
+-- None of its datagrams is lost, where they came in such an order.
+pub none_late : (w : FollowAsked) (o : Opening) (s : Sender) (ps : List Values)
     (entries : List Entry) → BroughtAll o s ps (datagrams_in entries)
-    → GoesInTime w o s.base entries
-    → frames_of_events (followed_events w o entries) ≡ pictures_from s 0 ps
-sender_frames w o s ps entries brought time =
+    → GoesInTime w o s.base entries → LosesNone w o entries
+none_late w o s ps entries brought time =
     let f : Following = opened o w.frames 900000 in
     let ds : List (List ℕ) = datagrams_in entries in
-    plain_frames w.is_eager (running_from f) ds time.plain
-    ∙ ap (λ (b : Bool). handed_all b f ds) time.due
-    ∙ sym (handed_parts f ds)
-    ∙ sender_pictures o w.frames 900000 s ps ds time.frames.some brought time.orderly
+    let xs : List Timed = map (timed_from o s.base) ds in
+    let clear : IsClear (behind_all w.is_eager (running_from f) ds).tally =
+    subst (λ (b : Bool). IsClear (behind_all b (running_from f) ds).tally) (sym time.due)
+    (subst (λ (es : List (List ℕ)). IsClear (behind_all false (running_from f) es).tally)
+    (timed-octets o s.base ds)
+    (none_counted (running_from f) xs (record { late = refl; far = refl })
+    (orderly_none o w.frames 900000 time.frames.some xs (are_timed o s ps ds brought)
+    time.orderly (near_one o s ps ds brought)))) in
+    record { frames = time.frames; late = clear.late; far = clear.far }
 
--- And where all were kept.
+-- Where none was lost, its frames are the sender's pictures.
 kept_frames : (w : FollowAsked) (o : Opening) (s : Sender) (ps : List Values)
     (entries : List Entry) → BroughtAll o s ps (datagrams_in entries) → LosesNone w o entries
     → frames_of_events (followed_events w o entries) ≡ pictures_from s 0 ps
@@ -77,5 +83,6 @@ pub in_time_frames : (w : FollowAsked) (o : Opening) (s : Sender) (ps : List Val
     (entries : List Entry) → BroughtAll o s ps (datagrams_in entries)
     → IsInTime w o s.base entries
     → frames_of_events (followed_events w o entries) ≡ pictures_from s 0 ps
-in_time_frames w o s ps entries brought (inl time) = sender_frames w o s ps entries brought time
+in_time_frames w o s ps entries brought (inl time) =
+    kept_frames w o s ps entries brought (none_late w o s ps entries brought time)
 in_time_frames w o s ps entries brought (inr none) = kept_frames w o s ps entries brought none

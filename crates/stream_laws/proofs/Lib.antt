@@ -1,5 +1,6 @@
 pub mod Settled
 pub mod SameStream
+pub mod LosesNone
 pub mod NoneLate
 pub mod SenderTimes
 pub mod Leaving

@@ -1,6 +1,7 @@
 -- A stream of which no datagram was late or too far ahead isn't followed anew, and all are kept.
 use Rattle.std.proofs.Common.{◌≡◌, ◌∙◌, ◌&&◌, ℕ, Bool, true, false, cond, List, [], ◌∷◌, Option}
 use Rattle.std.proofs.Common.{None, Some, Result, Ok, Err, ap, arith, refl, subst, sym}
+use Rattle.std.proofs.lemmas.Bool.{false≢true}
 use Rattle.follow_engine.specs.Events.{Running, anew, anew_with, behind, behind_all, is_anew}
 use Rattle.follow_engine.specs.Events.{running_from, time_of, turn_taken}
 use Rattle.follow_engine.specs.Followed.{followed_run}
@@ -21,6 +22,7 @@ use Rattle.following.specs.declared.tally.FollowTally.{FollowTally}
 use Rattle.media_file.specs.Records.{Entry}
 use Rattle.path_receiver.specs.Opening.{Opening}
 use Rattle.path_receiver.specs.declared.answer.Refusal.{Refusal}
+use Rattle.stream_laws.proofs.LosesNone.{NoneIsLost}
 
 -- ---- one answer
 
@@ -108,6 +110,29 @@ all_kept eager r (x ∷ xs) is =
     ∙ ap (λ (s : Following). x ∷ kept_of eager s xs)
     (sym (follower_behind eager r x.octets (first_plain eager r x.octets ds is)))
     ∙ ap (λ (ys : List Timed). x ∷ ys) (all_kept eager behind_it xs is)
+
+-- ---- a stream of which none is lost, where no frame leaves early
+
+clear_after : (t : FollowTally) (a : Result Followed Refusal) → is_lost a ≡ false → IsClear t
+    → IsClear (tally_after t a)
+clear_after t (Ok (Kept number)) kept is = record { late = is.late; far = is.far }
+clear_after t (Ok Due) kept is = is
+clear_after t (Ok Late) kept is = absurd (false≢true (sym kept))
+clear_after t (Ok Far) kept is = absurd (false≢true (sym kept))
+clear_after t (Err e) kept is = record { late = is.late; far = is.far }
+
+pub none_counted : (r : Running) (xs : List Timed) → IsClear r.tally
+    → NoneIsLost r.follower xs → IsClear (behind_all false r (octets_of xs)).tally
+none_counted r [] is none = is
+none_counted r (x ∷ xs) is none =
+    let plain : is_anew r x.octets ≡ false =
+    not_anew r.follower.most_ahead r.since (time_of x.octets) (answer_in r.follower x.octets)
+    none.0 in
+    none_counted (behind false r x.octets) xs
+    (subst IsClear (sym (tally_behind false r x.octets))
+    (clear_after r.tally (answer_in r.follower x.octets) none.0 is))
+    (subst (λ (s : Following). NoneIsLost s xs) (sym (follower_behind false r x.octets plain))
+    none.1)
 
 -- ---- by the totals
 

@@ -1,6 +1,6 @@
 -- The datagrams of files that go side by side up to their ends are those of the files.
-use Rattle.std.proofs.Common.{◌≡◌, ◌∙◌, ◌⊎◌, ℕ, zero, suc, List, [], ◌∷◌, ◌++◌, Result, ap, inl, inr}
-use Rattle.std.proofs.Common.{refl, subst, sym}
+use Rattle.std.proofs.Common.{◌≡◌, ◌∙◌, ◌⊎◌, ℕ, zero, suc, List, [], ◌∷◌, ◌++◌, Result, ap, inl}
+use Rattle.std.proofs.Common.{inr, refl, subst, sym}
 use Rattle.capture_engines.specs.Files.{file_datagrams, files_datagrams, first_way, other_ways}
 use Rattle.flow.specs.declared.flows.Flows.{Flows}
 use Rattle.follow_engine.specs.Order.{datagrams_in, strands_by}

@@ -1,7 +1,7 @@
 -- The times of a sender's datagrams: at most 10,000 pictures take less than half a round.
-use Rattle.std.proofs.Common.{◌≡◌, ◌∙◌, ℕ, suc, ◌+◌, ◌*◌, ◌/◌, ◌%◌, ◌^◌, ◌<◌, ◌≤◌, Bool, true, false}
-use Rattle.std.proofs.Common.{cond, eqb, List, [], ◌∷◌, ◌++◌, Result, Ok, Err, ap, arith, inl, inr}
-use Rattle.std.proofs.Common.{length, length-append, map, refl, subst, sym}
+use Rattle.std.proofs.Common.{◌≡◌, ◌∙◌, ℕ, suc, ◌+◌, ◌*◌, ◌/◌, ◌%◌, ◌^◌, ◌<◌, ◌≤◌, Bool, true}
+use Rattle.std.proofs.Common.{false, cond, eqb, List, [], ◌∷◌, ◌++◌, Result, Ok, Err, ap, arith}
+use Rattle.std.proofs.Common.{inl, inr, length, length-append, map, refl, subst, sym}
 use Rattle.std.specs.Prelude.{nat_lt}
 use Rattle.std.proofs.lemmas.Nat.{mul-le}
 use Rattle.std.proofs.Math.Nat.{div-le_of_le-mul}
@@ -224,7 +224,7 @@ module _ (o : Opening) (s : Sender) (ps : List Values) (ds : List (List ℕ))
   before_in before after u v e m =
       subst (λ (vs : List ℕ). IsMember v vs) (sym e) (member_left v before (u ∷ after) m)
 
-  near_one : (u v : ℕ) → IsMember u us → IsMember v us → IsNear u v
+  pub near_one : (u v : ℕ) → IsMember u us → IsMember v us → IsNear u v
   near_one u v m n =
       let a = within u m in
       let b = within v n in

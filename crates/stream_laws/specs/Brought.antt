@@ -3,13 +3,10 @@ use Rattle.std.specs.Prelude.{◌≡◌, ◌⊎◌, ℕ, false, List, length, Re
 use Rattle.std.specs.List.{AllZip}
 use Rattle.capture_engines.specs.Files.{files_datagrams}
 use Rattle.flow.specs.declared.flows.Flows.{Flows}
-use Rattle.follow_engine.specs.Events.{running_from}
 use Rattle.follow_engine.specs.Followed.{followed_run}
 use Rattle.follow_engine.specs.Order.{datagrams_in}
-use Rattle.follow_engine.specs.Plain.{NoneAnew}
 use Rattle.follow_engine.specs.Telling.{totals_of}
 use Rattle.follow_engine.specs.declared.opening.FollowAsked.{FollowAsked}
-use Rattle.following.specs.Follower.{opened}
 use Rattle.following.specs.Pictures.{times_from}
 use Rattle.following.specs.Times.{IsOrderly}
 use Rattle.media_file.specs.Records.{Entry}
@@ -42,14 +39,12 @@ pub record BringDatagrams {S : Type 0} (told : S → List ℕ → Type 0)
 
 -- Records go into a stream in time, where the first picture has this time: frames leave as they are
 -- due, none before; no datagram comes after as many newer timestamps as there are frames, and none
--- is more than ten seconds ahead; and the stream isn't followed anew.
+-- is more than ten seconds ahead.
 pub record GoesInTime (w : FollowAsked) (o : Opening) (base : ℕ) (entries : List Entry) : Type 0
   where
     pub frames : IsWindowSize w.frames
     pub due : w.is_eager ≡ false
     pub orderly : IsOrderly w.frames 900000 (times_from o base (datagrams_in entries))
-    pub plain : NoneAnew w.is_eager (running_from (opened o w.frames 900000))
-        (datagrams_in entries)
 
 -- The totals of a stream say `late 0` and `far 0`: each datagram was kept or refused.
 pub record LosesNone (w : FollowAsked) (o : Opening) (entries : List Entry) : Type 0 where

@@ -4,7 +4,8 @@
 //!
 //! - All frames that leave a stream have one format: `frames_of_format`. So, whatever was lost,
 //!   what is written of them is one YUV4MPEG2 stream: `one_y4m_stream`.
-//! - Where none was late or too far ahead, a stream isn't followed anew: `plain_by_totals`.
+//! - Where none was late or too far ahead, a stream isn't followed anew: `plain_by_totals`. So it
+//!   is of a sender's datagrams that come in time for the window: `none_late`.
 //! - The datagrams that go into a stream are those of its files: `all_of_files`.
 //! - Where files bring all of a sender's datagrams in time, the frames are its pictures, nothing
 //!   missing: `sender_stream`; and settled these are the pictures, by whatever fill:
@@ -49,7 +50,8 @@ ghost use Rattle.side_by_side.specs.declared.steering.Steering.{Steering};
 ghost use Rattle.st_format.specs.Member.{IsMember, SameDatagrams};
 ghost use Rattle.st_format.specs.Picture.{Values};
 ghost use Rattle.st_format.specs.declared.format.Format.{Format};
-ghost use Rattle.stream_laws.specs.Brought.{AreWhole, AwaitsPictures, BringDatagrams, IsInTime};
+ghost use Rattle.stream_laws.specs.Brought.{AreWhole, AwaitsPictures, BringDatagrams, GoesInTime};
+ghost use Rattle.stream_laws.specs.Brought.{IsInTime, LosesNone};
 
 use st_format::{ByteSink, ByteSource};
 use std::alloc::Allocator;
@@ -69,6 +71,15 @@ pub fn plain_by_totals()
         (totals_of (followed_run w o entries)).late ≡ 0 →
         (totals_of (followed_run w o entries)).far ≡ 0 →
         NoneAnew w.is_eager (running_from (opened o w.frames 900000)) (datagrams_in entries) }
+{}
+
+/// Where all datagrams of a sender's list went into a stream, each by one file or another, and no
+/// others, frames leave as they are due, and none comes after as many newer timestamps as there are
+/// frames and none too far ahead: the totals that are told say `late 0` and `far 0`.
+pub fn none_late()
+    ensures { (w : FollowAsked) (o : Opening) (s : Sender) (pictures : List Values)
+        (entries : List Entry) → BroughtAll o s pictures (datagrams_in entries) →
+        GoesInTime w o s.base entries → LosesNone w o entries }
 {}
 
 /// What is written of a stream of YCbCr that isn't followed anew, of one frame or more, into a sink
@@ -99,9 +110,9 @@ pub fn all_of_files()
 
 /// Where all datagrams of a sender's list went into a stream in time, each by one file or another,
 /// and no others, the frames that leave it are the sender's pictures, all, in order, each with
-/// nothing missing (SMPTE ST 2022-7). In time they went where frames leave as they are due, and
-/// none came after as many newer timestamps as there are frames; or where the totals say `late 0`
-/// and `far 0`, in whatever order they went, and also where frames leave early.
+/// nothing missing (SMPTE ST 2022-7). They went in time where it is as `none_late` says; or where
+/// the totals say `late 0` and `far 0`, in whatever order they went, and also where frames leave
+/// early.
 pub fn sender_stream()
     ensures { (w : FollowAsked) (o : Opening) (s : Sender) (pictures : List Values)
         (entries : List Entry) → BroughtAll o s pictures (datagrams_in entries) →
