@@ -211,3 +211,55 @@ rm late.copy
 refuses_follow 'cut short, with pictures' 'recording 2 Truncated' --sdp "$recordings/loopback.sdp" --out cut.y4m \
     "$recordings/cut.pcap"
 none 'follow: no file of pictures has the name' cut.y4m
+
+# What was sent and followed is the pictures' file: of three pictures, of four packets each, by a capture of each path, of
+# which A lacks each third packet, and B the ones behind these. A record has 35 octets.
+for k in 1 2 3; do
+    turn '#0#1#2#3#4#5#6#7#8#9#A#B#C#D#E#F' '#' $k
+    octets "5332305049433031 0008000400020000003C00000001 $turned" >"sent$k.pic"
+    run convert "sent$k.pic" "sent$k.y4m"
+    says "follow: picture $k as a stream" 0 '' ''
+done
+{
+    cat sent1.y4m
+    tail -n +2 sent2.y4m
+    tail -n +2 sent3.y4m
+} >sent.y4m
+front=$((10 + $(wc -c <q.sdp)))
+for path in a b; do
+    run send --out "sent-$path.cap" --sdp q.sdp --base 900 --max 24 --paths $path sent1.pic sent2.pic sent3.pic
+    says "follow: sent by $path" 0 'sent 12' ''
+    head -c "$front" "sent-$path.cap" >"lossy-$path.cap"
+    i=0
+    while [ $i -lt 12 ]; do
+        case $path$((i % 3)) in
+            a1 | b2) ;;
+            *) tail -c +$((front + 35 * i + 1)) "sent-$path.cap" | head -c 35 >>"lossy-$path.cap" ;;
+        esac
+        i=$((i + 1))
+    done
+done
+frames='frame 900 present 16 missing 0 contested 0 late 0
+frame 2400 present 16 missing 0 contested 0 late 0
+frame 3900 present 16 missing 0 contested 0 late 0
+frames 3 kept 16 late 0 far 0 refused 0'
+for words in '' '--fill 1,2,3' '--hold' '--window 1'; do
+    rm -f followed.y4m
+    # shellcheck disable=SC2086
+    follows "what was sent by two lossy paths $words" "$frames" $words --out followed.y4m lossy-a.cap lossy-b.cap
+    alike "follow: what was sent by two lossy paths $words, the file" followed.y4m sent.y4m
+done
+rm -f followed.y4m
+follows 'what was sent, exchanged' "$frames" --out followed.y4m lossy-b.cap lossy-a.cap
+alike 'follow: what was sent, exchanged, the file' followed.y4m sent.y4m
+# By A alone it isn't: of the packets 0 to 11 it lacks 1, 4, 7 and 10.
+rm -f followed.y4m
+follows 'what was sent, by A alone' 'frame 900 present 12 missing 4 contested 0 late 0
+frame 2400 present 8 missing 8 contested 0 late 0
+frame 3900 present 12 missing 4 contested 0 late 0
+frames 3 kept 8 late 0 far 0 refused 0' --out followed.y4m lossy-a.cap
+if cmp -s followed.y4m sent.y4m; then
+    fail 'follow: what was sent, by A alone, the file' 'it is that of the pictures'
+else
+    pass 'follow: what was sent, by A alone, the file'
+fi
