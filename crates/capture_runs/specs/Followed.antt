@@ -39,8 +39,8 @@ IsFollowOpening w fill is_input a b files r = IsWordRefusal w.frames w.ssrc.now 
 abbrev pub IsListed : List Handed → Handed → List Handed → Type 0
 IsListed frames h more = more ≡ frames ++ h ∷ []
 
--- The stream of these files was followed, and told; and the pictures of all frames that left it were
--- written, one behind the other, where there is a file for them.
+-- The stream of these files was followed, and told; and the pictures of all frames that left it
+-- were written, one behind the other, where there is a file for them.
 pub record FollowsFiles {A : Type 0} (w : FollowAsked) (sdp : Option (List ℕ))
     (ways : List (Result Flows Refusal)) (files : List (Side A Replayed × Side A Replayed))
     (filling : Filling) (fill : Option (List ℕ)) (out out' : Option FileOutput)

@@ -15,8 +15,8 @@ use frame_sinks::{Filling, FormSink};
 use receiver_engines::read_fill;
 use run_outcome::{Fault, Refusal, Writer};
 
-/// The file of this name, where one is named, which isn't looked at yet. A part of it is of use, and
-/// stays.
+/// The file of this name, where one is named, which isn't looked at yet. A part of it is of use,
+/// and stays.
 pub(crate) fn named_output<'a>(rt: &'a HostRuntime, name: Option<&'a str>) -> Option<FileOutput<'a>>
     ensures { IfSome result (λ f. (file_took f ≡ []) × IsUnplaced f) }
 {

@@ -25,8 +25,8 @@ fn are_written(
     Ok(is_first && is_second && is_other && pictures.sink.held() == text)
 }
 
-/// Black is 64 and 512 at 10 bits, each in two octets, the low one first, and 16 of 8 bits in RGB. A
-/// stream has its line once.
+/// Black is 64 and 512 at 10 bits, each in two octets, the low one first, and 16 of 8 bits in RGB.
+/// A stream has its line once.
 #[test]
 fn black(rt: HostRuntime) -> Result<(), Fail> {
     let text = b"YUV4MPEG2 W2 H1 F25:1 Ip A1:1 C422p10\n\

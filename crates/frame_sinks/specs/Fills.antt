@@ -7,7 +7,8 @@ use Rattle.st_format.specs.Pgroup.{bits_of}
 -- the values of three components, each at most so much
 abbrev pub limited_fill : ℕ → List ℕ → List ℕ
 limited_fill most fill =
-    min (slice_index fill 0) most ∷ min (slice_index fill 1) most ∷ min (slice_index fill 2) most ∷ []
+    min (slice_index fill 0) most ∷ min (slice_index fill 1) most
+    ∷ min (slice_index fill 2) most ∷ []
 
 -- The fill of a format: the values that are given, each at most the greatest of a sample; else
 -- black.

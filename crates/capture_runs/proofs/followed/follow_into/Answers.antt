@@ -1,4 +1,4 @@
-use Rattle.std.proofs.Common.{◌≡◌, ◌∙◌, Option, ap, subst, sym}
+use Rattle.std.proofs.Common.{◌∙◌, Option, ap, subst, sym}
 use Rattle.std.specs.List.{zip}
 use Rattle.capture_runs.specs.Followed.{FollowsFiles}
 use Rattle.capture_runs.specs.Opened.{said_text}
