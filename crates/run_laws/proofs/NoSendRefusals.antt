@@ -25,12 +25,11 @@ use Rattle.run_laws.proofs.NoRefusals.{no_picture_fault, no_plan_fault, one_form
 use Rattle.run_laws.proofs.Receiving.{was_read}
 
 -- the pictures that are sent are of the sender's format
-AllAre : Format → List Values → Type 0
+abbrev AllAre : Format → List Values → Type 0
 AllAre f ps = (p : Values) → IsMember p ps → p.format ≡ f
 
 one_sent : (s : Sender) (k first : ℕ) (ps : List Values) (ds : List (List ℕ))
     → SendsFrom s k ps first ds → AllAre s.format ps
-unfolding AllAre
 one_sent s k first [] ds sent p there = absurd there
 one_sent s k first (q ∷ qs) ds sent p (inl same) =
     ap (λ (x : Values). x.format) same ∙ sent.format
@@ -132,7 +131,6 @@ module _ {S : Type 0} (gave : S → List ℕ) (ended : S → Type 0) (wanted : S
       where
         are : AllAre p.format (p ∷ ps) → p.format ≡ f
             → (q : Values) → IsMember q (p ∷ ps) → q.format ≡ f
-        unfolding AllAre
         are all same q there = all q there ∙ same
 
     pictures_not : (ps : List Values) (r : Refusal) → SayPictures (WasRead gave ended) us vs ps
