@@ -21,3 +21,4 @@ pub mod NoRehearsalRefusals
 pub mod NoTraceRefusals
 pub mod NoSendRefusals
 pub mod NoInspectRefusals
+pub mod NoMigrateRefusals

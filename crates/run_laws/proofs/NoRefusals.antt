@@ -51,7 +51,7 @@ whole x = Ok x
 abbrev failed : (X : Type 0) → FileFault → Result X FileFault
 failed X f = Err f
 
-apart : {X : Type 0} (r : Result X FileFault) (x : X) (f : FileFault) → r ≡ whole x
+pub apart : {X : Type 0} (r : Result X FileFault) (x : X) (f : FileFault) → r ≡ whole x
     → r ≡ failed X f → ⊥
 apart {X} r x f reads fails = let bad : whole x ≡ failed X f = sym reads ∙ fails in absurd cc
 

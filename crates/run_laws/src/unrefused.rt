@@ -9,10 +9,13 @@ ghost use Rattle.st_format.specs.Device.{AreOctets};
 ghost use Rattle.st_format.specs.History.{IsRead, since};
 ghost use Rattle.st_format.specs.Member.{IsMember};
 ghost use Rattle.run_outcome.specs.Moments.{WasRead};
-ghost use Rattle.run_outcome.specs.TextRefusals.{SaysText};
+ghost use Rattle.run_outcome.specs.Text.{GivesText};
+ghost use Rattle.run_outcome.specs.TextRefusals.{SaysCaptureText, SaysText};
 ghost use Rattle.run_outcome.specs.declared.refusal.Refusal.{Refusal};
 ghost use Rattle.capture_engines.specs.Looped.{IsLoopRefusal};
 ghost use Rattle.capture_engines.specs.Looping.{Link, Loops};
+ghost use Rattle.capture_engines.specs.MigrateRefused.{IsMigrateRefusal};
+ghost use Rattle.capture_engines.specs.Migrating.{PrintsMigrated};
 ghost use Rattle.capture_engines.specs.Sending.{SendsAll};
 ghost use Rattle.capture_engines.specs.Sent.{IsSendRefusal};
 ghost use Rattle.capture_engines.specs.declared.sender.Sending.{Sending};
@@ -120,4 +123,15 @@ pub fn inspect_unrefused<S: ByteSource>()
     ensures { (form : Form) (recordings : List (S × S)) (shown printed : List ℕ) (r : Refusal)
         → Tells form (WasRead S.gave S.ended) recordings false shown printed
         → IsInspectRefusal form (WasRead S.gave S.ended) recordings shown printed r → ⊥ }
+{}
+
+/// The same of a run of `migrate` (`migrated` and `described` there), whatever the octets.
+pub fn migrate_unrefused<D: ByteSource, S: ByteSource>()
+    ensures { (sdp sdp_later : D) (source later : S) (old new shown printed : List ℕ)
+        (r : Refusal) → PrintsMigrated
+        (GivesText 65535 (D.gave sdp) (D.gave sdp_later) (D.ended sdp_later))
+        (S.gave source) (S.gave later) (S.ended later) old new shown printed
+        → SaysCaptureText (IsRead (D.gave sdp) (D.gave sdp_later) (D.ended sdp_later))
+        → IsMigrateRefusal (IsRead (D.gave sdp) (D.gave sdp_later) (D.ended sdp_later))
+        (IsRead (S.gave source) (S.gave later) (S.ended later)) r → ⊥ }
 {}
