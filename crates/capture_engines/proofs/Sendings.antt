@@ -151,7 +151,7 @@ sends_more s k first next (q ∷ qs) ds p size packets mine to format sent =
     }
 
 -- whatever number is next, they are sent
-sends_from : (s : Sender) (k first next : ℕ) (ps : List Values) (ds : List (List ℕ))
+pub sends_from : (s : Sender) (k first next : ℕ) (ps : List Values) (ds : List (List ℕ))
     → SendsTo s k ps first ds next → SendsFrom s k ps first ds
 sends_from s k first next [] ds to = to.0
 sends_from s k first next (p ∷ ps) ds to = record {

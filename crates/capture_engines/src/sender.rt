@@ -6,8 +6,7 @@ ghost use Rattle.run_outcome.specs.Refusing.{OfRefusal};
 ghost use Rattle.run_outcome.specs.declared.refusal.Refusal.TheVariants.{SendFormats};
 
 use media_file::{CaptureWriter, Paths};
-use packet_plan::{Plan, Stamp, send_frame};
-use pgroup_pack::PackedPicture;
+use packet_plan::{Plan, Raster, Stamp, send_frame};
 use run_outcome::{Fault, Refusal};
 use st_format::{ByteSink, Format};
 use std::alloc::Allocator;
@@ -29,9 +28,9 @@ pub struct Sending {
     pub paths: Paths,
 }
 
-/// A capture that pictures of one format are sent into.
+/// A capture that pictures of one format are sent into, by one plan.
 #[derive(Drop)]
-pub(crate) struct Sender<A: Allocator, K: ByteSink> {
+pub struct Sender<A: Allocator, K: ByteSink> {
     plan: Plan<A>,
     pub writer: CaptureWriter<K>,
     wanted: Sending,
@@ -63,13 +62,13 @@ impl<A: Allocator, K: ByteSink> Sender<A, K> {
         }
     }
 
-    /// Sends the picture of this place. One of another format is refused.
-    pub fn send<B: Allocator>(
-        &mut self,
-        picture: &PackedPicture<B>,
-        place: u32,
-        buf: &mut [u8],
-    ) -> Result<(), Fault>
+    /// Sends the picture of this place, whose samples are numbers or packed.
+    ///
+    /// # Errors
+    ///
+    /// `SendFormats` where it is of another format than the plan, and nothing is written; else that
+    /// the sink failed, which has the records before the fault.
+    pub fn send<R: Raster>(&mut self, picture: &R, place: u32, buf: &mut [u8]) -> Result<(), Fault>
         requires room { length buf.old ≡ 65535 }
         requires stands { self.old.writer.place.failed ≡ false }
         ensures room { length buf.new ≡ 65535 }
@@ -77,9 +76,10 @@ impl<A: Allocator, K: ByteSink> Sender<A, K> {
         ensures plan { self.new.plan ≡ self.old.plan }
         // The capture has the records of the picture's datagrams, as frame `place`.
         ensures sent { OnOk result
-            (SendsNext K.took picture.now place self.old self.new) }
+            (SendsNext K.took (R.values picture.now) place self.old self.new) }
         ensures refusal { IfErr result (λ f. OfRefusal f
-            (λ r. (r ≡ SendFormats) × (picture.now.format ≡ self.old.plan.format → ⊥))) }
+            (λ r. (r ≡ SendFormats)
+            × ((R.values picture.now).format ≡ self.old.plan.format → ⊥))) }
         ensures failures { Accounts result (counts (K.failures self.old.writer.sink)
             (K.failures self.new.writer.sink) ∷ []) }
         ensures names { K.names self.new.writer.sink ≡ K.names self.old.writer.sink }

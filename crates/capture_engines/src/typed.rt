@@ -58,8 +58,13 @@ where
     print(Line::Sent(sent), output)
 }
 
-/// What is asked for, with the payload type that a text says.
-fn typed_by<A: Allocator + Copy>(alloc: A, wanted: Sending, said: &[u8]) -> Result<Sending, Fault>
+/// What is asked for, with the payload type that an SDP text says, which was read well before: so
+/// it fails for want of memory alone.
+pub fn typed_by<A: Allocator + Copy>(
+    alloc: A,
+    wanted: Sending,
+    said: &[u8],
+) -> Result<Sending, Fault>
     requires { IsCaptureText said.now }
     ensures typed { IfOk result (IsTypedBy wanted said.now) }
     ensures small { IfOk result (λ typed. typed.payload_type ≤ 127) }

@@ -2,6 +2,7 @@
 use command_line::SendWords;
 use devices::FileSource;
 use media_file::{read_format, read_kind};
+use picture_forms::read_y4m_head;
 use run_outcome::read_text;
 use sdp_format::read_located;
 use st_format::Format;
@@ -48,9 +49,13 @@ fn said_stream(rt: &HostRuntime, name: &str) -> Option<StreamFormat> {
     })
 }
 
-/// The format of the first picture.
+/// The format of the first picture: that of a stream, or of a picture's own file.
 fn first_format(rt: &HostRuntime, words: &SendWords<'_>) -> Option<Format> {
     let name = words.pictures.as_slice().first()?;
+    let mut stream = plain_file(rt, name)?;
+    if let Ok(format) = read_y4m_head(&mut stream) {
+        return Some(format);
+    }
     let mut file = plain_file(rt, name)?;
     read_kind(&mut file, b"S20PIC").ok()?;
     read_format(&mut file).ok()

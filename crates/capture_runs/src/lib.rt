@@ -15,6 +15,7 @@ mod replayed;
 mod replaying;
 mod room;
 mod sending;
+mod sending_stream;
 mod unplaced;
 mod window;
 
@@ -28,5 +29,6 @@ pub use opening::Files;
 pub use receiving::ReceiveCommand;
 pub use replayed::{Keeping, Replayed};
 pub use sending::SendCommand;
+pub use sending_stream::SendStreamCommand;
 pub use unplaced::UnplacedOutput;
 pub use window::Found;

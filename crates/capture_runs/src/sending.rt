@@ -64,7 +64,7 @@ impl<'a> SendCommand<'a> {
 }
 
 /// What `send` is asked for, beside its files.
-fn sending(words: &SendWords<'_>) -> Sending
+pub(crate) fn sending(words: &SendWords<'_>) -> Sending
     ensures { result.payload_type ≤ 127 }
 {
     Sending {
@@ -96,7 +96,7 @@ fn is_read(
 }
 
 /// Whether the payload type is that of the SDP.
-fn is_typed(by_sdp: bool, sdp: &Option<FileSource<'_>>) -> bool
+pub(crate) fn is_typed(by_sdp: bool, sdp: &Option<FileSource<'_>>) -> bool
     ensures { result ≡ (by_sdp && is_some sdp.now) }
 {
     by_sdp && sdp.is_some()

@@ -249,7 +249,8 @@ const SENT_PICTURES: &[Word] = &[
     Word {
         name: "pictures",
         usage: Usage::Files("PICTURE"),
-        help: "Pictures, sent one after the other: the k-th is the k-th frame",
+        help: "Pictures, sent one after the other: the k-th is the k-th frame; or one stream of \
+            pictures, YUV4MPEG2, whose name ends in .y4m, and for - that on standard input",
     },
 ];
 

@@ -6,7 +6,7 @@ use picture_forms::FormFault;
 use run_outcome::{Fault, Refusal};
 
 /// A form's fault as one that ends a run: want of memory and a device's are none of the form's.
-pub(crate) fn of_form(fault: FormFault) -> Fault
+pub fn of_form(fault: FormFault) -> Fault
     ensures { result ≡ form_fault fault }
 {
     match fault {

@@ -7,3 +7,4 @@ mod pixmaps;
 mod streams;
 
 pub use converting::{Conversion, InputForm, convert};
+pub use faults::of_form;

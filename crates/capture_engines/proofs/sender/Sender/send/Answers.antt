@@ -11,7 +11,7 @@ use Rattle.capture_engines.proofs.sender.Sender.send.Goals as goal
 pub returns-in_default-clause-failures : goal.returns-in_default-clause-failures
 returns-in_default-clause-failures g c =
     fails_picture g.K.ByteSink.held g.K.ByteSink.took g.K.ByteSink.failures
-    g.K.ByteSink.names c.args.picture.now
+    g.K.ByteSink.names (g.R.Raster.values c.args.picture.now)
     c.stamp-stamp.result c.args.self.now.plan _ c.args.self.now.writer c.send_frame.new.sink
     c.requires.stands c.in_default.ensures.puts_part
 
@@ -26,14 +26,14 @@ pub returns-clause-sent : goal.returns-clause-sent
 returns-clause-sent g c = record {
   format = search rules;
   written =
-      subst (λ (s : Stamp). WritesPicture g.K.ByteSink.took c.args.picture.now s
+      subst (λ (s : Stamp). WritesPicture g.K.ByteSink.took (g.R.Raster.values c.args.picture.now) s
       c.args.self.now.plan c.args.self.now.writer c.send_frame.new.sink)
       (c.stamp-stamp.ensures.value
       ∙ ap (λ (f : Format). stamp_of (run_sender f c.args.self.now.wanted) c.args.place
       c.args.self.now.next) c.format-format.ensures)
       (writes_picture g.K.ByteSink.held g.K.ByteSink.took g.K.ByteSink.failures
       g.K.ByteSink.names
-      c.args.picture.now c.stamp-stamp.result c.args.self.now.plan c.args.self.now.writer
+      (g.R.Raster.values c.args.picture.now) c.stamp-stamp.result c.args.self.now.plan c.args.self.now.writer
       c.send_frame.new.sink c.in-Ok.ensures.puts);
   next = search rules;
   count = search rules;

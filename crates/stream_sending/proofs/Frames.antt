@@ -1,0 +1,153 @@
+-- Frames of a stream, one after the other.
+use Rattle.std.proofs.Common.{◌≡◌, ℕ, suc, List, [], ◌∷◌, ◌++◌, Result, Ok, Err, Option, None, Some}
+use Rattle.std.proofs.Common.{append_assoc, append-nil, length, refl, sym, subst, ap, ◌∙◌, arith}
+use Rattle.std.specs.Prelude.{IfSome}
+use Rattle.st_format.specs.declared.format.Format.{Format}
+use Rattle.st_format.specs.Given.{GaveValue}
+use Rattle.st_format.specs.Picture.{IsPicture, Values}
+use Rattle.picture_forms.specs.declared.fault.FormFault.{FormFault}
+use Rattle.picture_forms.specs.declared.fault.FormFault.TheVariants as form
+use Rattle.picture_forms.specs.declared.streams.Standing.{Standing}
+use Rattle.picture_forms.specs.declared.streams.Standing.TheVariants.{Reads}
+use Rattle.picture_forms.specs.Frames.{GaveFrame, TakesFrame, frame_walk}
+use Rattle.picture_forms.specs.Layouts.{planes_text}
+use Rattle.picture_forms.specs.Streams.{standing_after}
+use Rattle.picture_forms.specs.Walks.{GaveFault}
+use Rattle.run_outcome.specs.Refusing.{OfRefusal}
+use Rattle.run_outcome.specs.declared.refusal.Refusal.{Refusal}
+use Rattle.run_outcome.specs.declared.refusal.Refusal.TheVariants as refusal
+use Rattle.convert_engine.specs.Converting.{form_fault}
+use Rattle.stream_sending.specs.Reading.{GaveFrames, GaveNext, GaveWrong, IsNextRefusal}
+use Rattle.stream_sending.specs.Reading.{IsOpenedRefusal, IsReadRefusal}
+use Rattle.stream_sending.specs.Streams.{BeginsFrames}
+
+-- ---- octets
+
+-- one frame more
+begins_more : (f : Format) (vs : List Values) (v : Values) (mid rest octets : List ℕ)
+    → BeginsFrames f vs mid octets → v.format ≡ f → IsPicture v
+    → frame_walk f mid ≡ Ok (planes_text v, rest) → BeginsFrames f (vs ++ v ∷ []) rest octets
+begins_more f [] v mid rest octets begins same whole walk = record {
+  rest = rest;
+  format = same;
+  picture = whole;
+  frame = ap (frame_walk f) begins ∙ walk;
+  behind = refl;
+}
+begins_more f (u ∷ us) v mid rest octets begins same whole walk = record {
+  rest = begins.rest;
+  format = begins.format;
+  picture = begins.picture;
+  frame = begins.frame;
+  behind = begins_more f us v mid rest begins.rest begins.behind same whole walk;
+}
+
+-- ---- what a source gave
+
+more : (a b c first next : List ℕ) → b ≡ a ++ first → c ≡ b ++ next → c ≡ a ++ (first ++ next)
+more a b c first next p q = q ∙ ap (λ (l : List ℕ). l ++ next) p ∙ append_assoc a first next
+
+pub gave_none : (f : Format) (a : List ℕ) → GaveFrames f [] a a
+gave_none f a = record { part = []; grown = sym (append-nil a); says = λ behind. refl }
+
+-- a frame behind others
+pub gave_more : (f : Format) (vs : List Values) (v : Values) (a b c : List ℕ)
+    → GaveFrames f vs a b → GaveNext f b c ⊥ (Some v) → GaveFrames f (vs ++ v ∷ []) a c
+gave_more f vs v a b c p next =
+    let g : GaveValue (frame_walk f) b c (planes_text v) = next.1.1 in
+    record {
+      part = p.part ++ g.part;
+      grown = more a b c p.part g.part p.grown g.grown;
+      says = λ behind.
+          subst (λ (l : List ℕ). BeginsFrames f (vs ++ v ∷ []) behind l)
+          (sym (append_assoc p.part g.part behind))
+          (begins_more f vs v (g.part ++ behind) behind (p.part ++ (g.part ++ behind))
+          (p.says (g.part ++ behind)) next.0 next.1.0 (g.says behind));
+    }
+
+-- a frame, and others behind it
+pub gave_first : (f : Format) (v : Values) (vs : List Values) (a b c : List ℕ)
+    → GaveNext f a b ⊥ (Some v) → GaveFrames f vs b c → GaveFrames f (v ∷ vs) a c
+gave_first f v vs a b c next p =
+    let g : GaveValue (frame_walk f) a b (planes_text v) = next.1.1 in
+    record {
+      part = g.part ++ p.part;
+      grown = more a b c g.part p.part g.grown p.grown;
+      says = λ behind. record {
+        rest = p.part ++ behind;
+        format = next.0;
+        picture = next.1.0;
+        frame =
+            ap (frame_walk f) (append_assoc g.part p.part behind)
+            ∙ g.says (p.part ++ behind);
+        behind = p.says behind;
+      };
+    }
+
+-- nothing more was given
+pub gave_end : (f : Format) (vs : List Values) (a b c : List ℕ) → GaveFrames f vs a b → c ≡ b
+    → GaveFrames f vs a c
+gave_end f vs a b c p same = subst (λ (l : List ℕ). GaveFrames f vs a l) (sym same) p
+
+-- ---- the next frame
+
+pub next_given : (f : Format) (to to' : Option (List ℕ)) (a b : List ℕ) (ended : Type 0)
+    (o : Option Values) → TakesFrame f to to' o → GaveFrame f a b ended o → GaveNext f a b ended o
+next_given f to to' a b ended None takes gave = gave
+next_given f to to' a b ended (Some v) takes gave = (takes.0, (takes.1.0, gave))
+
+pub next_reads : (s : Standing) (o : Option Values) → s ≡ standing_after (Ok o)
+    → IfSome o (λ _. s ≡ Reads)
+next_reads s None is = tt
+next_reads s (Some v) is = is
+
+pub next_refused : (f : Format) (a b : List ℕ) (ended : Type 0) (e : FormFault)
+    → GaveFault (frame_walk f) a b ended e → OfRefusal (form_fault e) (IsNextRefusal f a b ended)
+next_refused f a b ended form.NoMemory g = tt
+next_refused f a b ended form.Device g = tt
+next_refused f a b ended form.BadMagic g =
+    record { part = g.part; grown = g.grown; says = g.says }
+next_refused f a b ended form.BadHeader g =
+    record { part = g.part; grown = g.grown; says = g.says }
+next_refused f a b ended form.UnsupportedForm g =
+    record { part = g.part; grown = g.grown; says = g.says }
+next_refused f a b ended form.BadFormat g =
+    record { part = g.part; grown = g.grown; says = g.says }
+next_refused f a b ended form.Truncated g =
+    record { part = g.part; grown = g.grown; says = g.says }
+next_refused f a b ended form.ValueTooLarge g =
+    record { part = g.part; grown = g.grown; says = g.says }
+
+-- ---- refusals
+
+-- of the next frame, behind others
+pub refused_behind : (count : ℕ) (f : Format) (vs : List Values) (a b c : List ℕ) (ended : Type 0)
+    → GaveFrames f vs a b → (r : Refusal) → IsNextRefusal f b c ended r
+    → IsReadRefusal count f a c ended r
+refused_behind count f vs a b c ended p (refusal.Form e) wrong =
+    record { pictures = vs; between = b; gave = p; fault = wrong }
+refused_behind count f vs a b c ended p r wrong = absurd wrong
+
+-- of the first one
+pub refused_next : (most : ℕ) (f : Format) (a b : List ℕ) (ended : Type 0) (r : Refusal)
+    → IsNextRefusal f a b ended r → IsOpenedRefusal most f a b ended r
+refused_next most f a b ended (refusal.Form e) wrong =
+    record { pictures = []; between = a; gave = gave_none f a; fault = wrong }
+refused_next most f a b ended r wrong = absurd wrong
+
+-- of those behind the first
+pub refused_first : (most : ℕ) (f : Format) (v : Values) (a b c : List ℕ) (ended : Type 0)
+    → GaveNext f a b ⊥ (Some v) → (r : Refusal) → IsReadRefusal 4294967295 f b c ended r
+    → IsOpenedRefusal most f a c ended r
+refused_first most f v a b c ended first (refusal.Form e) wrong = record {
+  pictures = v ∷ wrong.pictures;
+  between = wrong.between;
+  gave = gave_first f v wrong.pictures a b wrong.between first wrong.gave;
+  fault = wrong.fault;
+}
+refused_first most f v a b c ended first refusal.SendPictures wrong = record {
+  pictures = v ∷ wrong.pictures;
+  gave = gave_first f v wrong.pictures a b c first wrong.gave;
+  many = omega (arith, wrong.many);
+}
+refused_first most f v a b c ended first r wrong = absurd wrong

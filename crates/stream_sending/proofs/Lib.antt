@@ -1,0 +1,4 @@
+pub mod Frames
+pub mod Sendings
+pub mod Readings
+pub mod Written

@@ -1,0 +1,149 @@
+-- What was read is a stream, or has a first fault.
+use Rattle.std.proofs.Common.{◌≡◌, ℕ, inl, inr, List, [], ◌∷◌, ◌++◌, Result, Ok, Err, append_assoc}
+use Rattle.std.proofs.Common.{append-nil, sym, ap, subst, ◌∙◌}
+use Rattle.std.specs.Prelude.{IfErr}
+use Rattle.st_format.specs.declared.format.Format.{Format}
+use Rattle.st_format.specs.Fields.{fields_of}
+use Rattle.st_format.specs.Given.{GaveValue}
+use Rattle.st_format.specs.History.{IsRead}
+use Rattle.st_format.specs.Picture.{Values}
+use Rattle.st_format.proofs.Histories.{since_is}
+use Rattle.picture_forms.specs.declared.fault.FormFault.{FormFault}
+use Rattle.picture_forms.specs.declared.fault.FormFault.TheVariants as form
+use Rattle.picture_forms.specs.Faults.{IfContent}
+use Rattle.picture_forms.specs.Heads.{HasHead, head_walk}
+use Rattle.picture_forms.specs.Walks.{GaveFault}
+use Rattle.picture_forms.proofs.HeadIs.{head_found}
+use Rattle.run_outcome.proofs.Refusals.{if_err_map, of_refusal_map}
+use Rattle.run_outcome.specs.Refusing.{OfRefusal}
+use Rattle.run_outcome.specs.declared.fault.Fault.{Fault}
+use Rattle.run_outcome.specs.declared.refusal.Refusal.{Refusal}
+use Rattle.run_outcome.specs.declared.refusal.Refusal.TheVariants as refusal
+use Rattle.capture_engines.specs.declared.sender.Sending.{Sending}
+use Rattle.convert_engine.specs.Converting.{form_fault}
+use Rattle.convert_engine.proofs.Contents.{content_map, content_told}
+use Rattle.stream_sending.specs.Reading.{GaveFrames, IsOpenedRefusal, SendsOpened}
+use Rattle.stream_sending.specs.Sent.{IsFramesRefusal, SendsFrames}
+use Rattle.stream_sending.specs.Streams.{BeginsFrames, BeginsStream, IsStreamFault, IsStreamOf}
+
+-- what was read first, then, and is behind it
+two_parts : (a b c first next octets : List ℕ) (ended : Type 0) → b ≡ a ++ first → c ≡ b ++ next
+    → (q : IsRead a c ended octets) → octets ≡ first ++ (next ++ q.behind)
+two_parts a b c first next octets ended p r q =
+    let grown : c ≡ a ++ (first ++ next) =
+    r ∙ ap (λ (l : List ℕ). l ++ next) p ∙ append_assoc a first next in
+    q.parts ∙ ap (λ (l : List ℕ). l ++ q.behind) (since_is a c (first ++ next) grown)
+    ∙ append_assoc first next q.behind
+
+one_part : (a b first octets : List ℕ) (ended : Type 0) → b ≡ a ++ first
+    → (q : IsRead a b ended octets) → octets ≡ first ++ q.behind
+one_part a b first octets ended p q =
+    q.parts ∙ ap (λ (l : List ℕ). l ++ q.behind) (since_is a b first p)
+
+-- the head of what was read, and what is behind it
+head_of : (f : Format) (a b c next octets : List ℕ) (ended : Type 0)
+    → GaveValue head_walk a b (fields_of f) → c ≡ b ++ next → (q : IsRead a c ended octets)
+    → HasHead octets (next ++ q.behind) (fields_of f)
+head_of f a b c next octets ended h grown q =
+    head_found octets (next ++ q.behind) (fields_of f)
+    (ap head_walk (two_parts a b c h.part next octets ended h.grown grown q)
+    ∙ h.says (next ++ q.behind))
+
+-- ---- a stream to its end
+
+stream_read : (f : Format) (ps : List Values) (a b c : List ℕ) (ended : Type 0)
+    → GaveValue head_walk a b (fields_of f) → GaveFrames f ps b c → ended
+    → (octets : List ℕ) → IsRead a c ended octets → IsStreamOf octets f ps
+stream_read f ps a b c ended h g over octets q = record {
+  frames = g.part ++ q.behind;
+  head = head_of f a b c g.part octets ended h g.grown q;
+  are =
+      subst (λ (l : List ℕ). BeginsFrames f ps l (g.part ++ q.behind)) (q.all over)
+      (g.says q.behind);
+}
+
+pub frames_sent : (wanted : Sending) (text : List ℕ) (f : Format) (a b c : List ℕ)
+    (ended : Type 0) (old new : List ℕ) (count : ℕ) → GaveValue head_walk a b (fields_of f)
+    → SendsOpened wanted text f b c ended old new count
+    → SendsFrames (IsRead a c ended) wanted text old new count
+frames_sent wanted text f a b c ended old new count h sends = record {
+  format = f;
+  pictures = sends.pictures;
+  says = stream_read f sends.pictures a b c ended h sends.gave sends.over;
+  taken = sends.taken;
+}
+
+-- ---- a fault
+
+-- of the head
+pub head_refused : (most : ℕ) (a b : List ℕ) (ended : Type 0) (e : FormFault)
+    → GaveFault head_walk a b ended e
+    → OfRefusal (form_fault e) (IsFramesRefusal most (IsRead a b ended))
+head_refused most a b ended e g = by e (content_told e (IsRead a b ended)
+    (λ octets. IsStreamFault octets e)
+    (λ octets q. content_map e (head_walk (g.part ++ q.behind) ≡ Err e) (IsStreamFault octets e)
+    (λ x. inl (ap head_walk (one_part a b g.part octets ended g.grown q) ∙ x))
+    (g.says q.behind q.all)))
+  where
+    by : (x : FormFault)
+        → IfContent x ((octets : List ℕ) → IsRead a b ended octets → IsStreamFault octets x)
+        → OfRefusal (form_fault x) (IsFramesRefusal most (IsRead a b ended))
+    by form.NoMemory wrong = tt
+    by form.Device wrong = tt
+    by form.BadMagic wrong = wrong
+    by form.BadHeader wrong = wrong
+    by form.UnsupportedForm wrong = wrong
+    by form.BadFormat wrong = wrong
+    by form.Truncated wrong = wrong
+    by form.ValueTooLarge wrong = wrong
+
+more : (a b c first next : List ℕ) → b ≡ a ++ first → c ≡ b ++ next → c ≡ a ++ (first ++ next)
+more a b c first next p q = q ∙ ap (λ (l : List ℕ). l ++ next) p ∙ append_assoc a first next
+
+begun : (f : Format) (ps : List Values) (a b c d next octets : List ℕ) (ended : Type 0)
+    → GaveValue head_walk a b (fields_of f) → (g : GaveFrames f ps b c) → d ≡ c ++ next
+    → (q : IsRead a d ended octets) → BeginsStream octets f ps (next ++ q.behind)
+begun f ps a b c d next octets ended h g grown q = record {
+  frames = (g.part ++ next) ++ q.behind;
+  head = head_of f a b d (g.part ++ next) octets ended h
+      (more b c d g.part next g.grown grown) q;
+  are =
+      subst (λ (l : List ℕ). BeginsFrames f ps (next ++ q.behind) l)
+      (sym (append_assoc g.part next q.behind)) (g.says (next ++ q.behind));
+}
+
+-- behind the head
+opened_refused : (most : ℕ) (f : Format) (a b c : List ℕ) (ended : Type 0)
+    → GaveValue head_walk a b (fields_of f) → (r : Refusal) → IsOpenedRefusal most f b c ended r
+    → IsFramesRefusal most (IsRead a c ended) r
+opened_refused most f a b c ended h (refusal.Form e) wrong = λ octets q. inr (record {
+  format = f;
+  before = wrong.pictures;
+  rest = wrong.fault.part ++ q.behind;
+  begins = begun f wrong.pictures a b wrong.between c wrong.fault.part octets ended h wrong.gave
+      wrong.fault.grown q;
+  fault = wrong.fault.says q.behind q.all;
+})
+opened_refused most f a b c ended h (refusal.Plan e) wrong = (
+  f,
+  (λ octets q. (
+    q.behind,
+    head_of f a b c [] octets ended h (wrong.0 ∙ sym (append-nil b)) q,
+  )),
+  wrong.1,
+)
+opened_refused most f a b c ended h refusal.SendPictures wrong = λ octets q. record {
+  format = f;
+  pictures = wrong.pictures;
+  rest = q.behind;
+  begins = begun f wrong.pictures a b c c [] octets ended h wrong.gave (sym (append-nil c)) q;
+  many = wrong.many;
+}
+opened_refused most f a b c ended h r wrong = absurd wrong
+
+pub frames_refused : {V : Type 0} (most : ℕ) (f : Format) (r : Result V Fault) (a b c : List ℕ)
+    (ended : Type 0) → GaveValue head_walk a b (fields_of f)
+    → IfErr r (λ e. OfRefusal e (IsOpenedRefusal most f b c ended))
+    → IfErr r (λ e. OfRefusal e (IsFramesRefusal most (IsRead a c ended)))
+frames_refused most f r a b c ended h wrong =
+    if_err_map r (λ e is. of_refusal_map e (opened_refused most f a b c ended h) is) wrong

@@ -1,0 +1,86 @@
+-- What `send` of a stream writes, and which refusal ends it (own). The octets that were read of the
+-- stream are told by a predicate, as those of a picture's file are.
+use Rattle.std.specs.Prelude.{◌≡◌, ℕ, ◌⊎◌, Bool, true, false, List, [], ◌∷◌, ◌++◌, length, Option}
+use Rattle.st_format.specs.Device.{capped}
+use Rattle.st_format.specs.Fields.{fields_of}
+use Rattle.st_format.specs.Picture.{Values}
+use Rattle.st_format.specs.declared.format.Format.{Format}
+use Rattle.media_file.specs.Writer.{written_text}
+use Rattle.packet_plan.specs.Sender.{SendsFrom}
+use Rattle.picture_forms.specs.Heads.{HasHead}
+use Rattle.run_outcome.specs.Line.{line_text}
+use Rattle.run_outcome.specs.Pictures.{IsPlanFault}
+use Rattle.run_outcome.specs.TextRefusals.{IsTextOfRun, SaysText}
+use Rattle.run_outcome.specs.declared.line.Line.TheVariants as line
+use Rattle.run_outcome.specs.declared.refusal.Refusal.{Refusal}
+use Rattle.run_outcome.specs.declared.refusal.Refusal.TheVariants as refusal
+use Rattle.capture_engines.specs.Sending.{run_sender}
+use Rattle.capture_engines.specs.Typed.{IsTypedBy}
+use Rattle.capture_engines.specs.declared.sender.Sending.{Sending}
+use Rattle.stream_sending.specs.Streams.{HasFrames, IsStreamFault, IsStreamOf}
+
+-- ---- what is written
+
+-- A sink took the capture of a text and of the datagrams of pictures of this format, which are so
+-- many: of the k-th as frame k, all by raster plans, the packets' numbers running on.
+pub record TakesStream (wanted : Sending) (text : List ℕ) (f : Format) (pictures : List Values)
+    (old new : List ℕ) (count : ℕ) : Type 0 where
+  pub datagrams : List (List ℕ)
+  pub sent : SendsFrom (run_sender f wanted) 0 pictures wanted.first datagrams
+  pub taken : new ≡ old ++ written_text wanted.paths text datagrams
+  pub count_is : count ≡ capped (length datagrams)
+
+-- so it is of the pictures of a stream; where there is none, nothing is written
+abbrev pub TakesFrames : Sending → List ℕ → Format → List Values → List ℕ → List ℕ → ℕ → Type 0
+TakesFrames wanted text f [] old new count = (new ≡ old) × (count ≡ 0)
+TakesFrames wanted text f (p ∷ ps) old new count =
+    TakesStream wanted text f (p ∷ ps) old new count
+
+-- a sink took the pictures of the stream that was read
+pub record SendsFrames (read : List ℕ → Type 0) (wanted : Sending) (text old new : List ℕ)
+    (count : ℕ) : Type 0 where
+  pub format : Format
+  pub pictures : List Values
+  pub says : (octets : List ℕ) → read octets → IsStreamOf octets format pictures
+  pub taken : TakesFrames wanted text format pictures old new count
+
+-- it is what is asked for, or the same with the payload type that the text says
+abbrev pub IsSentBy : Bool → Sending → List ℕ → Sending → Type 0
+IsSentBy true wanted text sending = IsTypedBy wanted text sending
+IsSentBy false wanted text sending = sending ≡ wanted
+
+-- A sink took the SDP's text and the pictures of the stream that was read, and to the output it was
+-- printed how many datagrams they are.
+pub record SendsStream {S : Type 0} (gave : S → List ℕ) (ended : S → Type 0) (by_sdp : Bool)
+    (wanted : Sending) (sdp sdp_later : Option S) (read : List ℕ → Type 0)
+    (old new printed printed_new : List ℕ) : Type 0 where
+  pub text : List ℕ
+  pub says : SaysText gave ended sdp sdp_later text
+  pub sending : Sending
+  pub sending_is : IsSentBy by_sdp wanted text sending
+  pub count : ℕ
+  pub frames : SendsFrames read sending text old new count
+  pub line : printed_new ≡ printed ++ (line_text (line.Sent count) ++ 10 ∷ [])
+
+-- ---- refusals
+
+-- what was read begins with the head of a stream of this format
+abbrev pub SaysHead : (List ℕ → Type 0) → Format → Type 0
+SaysHead read f = (octets : List ℕ) → read octets
+    → (frames : List ℕ) × HasHead octets frames (fields_of f)
+
+-- The refusals of a stream: its first fault; that its format has no plan; that it has more than
+-- 4,294,967,295 frames.
+abbrev pub IsFramesRefusal : ℕ → (List ℕ → Type 0) → Refusal → Type 0
+IsFramesRefusal most read (refusal.Form e) =
+    (octets : List ℕ) → read octets → IsStreamFault octets e
+IsFramesRefusal most read (refusal.Plan e) = (f : Format) × SaysHead read f × IsPlanFault most f e
+IsFramesRefusal most read refusal.SendPictures =
+    (octets : List ℕ) → read octets → HasFrames 4294967296 octets
+IsFramesRefusal most read r = ⊥
+
+-- the refusals of `send` of a stream: of the SDP text, where one is given, and those
+abbrev pub IsStreamRefusal : {S : Type 0} → ℕ → Option S → Option S → (S × S → List ℕ → Type 0)
+    → (List ℕ → Type 0) → Refusal → Type 0
+IsStreamRefusal most sdp sdp_later told read r =
+    IsTextOfRun told sdp sdp_later r ⊎ IsFramesRefusal most read r

@@ -1,0 +1,57 @@
+-- A YUV4MPEG2 stream as pictures, and the first fault of one.
+use Rattle.std.specs.Prelude.{◌≡◌, ℕ, ◌⊎◌, List, [], ◌∷◌, length, Result, Ok, Err}
+use Rattle.st_format.specs.declared.format.Format.{Format}
+use Rattle.st_format.specs.Fields.{fields_of}
+use Rattle.st_format.specs.Picture.{IsPicture, Values}
+use Rattle.picture_forms.specs.declared.fault.FormFault.{FormFault}
+use Rattle.picture_forms.specs.Frames.{frame_walk}
+use Rattle.picture_forms.specs.Heads.{HasHead, head_walk}
+use Rattle.picture_forms.specs.Layouts.{planes_text}
+
+-- Octets begin with a frame of this picture, of this format, and what is behind it is so.
+pub record BeginsFrame (f : Format) (v : Values) (Behind : List ℕ → Type 0) (octets : List ℕ)
+    : Type 0 where
+  pub rest : List ℕ
+  pub format : v.format ≡ f
+  pub picture : IsPicture v
+  pub frame : frame_walk f octets ≡ Ok (planes_text v, rest)
+  pub behind : Behind rest
+
+-- octets begin with the frames of these pictures, one after the other, and this is behind them
+abbrev pub BeginsFrames : Format → List Values → List ℕ → List ℕ → Type 0
+BeginsFrames f [] rest octets = octets ≡ rest
+BeginsFrames f (v ∷ vs) rest octets = BeginsFrame f v (BeginsFrames f vs rest) octets
+
+-- Octets are a stream of these pictures: a head of their format, the frames of all, in order, and
+-- nothing behind them.
+pub record IsStreamOf (octets : List ℕ) (f : Format) (pictures : List Values) : Type 0 where
+  pub frames : List ℕ
+  pub head : HasHead octets frames (fields_of f)
+  pub are : BeginsFrames f pictures [] frames
+
+-- octets begin with a head and with the frames of these pictures, and this is behind them
+pub record BeginsStream (octets : List ℕ) (f : Format) (pictures : List Values) (rest : List ℕ)
+    : Type 0 where
+  pub frames : List ℕ
+  pub head : HasHead octets frames (fields_of f)
+  pub are : BeginsFrames f pictures rest frames
+
+-- behind a head and whole frames there is this fault, the first
+pub record HasFrameFault (octets : List ℕ) (e : FormFault) : Type 0 where
+  pub format : Format
+  pub before : List Values
+  pub rest : List ℕ
+  pub begins : BeginsStream octets format before rest
+  pub fault : frame_walk format rest ≡ Err e
+
+-- the first fault of a stream: of its head, or of the first frame that isn't whole and right
+abbrev pub IsStreamFault : List ℕ → FormFault → Type 0
+IsStreamFault octets e = (head_walk octets ≡ Err e) ⊎ HasFrameFault octets e
+
+-- octets begin with a head and so many frames
+pub record HasFrames (count : ℕ) (octets : List ℕ) : Type 0 where
+  pub format : Format
+  pub pictures : List Values
+  pub rest : List ℕ
+  pub begins : BeginsStream octets format pictures rest
+  pub many : length pictures ≡ count
