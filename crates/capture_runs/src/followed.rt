@@ -28,7 +28,7 @@ use crate::replayed::Replayed;
 use crate::unplaced::UnplacedOutput;
 use command_end::{Command, Devices, Hints, Ran};
 use command_line::FollowWords;
-use devices::{FileOutput, OutputSink, Reading, Stream};
+use devices::{FileOutput, Meter, OutputSink, Reading, Stream};
 use follow_engine::{FollowAsked, check_words, follow_files};
 use frame_sinks::{Filling, FormSink};
 use recording_engines::FlowWords;
@@ -64,8 +64,12 @@ pub struct FollowCommand<'a> {
 
 impl<'a> FollowCommand<'a> {
     /// The command of these words, of which nothing is done yet but that the SDP is read; or that
-    /// there is no memory for its list of files.
-    pub fn new(rt: &'a HostRuntime, words: &'a FollowWords<'a>) -> Result<Self, AllocError>
+    /// there is no memory for its list of files. A meter is told how much is read.
+    pub fn new(
+        rt: &'a HostRuntime,
+        words: &'a FollowWords<'a>,
+        meter: &Meter,
+    ) -> Result<Self, AllocError>
         ensures { IfOk result ⟦<FollowCommand<'a> as Command>⟧.is_new }
     {
         let asked = asked(words);
@@ -73,11 +77,11 @@ impl<'a> FollowCommand<'a> {
             a: octets(words.a),
             b: octets(words.b),
         };
-        let sides = closed_sides(rt, words.recordings.as_slice())?;
+        let sides = closed_sides(rt, words.recordings.as_slice(), meter)?;
         let fill = octets(words.fill);
         let mut out = named_output(rt, words.out);
         let is_input = is_among(rt, words, &out);
-        let mut files = Files::new(rt);
+        let mut files = Files::new(rt, meter);
         let opened = open(
             rt,
             asked,
@@ -100,7 +104,7 @@ impl<'a> FollowCommand<'a> {
             sides,
             out,
             is_input,
-            output: OutputSink::beside(rt, words.out.unwrap_or("")),
+            output: OutputSink::beside(rt, words.out.unwrap_or("")).metered(meter),
         })
     }
 }
@@ -177,12 +181,13 @@ fn asked<'a>(words: &'a FollowWords<'a>) -> FollowAsked<'a> {
 fn closed_sides<'a>(
     rt: &'a HostRuntime,
     names: &[&'a str],
+    meter: &Meter,
 ) -> Result<Vec<FollowFile<'a>>, AllocError>
     ensures { IfOk result (λ sides. AreNewSides sides.items) }
 {
     let mut sides = Vec::new(rt.alloc());
     for name in names {
-        sides.push(Side::closed(Replayed::once(rt, name)))?;
+        sides.push(Side::closed(Replayed::once(rt, name, meter)))?;
     }
     Ok(sides)
 }
@@ -347,6 +352,7 @@ impl<'a> Command for FollowCommand<'a> {
 
     fn run(&mut self) -> Ran {
         let outcome = self.follow_opened();
+        self.output.clear();
         Ran {
             outcome,
             is_whole: settle(&mut self.out, outcome.is_ok()),
