@@ -399,6 +399,12 @@ const FOLLOWED: &[Word] = &[
             pixmaps; - is standard output, and the lines then go to standard error",
     },
     Word {
+        name: "report",
+        usage: Usage::Optional("FILE"),
+        help: "Where it is written what is missing and contested of each frame, as report tells it \
+            of a receiver's; - is standard output, likewise",
+    },
+    Word {
         name: "fill",
         usage: Usage::Optional("A,B,C"),
         help: "For a sample that is missing or contested, a value of each component: Y, Cb and Cr, \

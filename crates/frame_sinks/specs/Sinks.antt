@@ -1,8 +1,12 @@
--- What a sink of pictures does with a frame.
+-- What sinks do with a frame (own).
 use Rattle.std.specs.Prelude.{◌≡◌, ◌⊎◌, ℕ, List, ◌++◌, Some, take}
+use Rattle.std.specs.List.{flat_map}
 use Rattle.following.specs.Following.{Handed}
+use Rattle.frame_report.specs.Report.{frame_text}
+use Rattle.frame_sinks.specs.declared.both.BothSinks.{BothSinks}
 use Rattle.frame_sinks.specs.Pictures.{head_for, held_by, picture_of}
 use Rattle.frame_sinks.specs.declared.form_sink.FormSink.{FormSink}
+use Rattle.frame_sinks.specs.declared.report_sink.ReportSink.{ReportSink}
 use Rattle.settled_forms.specs.Settled.{form_text}
 use Rattle.st_format.specs.Device.{GrowsPart}
 
@@ -30,3 +34,25 @@ FailsFrame took k h l =
 pub record GrowsSome (old new octets : List ℕ) : Type 0 where
   pub count : ℕ
   pub grown : new ≡ old ++ take count octets
+
+-- ---- what frames lack
+
+-- what a receiver's report has of a frame
+abbrev pub lines_of : Handed → List ℕ
+lines_of h = frame_text h.timestamp h.frame
+
+-- so of frames, one behind the other
+abbrev pub frames_report : List Handed → List ℕ
+frames_report frames = flat_map lines_of frames
+
+-- It took a frame: the sink of octets below it took what a report has of it.
+abbrev pub TakesLines : {K : Type 0} → (K → List ℕ) → ReportSink K → Handed → ReportSink K
+    → Type 0
+TakesLines took k h l = took l.sink ≡ took k.sink ++ lines_of h
+
+-- ---- two sinks
+
+-- Both took a frame.
+abbrev pub TakesBoth : {P Q : Type 0} → (P → Handed → P → Type 0) → (Q → Handed → Q → Type 0)
+    → BothSinks P Q → Handed → BothSinks P Q → Type 0
+TakesBoth first second k h l = first k.first h l.first × second k.second h l.second

@@ -11,14 +11,18 @@ ghost use Rattle.follow_engine.specs.declared.telling.FollowTotals.{FollowTotals
 ghost use Rattle.following.specs.Follower.{opened};
 ghost use Rattle.following.specs.Following.{Handed};
 ghost use Rattle.frame_sinks.specs.Pictures.{form_stream, pictures_of};
-ghost use Rattle.frame_sinks.specs.Sinks.{FailsFrame, GrowsSome, TakesFrame};
+ghost use Rattle.frame_sinks.specs.Sinks.{FailsFrame, GrowsSome, TakesBoth, TakesFrame, TakesLines};
+ghost use Rattle.frame_sinks.specs.Sinks.{frames_report};
+ghost use Rattle.frame_sinks.specs.declared.both.BothSinks.{BothSinks};
 ghost use Rattle.frame_sinks.specs.declared.form_sink.FormSink.{FormSink};
+ghost use Rattle.frame_sinks.specs.declared.report_sink.ReportSink.{ReportSink};
 ghost use Rattle.picture_forms.specs.Layouts.{IsRgb, IsYcc, pixmap_text, y4m_text};
 ghost use Rattle.run_outcome.specs.declared.refusal.Refusal.{Refusal};
 ghost use Rattle.side_by_side.specs.declared.side.Side.{Side};
 ghost use Rattle.st_format.specs.declared.format.Format.{Format};
 ghost use Rattle.st_format.specs.Picture.{Values};
 
+use follow_engine::PictureSink;
 use st_format::{ByteSink, ByteSource};
 use std::alloc::Allocator;
 
@@ -70,4 +74,18 @@ pub fn one_format()
     ensures rgb { (f : Format) (ps : List Values) → IsRgb f.sampling →
         AllByRecursion (λ q. q.format ≡ f) ps →
         form_stream None ps ≡ flat_map pixmap_text ps }
+{}
+
+/// What is written of frames that a sink of what they lack takes one after the other is what a
+/// report has of each, octet for octet.
+pub fn reported<K: ByteSink>()
+    ensures { (k l : ReportSink K) (hs : List Handed) → TakesAll (TakesLines K.took) k hs l
+        → K.took l.sink ≡ K.took k.sink ++ frames_report hs }
+{}
+
+/// Frames that two sinks take as one are those that each of them takes.
+pub fn both<P: PictureSink + Drop, Q: PictureSink + Drop>()
+    ensures { (k l : BothSinks P Q) (hs : List Handed) →
+        TakesAll (TakesBoth P.takes Q.takes) k hs l →
+        TakesAll P.takes k.first hs l.first × TakesAll Q.takes k.second hs l.second }
 {}
