@@ -65,9 +65,11 @@ pub(crate) fn look_at<'a>(
         files: Vec::new(rt.alloc()),
         have_capture: false,
     };
+    meter.expect_again();
     for name in names {
         looked.add(Replayed::first(rt, name, meter))?;
     }
+    meter.begin_again();
     Ok(looked)
 }
 

@@ -35,7 +35,8 @@ pub struct FileSource<'a> {
     is_packed: bool,
     /// Why it failed last.
     fault: Option<io::Error>,
-    /// What is told how much was read, and how many octets it was told of.
+    /// What is told how much was read, and how many octets it was told of: those too that were read
+    /// ahead.
     meter: Meter,
     metered: u64,
 }
@@ -163,9 +164,9 @@ impl<'a> FileSource<'a> {
         self.octet = self.octet.saturating_add(n as u64);
         if is_asked {
             // (only where the system was asked, which takes longer than to look at a clock)
-            let octets = self.octet.saturating_sub(self.metered);
-            self.meter.count(self.rt, octets);
-            self.metered = self.octet;
+            let read = self.octet.saturating_add(file.buffer().len() as u64);
+            self.meter.count(self.rt, read.saturating_sub(self.metered));
+            self.metered = read;
         }
         if n == 0 && !buf.is_empty() {
             self.progress = Progress::Past;

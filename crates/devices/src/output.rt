@@ -40,9 +40,9 @@ impl<W: Write + Drop> OutputSink<W> {
     /// The same beside a meter, whose line is taken from a terminal before anything is written.
     pub fn metered(self, meter: &Meter) -> Self
         ensures failures { ⟦<OutputSink<W> as ByteSink>⟧.failures result
-            ≡ ⟦<OutputSink<W> as ByteSink>⟧.failures self.entry }
+            ≡ ⟦<OutputSink<W> as ByteSink>⟧.failures self }
         ensures took { ⟦<OutputSink<W> as ByteSink>⟧.took result
-            ≡ ⟦<OutputSink<W> as ByteSink>⟧.took self.entry }
+            ≡ ⟦<OutputSink<W> as ByteSink>⟧.took self }
     {
         let mut sink = self;
         sink.meter = meter.share();
