@@ -1,4 +1,4 @@
-pub mod Frames
+pub mod FramesRead
 pub mod Sendings
 pub mod Readings
 pub mod Written

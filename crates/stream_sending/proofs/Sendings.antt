@@ -16,7 +16,7 @@ use Rattle.capture_engines.specs.declared.sender.Sending.{Sending}
 use Rattle.capture_engines.proofs.Sendings.{has_more, none_sent, sends_from}
 use Rattle.stream_sending.specs.Reading.{GaveFrames, GaveNext}
 use Rattle.stream_sending.specs.Sent.{TakesStream}
-use Rattle.stream_sending.proofs.Frames.{gave_more, gave_none}
+use Rattle.stream_sending.proofs.FramesRead.{gave_more, gave_none}
 
 -- Of a stream so many pictures were sent, and one more was read, which is here: what a source gave
 -- behind the first was `before`, and is `now`.

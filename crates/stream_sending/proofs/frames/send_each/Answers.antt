@@ -1,7 +1,7 @@
 use Rattle.std.proofs.Common.{◌∙◌, ap, arith, refl, sym}
 use Rattle.std.proofs.lemmas.Result.{err_from_is_err_and}
 use Rattle.run_outcome.proofs.Refusals.{of_refusal_map}
-use Rattle.stream_sending.proofs.Frames.{gave_end, refused_behind}
+use Rattle.stream_sending.proofs.FramesRead.{gave_end, refused_behind}
 use Rattle.stream_sending.proofs.Sendings.{all_so_far, more_so_far, none_so_far}
 use Rattle.stream_sending.proofs.frames.send_each.Goals as goal
 
