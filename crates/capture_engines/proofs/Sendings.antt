@@ -25,7 +25,7 @@ use Rattle.media_file.specs.Writer.{entries_from, entries_of, moment_after, mome
 use Rattle.media_file.specs.Writer.{written_text}
 use Rattle.media_file.specs.declared.front.Version.TheVariants.{Two}
 use Rattle.media_file.specs.declared.paths.Paths.{Paths}
-use Rattle.packet_plan.specs.Plan.{RasterPlan}
+use Rattle.packet_plan.specs.Plan.{IsSize, RasterPlan}
 use Rattle.packet_plan.specs.Sending.{PutsPart, PutsPicture}
 use Rattle.packet_plan.specs.Sender.{IsNext, SendsFrom, Sender, stamp_of}
 use Rattle.packet_plan.specs.Sent.{AreSent, IsSentPicture}
@@ -405,12 +405,13 @@ rest_sent {S} told took k start here old now so_far all whole = record {
 pub first_and_rest_sent : {S A K : Type 0} {G : Ghosts K} (told : S × S → List ℕ → Type 0)
     (took : K → List ℕ) (wanted : Sending) (text : List ℕ) (p : Values)
     (sources later : List S) (start last_took : List ℕ) (count : ℕ) (first last : Sends A K G)
-    → length sources < 10000 → HasSent took wanted text start (p ∷ []) first
+    → length sources < 10000 → IsSize wanted.max_octets p.format
+    → HasSent took wanted text start (p ∷ []) first
     → SendsRest told took sources later first last → last_took ≡ took last.writer.sink
     → count ≡ last.sent
     → SendsFirstAndRest told wanted text p sources later start last_took count
 first_and_rest_sent {S} {A} {K} {G} told took wanted text p sources later start last_took count
-    first last few begun rest same counts =
+    first last few limits begun rest same counts =
     let ps : List Values = p ∷ rest.pictures in
     let has : HasSent took wanted text start ps last =
     rest.sent.sent wanted text start (p ∷ []) refl begun in
@@ -421,6 +422,7 @@ first_and_rest_sent {S} {A} {K} {G} told took wanted text p sources later start 
       rest = rest.pictures;
       say = rest.say;
       taken = record {
+        limits = limits;
         datagrams = has.datagrams;
         sent = record {
           few = omega (arith, few, long);

@@ -7,7 +7,7 @@ use Rattle.st_format.specs.declared.device.ByteSink.{Ghosts}
 use Rattle.st_format.specs.declared.format.Format.{Format}
 use Rattle.st_format.specs.Device.{capped}
 use Rattle.media_file.specs.Writer.{moment_after, written_text}
-use Rattle.packet_plan.specs.Plan.{RasterPlan}
+use Rattle.packet_plan.specs.Plan.{IsSize, RasterPlan}
 use Rattle.packet_plan.specs.Sender.{IsNext, IsSenderList, Sender, stamp_of}
 use Rattle.run_outcome.specs.Line.{line_text}
 use Rattle.run_outcome.specs.Pictures.{SaysPicture}
@@ -99,9 +99,11 @@ pub record SendsEach {S A K : Type 0} {G : Ghosts K} (told : S × S → List ℕ
   pub rest : SendsRest told took sources later between new
 
 -- A sink took the capture of a text and of the datagrams of pictures, which are so many: of the
--- k-th as frame k, all by raster plans, the packets' numbers running on.
+-- k-th as frame k, all by raster plans, the packets' numbers running on. The size of packets that
+-- is asked for is one that plans are made for.
 pub record TakesCapture (wanted : Sending) (text : List ℕ) (format : Format)
     (pictures : List Values) (old new : List ℕ) (count : ℕ) : Type 0 where
+  pub limits : IsSize wanted.max_octets format
   pub datagrams : List (List ℕ)
   pub sent : IsSenderList datagrams (run_sender format wanted) wanted.first pictures
   pub taken : new ≡ old ++ written_text wanted.paths text datagrams

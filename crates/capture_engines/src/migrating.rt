@@ -5,6 +5,7 @@ ghost use Rattle.capture_engines.specs.Migrating.{LeavesBy, MovesBy, PrintsMigra
 ghost use Rattle.capture_engines.specs.MigrateRefused.{IsCaptureRefusal, IsMigrateRefusal};
 ghost use Rattle.run_outcome.specs.Refusing.{OfRefusal};
 ghost use Rattle.run_outcome.specs.Text.{GivesText};
+ghost use Rattle.run_outcome.specs.TextRefusals.{SaysCaptureText};
 ghost use Rattle.media_file.specs.Migrated.{MigratedRead};
 ghost use Rattle.st_format.specs.History.{IsRead};
 
@@ -39,6 +40,9 @@ where
         (GivesText 65535 (D.gave sdp.old) (D.gave sdp.new) (D.ended sdp.new))
         (S.gave source.old) (S.gave source.new) (S.ended source.new)
         (K.took sink.old) (K.took sink.new) (O.took output.old) (O.took output.new)) }
+    // The text describes a video.
+    ensures described { OnOk result (SaysCaptureText
+        (IsRead (D.gave sdp.old) (D.gave sdp.new) (D.ended sdp.new))) }
     ensures refusal { IfErr result (λ f. OfRefusal f (IsMigrateRefusal
         (IsRead (D.gave sdp.old) (D.gave sdp.new) (D.ended sdp.new))
         (IsRead (S.gave source.old) (S.gave source.new) (S.ended source.new)))) }

@@ -3,6 +3,7 @@ ghost use Rattle.std.specs.Prelude.{◌≡◌, ◌+◌, ◌≤◌, ◌<◌, ◌�
 ghost use Rattle.std.specs.Prelude.{length, sum_by, take, vec_len};
 ghost use Rattle.std.specs.Io.KnownBytes.{IsAtEnd};
 ghost use Rattle.std.specs.List.{zip};
+ghost use Rattle.packet_plan.specs.Plan.{IsSize};
 ghost use Rattle.run_outcome.specs.Moments.{WasRead};
 ghost use Rattle.run_outcome.specs.Fault.{Accounts, IfRefused, counts, failures_in};
 ghost use Rattle.run_outcome.specs.Refusing.{OfRefusal};
@@ -154,6 +155,7 @@ fn send_first_and_rest<A: Allocator, S: ByteSource, K: ByteSink>(
     requires few { length pictures.old ≤ 10000 }
     requires payload_type { wanted.payload_type ≤ 127 }
     requires alike { picture.format ≡ plan.format }
+    requires limits { IsSize wanted.max_octets plan.format }
     requires empty { IsAtEnd (K.held sink.old) }
     requires room { length buf.old ≡ 65535 }
     ensures front { take 1 pictures.new ≡ take 1 pictures.old }
@@ -214,6 +216,7 @@ fn read_first<A: Allocator + Copy, S: ByteSource>(
     ensures len { length pictures.new ≡ length pictures.old }
     ensures behind { drop 1 pictures.new ≡ drop 1 pictures.old }
     ensures alike { IfOk result (λ first. first.0.format ≡ first.1.format) }
+    ensures limits { IfOk result (λ first. IsSize max_octets first.1.format) }
     ensures shows { IfOk result
         (λ first. FirstIs (λ s. SaysPicture (WasRead S.gave S.ended s) first.0)
         (zip pictures.old pictures.new)) }
@@ -227,6 +230,7 @@ fn read_first<A: Allocator + Copy, S: ByteSource>(
 {
     let picture = read_at(pictures, 0, Vec::new(alloc))?;
     let plan = Plan::new(alloc, picture.format(), max_octets)?;
+    plan.facts();
     Ok((picture, plan))
 }
 

@@ -1,12 +1,16 @@
--- The file below a sink of pictures.
-use Rattle.std.proofs.Common.{◌≡◌, ◌∙◌, ℕ, List, [], ◌∷◌, ◌++◌, Option, None, Some}
+-- The files below the sinks of `follow`.
+use Rattle.std.proofs.Common.{◌≡◌, ◌∙◌, ◌+◌, ℕ, List, [], ◌∷◌, ◌++◌, Option, None, Some}
 use Rattle.std.proofs.Common.{Result, Ok, Err}
 use Rattle.std.specs.Prelude.{IfOk, MatchResult}
 use Rattle.std.proofs.Common.{ap, append-nil, append_assoc, refl, subst, sym}
 use Rattle.capture_runs.specs.Followed.{FollowsFiles, IsListed}
+use Rattle.capture_runs.specs.Outputs.{AreSinksOver, FollowSinks, IsReportOver, SameOutputs}
+use Rattle.capture_runs.specs.Outputs.{TakesReport, outputs_under, report_failures, report_under}
+use Rattle.capture_runs.specs.Outputs.{sinks_failures, written_failures}
 use Rattle.capture_runs.specs.Pictured.{IsSinkOver, SameFile, TakesPictures, failures_under}
 use Rattle.capture_runs.specs.Pictured.{file_under, octets_under}
 use Rattle.capture_runs.specs.Replayed.{replayed_ended, replayed_gave}
+use Rattle.capture_runs.specs.declared.outputs.FollowOutputs.{FollowOutputs}
 use Rattle.capture_runs.specs.declared.unplaced.UnplacedOutput.{UnplacedOutput}
 use Rattle.capture_runs.specs.declared.replayed.Replayed.{Replayed}
 use Rattle.devices.specs.Passed.{file_took, writing_failures}
@@ -21,9 +25,11 @@ use Rattle.follow_engine.specs.declared.opening.FollowAsked.{FollowAsked}
 use Rattle.follow_engine.specs.declared.telling.FollowTotals.{FollowTotals}
 use Rattle.following.specs.Following.{Handed}
 use Rattle.frame_sinks.specs.Pictures.{form_stream, pictures_of}
-use Rattle.frame_sinks.specs.Sinks.{TakesFrame}
+use Rattle.frame_sinks.specs.Sinks.{TakesBoth, TakesFrame, TakesLines, frames_report}
 use Rattle.frame_sinks.specs.declared.filling.Filling.{Filling}
 use Rattle.frame_sinks.specs.declared.form_sink.FormSink.{FormSink}
+use Rattle.frame_sinks.specs.declared.report_sink.ReportSink.{ReportSink}
+use Rattle.frame_sinks.proofs.Shown.{all_both, all_lines}
 use Rattle.frame_sinks.proofs.Streams.{all_written}
 use Rattle.run_outcome.specs.Fault.{Accounts, counts, failures_in}
 use Rattle.run_outcome.specs.declared.fault.Fault.{Fault}
@@ -102,6 +108,25 @@ took_pictures filling fill (Some f) (Some k) l hs is all =
     TakesPictures filling fill hs (Some f) (file_under x)) (sym r.1)
     (sink_wrote filling fill f k r.0 hs is r.2)
 
+report_wrote : (f : FileOutput) (k m : ReportSink UnplacedOutput) (hs : List Handed)
+    → k.sink.file ≡ f → TakesAll (TakesLines octets_under) k hs m
+    → file_took m.sink.file ≡ file_took f ++ frames_report hs
+report_wrote f k m hs is all =
+    took_unplaced m.sink ∙ all_lines octets_under k m hs all
+    ∙ ap (λ (t : List ℕ). t ++ frames_report hs) (sym (took_unplaced k.sink))
+    ∙ ap (λ (x : FileOutput). file_took x ++ frames_report hs) is
+
+took_report : (out : Option FileOutput) (k l : Option (ReportSink UnplacedOutput))
+    (hs : List Handed) → IsReportOver out k → TakesAll (TakesIn (TakesLines octets_under)) k hs l
+    → TakesReport hs out (report_under l)
+took_report None k l hs is all =
+    ap report_under (none_stays (TakesLines octets_under) k l hs is all)
+took_report (Some f) None l hs is all = absurd is
+took_report (Some f) (Some k) l hs is all =
+    let r = some_took (TakesLines octets_under) k l hs all in
+    subst (λ (x : Option (ReportSink UnplacedOutput)). TakesReport hs (Some f) (report_under x))
+    (sym r.1) (report_wrote f k r.0 hs is r.2)
+
 -- ---- frames that are listed
 
 listed : (hs frames : List Handed) → TakesAll IsListed frames hs (frames ++ hs)
@@ -115,14 +140,18 @@ listed (h ∷ hs) frames = (
 
 pub follows_files : {A B : Type 0} (w : FollowAsked) (sdp : Option (List ℕ))
     (ways : List (Result Flows Refusal)) (files : List (Side B Replayed × Side B Replayed))
-    (filling : Filling) (fill : Option (List ℕ)) (out : Option FileOutput)
-    (k l : Option (FormSink UnplacedOutput A)) (took took' : List ℕ) (totals : FollowTotals)
-    → IsSinkOver filling fill out k
+    (filling : Filling) (fill : Option (List ℕ)) (o : FollowOutputs)
+    (k l : FollowSinks A) (took took' : List ℕ) (totals : FollowTotals)
+    → AreSinksOver filling fill o k
     → FollowsWhole w sdp ways (SideRead replayed_gave replayed_ended) files
-    (TakesIn (TakesFrame octets_under)) k l took took' totals
-    → FollowsFiles w sdp ways files filling fill out (file_under l) took took'
-follows_files w sdp ways files filling fill out k l took took' totals over is =
+    (TakesBoth (TakesIn (TakesFrame octets_under)) (TakesIn (TakesLines octets_under))) k l
+    took took' totals
+    → FollowsFiles w sdp ways files filling fill o (outputs_under l) took took'
+follows_files w sdp ways files filling fill o k l took took' totals over is =
     let frames : List Handed = frames_of_events (followed_events w is.opening is.entries) in
+    let both =
+    all_both (TakesIn (TakesFrame octets_under)) (TakesIn (TakesLines octets_under)) k l frames
+    is.shown in
     record {
       frames = frames;
       totals = totals;
@@ -138,30 +167,32 @@ follows_files w sdp ways files filling fill out k l took took' totals over is =
             shown = listed frames [];
             told_totals = is.told_totals;
           };
-      written = took_pictures filling fill out k l frames over is.shown;
+      written = took_pictures filling fill o.out k.first l.first frames over.0 both.0;
+      reported = took_report o.report k.second l.second frames over.1 both.1;
     }
 
 -- the same by other names of the text and of the ways
 pub follows_same : {A B : Type 0} (w : FollowAsked) (sdp sdp' : Option (List ℕ))
     (ways ways' : List (Result Flows Refusal))
     (files : List (Side B Replayed × Side B Replayed))
-    (k l : Option (FormSink UnplacedOutput A)) (took took' : List ℕ) (totals : FollowTotals)
+    (k l : FollowSinks A) (took took' : List ℕ) (totals : FollowTotals)
     → sdp ≡ sdp' → ways ≡ ways'
     → FollowsWhole w sdp ways (SideRead replayed_gave replayed_ended) files
-    (TakesIn (TakesFrame octets_under)) k l took took' totals
+    (TakesBoth (TakesIn (TakesFrame octets_under)) (TakesIn (TakesLines octets_under))) k l
+    took took' totals
     → FollowsWhole w sdp' ways' (SideRead replayed_gave replayed_ended) files
-    (TakesIn (TakesFrame octets_under)) k l took took' totals
+    (TakesBoth (TakesIn (TakesFrame octets_under)) (TakesIn (TakesLines octets_under))) k l
+    took took' totals
 follows_same w sdp sdp' ways ways' files k l took took' totals text way is =
+    let takes = TakesBoth (TakesIn (TakesFrame octets_under)) (TakesIn (TakesLines octets_under)) in
     subst (λ (x : Option (List ℕ)). FollowsWhole w x ways'
-    (SideRead replayed_gave replayed_ended) files (TakesIn (TakesFrame octets_under)) k l took
-    took' totals) text
+    (SideRead replayed_gave replayed_ended) files takes k l took took' totals) text
     (subst (λ (x : List (Result Flows Refusal)). FollowsWhole w sdp x
-    (SideRead replayed_gave replayed_ended) files (TakesIn (TakesFrame octets_under)) k l took
-    took' totals) way is)
+    (SideRead replayed_gave replayed_ended) files takes k l took took' totals) way is)
 
 -- ---- how often it failed
 
-pub failed_before : {A : Type 0} (filling : Filling) (fill : Option (List ℕ))
+failed_before : {A : Type 0} (filling : Filling) (fill : Option (List ℕ))
     (out : Option FileOutput) (k : Option (FormSink UnplacedOutput A))
     → IsSinkOver filling fill out k
     → failures_in failures_under k ≡ failures_in writing_failures out
@@ -169,10 +200,34 @@ failed_before filling fill None k is = ap (λ (x : Option _). failures_in failur
 failed_before filling fill (Some f) None is = absurd is
 failed_before filling fill (Some f) (Some k) is = ap writing_failures is.0
 
-pub failed_after : {A : Type 0} (l : Option (FormSink UnplacedOutput A))
+failed_after : {A : Type 0} (l : Option (FormSink UnplacedOutput A))
     → failures_in failures_under l ≡ failures_in writing_failures (file_under l)
 failed_after None = refl
 failed_after (Some l) = refl
+
+report_before : (out : Option FileOutput) (k : Option (ReportSink UnplacedOutput))
+    → IsReportOver out k → failures_in report_failures k ≡ failures_in writing_failures out
+report_before None k is = ap (λ (x : Option _). failures_in report_failures x) is
+report_before (Some f) None is = absurd is
+report_before (Some f) (Some k) is = ap writing_failures is
+
+report_after : (l : Option (ReportSink UnplacedOutput))
+    → failures_in report_failures l ≡ failures_in writing_failures (report_under l)
+report_after None = refl
+report_after (Some l) = refl
+
+pub sinks_before : {A : Type 0} (filling : Filling) (fill : Option (List ℕ)) (o : FollowOutputs)
+    (k : FollowSinks A) → AreSinksOver filling fill o k → sinks_failures k ≡ written_failures o
+sinks_before filling fill o k is =
+    ap (λ (n : ℕ). n + failures_in report_failures k.second)
+    (failed_before filling fill o.out k.first is.0)
+    ∙ ap (λ (n : ℕ). failures_in writing_failures o.out + n) (report_before o.report k.second is.1)
+
+pub sinks_after : {A : Type 0} (l : FollowSinks A)
+    → sinks_failures l ≡ written_failures (outputs_under l)
+sinks_after l =
+    ap (λ (n : ℕ). n + failures_in report_failures l.second) (failed_after l.first)
+    ∙ ap (λ (n : ℕ). failures_in writing_failures (file_under l.first) + n) (report_after l.second)
 
 -- the same of what a run came to
 pub accounts_file : {V : Type 0} (r : Result V Fault) (a a' b b' m m' c c' : ℕ) → b ≡ m → b' ≡ m'
@@ -184,7 +239,7 @@ accounts_file r a a' b b' m m' c c' before after is =
 
 -- ---- a file that is settled
 
-pub settled_pictures : (filling : Filling) (fill : Option (List ℕ)) (frames : List Handed)
+settled_pictures : (filling : Filling) (fill : Option (List ℕ)) (frames : List Handed)
     (out mid new : Option FileOutput) → TakesPictures filling fill frames out mid
     → SameFile mid new → TakesPictures filling fill frames out new
 settled_pictures filling fill frames None None new is same = same
@@ -193,27 +248,44 @@ settled_pictures filling fill frames (Some f) None new is same = absurd is
 settled_pictures filling fill frames (Some f) (Some g) None is same = absurd same
 settled_pictures filling fill frames (Some f) (Some g) (Some h) is same = same.0 ∙ is
 
-pub settled_failures : (mid new : Option FileOutput) → SameFile mid new
+settled_report : (frames : List Handed) (out mid new : Option FileOutput)
+    → TakesReport frames out mid → SameFile mid new → TakesReport frames out new
+settled_report frames None None new is same = same
+settled_report frames None (Some g) new is same = absurd cc
+settled_report frames (Some f) None new is same = absurd is
+settled_report frames (Some f) (Some g) None is same = absurd same
+settled_report frames (Some f) (Some g) (Some h) is same = same.0 ∙ is
+
+settled_failures : (mid new : Option FileOutput) → SameFile mid new
     → failures_in writing_failures new ≡ failures_in writing_failures mid
 settled_failures None new same = ap (failures_in writing_failures) same
 settled_failures (Some f) None same = absurd same
 settled_failures (Some f) (Some g) same = same.1
 
-pub settled_follows : {A : Type 0} (w : FollowAsked) (sdp : Option (List ℕ))
+settled_written : (mid new : FollowOutputs) → SameOutputs mid new
+    → written_failures new ≡ written_failures mid
+settled_written mid new same =
+    ap (λ (n : ℕ). n + failures_in writing_failures new.report)
+    (settled_failures mid.out new.out same.0)
+    ∙ ap (λ (n : ℕ). failures_in writing_failures mid.out + n)
+    (settled_failures mid.report new.report same.1)
+
+settled_follows : {A : Type 0} (w : FollowAsked) (sdp : Option (List ℕ))
     (ways : List (Result Flows Refusal)) (files : List (Side A Replayed × Side A Replayed))
-    (filling : Filling) (fill : Option (List ℕ)) (out mid new : Option FileOutput)
+    (filling : Filling) (fill : Option (List ℕ)) (out mid new : FollowOutputs)
     (took took' : List ℕ) → FollowsFiles w sdp ways files filling fill out mid took took'
-    → SameFile mid new → FollowsFiles w sdp ways files filling fill out new took took'
+    → SameOutputs mid new → FollowsFiles w sdp ways files filling fill out new took took'
 settled_follows w sdp ways files filling fill out mid new took took' is same = record {
   frames = is.frames;
   totals = is.totals;
   follows = is.follows;
-  written = settled_pictures filling fill is.frames out mid new is.written same;
+  written = settled_pictures filling fill is.frames out.out mid.out new.out is.written same.0;
+  reported = settled_report is.frames out.report mid.report new.report is.reported same.1;
 }
 
 -- ---- a run that is refused before it begins
 
-pub refused_first : (f : Fault) (out : Option FileOutput) (took : List ℕ)
+pub refused_first : (f : Fault) (out : FollowOutputs) (took : List ℕ)
     → OfRefusal f (λ r. (f ≡ Refused r) × (out ≡ out) × (took ≡ took))
 refused_first (Refused r) out took = (refl, refl, refl)
 refused_first Device out took = tt
@@ -224,7 +296,7 @@ refused_first Memory out took = tt
 pub done_settled : {A : Type 0} (opened : Result (Option (List ℕ)) Fault) (w : FollowAsked)
     (sdp : Option (List ℕ)) (ways : List (Result Flows Refusal))
     (files : List (Side A Replayed × Side A Replayed)) (filling : Filling)
-    (out mid new : Option FileOutput) (took took' : List ℕ) → SameFile mid new
+    (out mid new : FollowOutputs) (took took' : List ℕ) → SameOutputs mid new
     → IfOk opened (λ fill. FollowsFiles w sdp ways files filling fill out mid took took')
     → IfOk opened (λ fill. FollowsFiles w sdp ways files filling fill out new took took')
 done_settled (Ok fill) w sdp ways files filling out mid new took took' same is =
@@ -232,23 +304,20 @@ done_settled (Ok fill) w sdp ways files filling out mid new took took' same is =
 done_settled (Err f) w sdp ways files filling out mid new took took' same is = tt
 
 pub refused_settled : {V : Type 0} (opened : Result V Fault) (P Q : Type 0) (r : Refusal)
-    (old mid new : Option FileOutput) → SameFile mid new
+    (old mid new : FollowOutputs) → SameOutputs mid new
     → MatchResult opened (λ _. P) (λ g. (g ≡ Refused r) × (mid ≡ old) × Q)
-    → MatchResult opened (λ _. P) (λ g. (g ≡ Refused r) × SameFile old new × Q)
+    → MatchResult opened (λ _. P) (λ g. (g ≡ Refused r) × SameOutputs old new × Q)
 refused_settled (Ok v) P Q r old mid new same is = is
 refused_settled (Err g) P Q r old mid new same is =
-    (is.0, subst (λ (x : Option FileOutput). SameFile x new) is.1 same, is.2)
+    (is.0, subst (λ (x : FollowOutputs). SameOutputs x new) is.1 same, is.2)
 
 pub owed_settled : {V W : Type 0} (opened : Result V Fault) (o : Result W Fault) (a a' c c' : ℕ)
-    (out mid new : Option FileOutput) → SameFile mid new
+    (out mid new : FollowOutputs) → SameOutputs mid new
     → MatchResult opened (λ _. Accounts o (counts a a'
-    ∷ counts (failures_in writing_failures out) (failures_in writing_failures mid)
-    ∷ counts c c' ∷ [])) (λ f. o ≡ Err f)
+    ∷ counts (written_failures out) (written_failures mid) ∷ counts c c' ∷ [])) (λ f. o ≡ Err f)
     → MatchResult opened (λ _. Accounts o (counts a a'
-    ∷ counts (failures_in writing_failures out) (failures_in writing_failures new)
-    ∷ counts c c' ∷ [])) (λ f. o ≡ Err f)
+    ∷ counts (written_failures out) (written_failures new) ∷ counts c c' ∷ [])) (λ f. o ≡ Err f)
 owed_settled (Ok v) o a a' c c' out mid new same is =
-    accounts_file o a a' (failures_in writing_failures out) (failures_in writing_failures mid)
-    (failures_in writing_failures out) (failures_in writing_failures new) c c' refl
-    (sym (settled_failures mid new same)) is
+    accounts_file o a a' (written_failures out) (written_failures mid) (written_failures out)
+    (written_failures new) c c' refl (sym (settled_written mid new same)) is
 owed_settled (Err f) o a a' c c' out mid new same is = is

@@ -1,12 +1,13 @@
 -- What `follow` opens on this machine, and refuses before it reads files (own).
 use Rattle.std.specs.Prelude.{◌≡◌, ◌⊎◌, ℕ, Bool, List, [], ◌∷◌, ◌++◌, IsTrue, Option, Result}
 use Rattle.std.specs.List.{AllByRecursion}
+use Rattle.capture_runs.specs.Outputs.{TakesReport}
 use Rattle.capture_runs.specs.Pictured.{IsFillRefusal, TakesPictures}
 use Rattle.capture_runs.specs.Refused.{IsFlowRefusal, IsTooLong}
 use Rattle.capture_runs.specs.Replayed.{replayed_ended, replayed_gave}
 use Rattle.capture_runs.specs.declared.opening.Files.{Files}
+use Rattle.capture_runs.specs.declared.outputs.FollowOutputs.{FollowOutputs}
 use Rattle.capture_runs.specs.declared.replayed.Replayed.{Replayed}
-use Rattle.devices.specs.declared.file_output.FileOutput.{FileOutput}
 use Rattle.flow.specs.declared.flows.Flows.{Flows}
 use Rattle.follow_engine.specs.Followed.{FollowsWhole}
 use Rattle.follow_engine.specs.Opened.{AllClosedSides}
@@ -39,14 +40,16 @@ IsFollowOpening w fill is_input a b files r = IsWordRefusal w.frames w.ssrc.now 
 abbrev pub IsListed : List Handed → Handed → List Handed → Type 0
 IsListed frames h more = more ≡ frames ++ h ∷ []
 
--- The stream of these files was followed, and told; and the pictures of all frames that left it
--- were written, one behind the other, where there is a file for them.
+-- The stream of these files was followed, and told; and of all frames that left it the pictures
+-- were written, one behind the other, where there is a file for them, and what they lack, where
+-- there is one for that.
 pub record FollowsFiles {A : Type 0} (w : FollowAsked) (sdp : Option (List ℕ))
     (ways : List (Result Flows Refusal)) (files : List (Side A Replayed × Side A Replayed))
-    (filling : Filling) (fill : Option (List ℕ)) (out out' : Option FileOutput)
+    (filling : Filling) (fill : Option (List ℕ)) (outputs outputs' : FollowOutputs)
     (took took' : List ℕ) : Type 0 where
   pub frames : List Handed
   pub totals : FollowTotals
   pub follows : FollowsWhole w sdp ways (SideRead replayed_gave replayed_ended) files IsListed []
       frames took took' totals
-  pub written : TakesPictures filling fill frames out out'
+  pub written : TakesPictures filling fill frames outputs.out outputs'.out
+  pub reported : TakesReport frames outputs.report outputs'.report

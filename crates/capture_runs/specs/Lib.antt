@@ -7,3 +7,4 @@ pub mod Followed
 pub mod Looked
 pub mod Inspected
 pub mod Pictured
+pub mod Outputs

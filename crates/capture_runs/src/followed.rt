@@ -1,41 +1,41 @@
 //! `follow` over the devices of this machine.
-ghost use Rattle.std.specs.Prelude.{◌≡◌, ◌∷◌, [], Err, IfErr, IfOk, IfSome, IsFalse, MatchResult};
-ghost use Rattle.std.specs.Prelude.{OnOk, length};
+ghost use Rattle.std.specs.Prelude.{◌≡◌, ◌∷◌, [], Err, IfErr, IfOk, MatchResult, OnOk, length};
 ghost use Rattle.std.specs.List.{zip};
 ghost use Rattle.std.specs.Option.{option_copied};
 ghost use Rattle.capture_runs.specs.Followed.{AreNewSides, FollowsFiles, IsFollowOpening};
 ghost use Rattle.capture_runs.specs.Opened.{AreUnread, said_text};
-ghost use Rattle.capture_runs.specs.Pictured.{IsFillGiven, SameFile, failures_under, octets_under};
+ghost use Rattle.capture_runs.specs.Outputs.{AreApart, AreInPlace, AreLeft, AreUnplaced};
+ghost use Rattle.capture_runs.specs.Outputs.{AreUnwritten, SameOutputs, sinks_failures};
+ghost use Rattle.capture_runs.specs.Outputs.{written_failures};
+ghost use Rattle.capture_runs.specs.Pictured.{IsFillGiven, octets_under};
 ghost use Rattle.capture_runs.specs.Replayed.{replayed_ended, replayed_failures, replayed_gave};
-ghost use Rattle.devices.specs.Passed.{IsInPlace, IsUnplaced, file_took, output_failures};
-ghost use Rattle.devices.specs.Passed.{output_took, writing_failures};
+ghost use Rattle.devices.specs.Passed.{output_failures, output_took};
 ghost use Rattle.follow_engine.specs.Followed.{FollowsWhole};
 ghost use Rattle.follow_engine.specs.Refused.{IsFollowRefusal};
 ghost use Rattle.follow_engine.specs.Shown.{TakesIn};
 ghost use Rattle.follow_engine.specs.Sides.{SideRead};
 ghost use Rattle.follow_engine.specs.declared.telling.FollowTotals.{FollowTotals};
-ghost use Rattle.frame_sinks.specs.Sinks.{TakesFrame};
+ghost use Rattle.frame_sinks.specs.Sinks.{TakesBoth, TakesFrame, TakesLines};
 ghost use Rattle.recording_engines.specs.Ways.{AreWaysBy};
-ghost use Rattle.run_outcome.specs.Fault.{Accounts, counts, failures_in};
+ghost use Rattle.run_outcome.specs.Fault.{Accounts, counts};
 ghost use Rattle.run_outcome.specs.Refusing.{OfRefusal};
 ghost use Rattle.run_outcome.specs.declared.fault.Fault.TheVariants.{Refused};
 ghost use Rattle.side_by_side.specs.Sides.{failures_each};
 
-use crate::opening::{Files, is_read, text_of};
-use crate::pictured::{file_of, fill_said, find_place, named_output, settle, sink_over, writing};
+use crate::opening::{Files, text_of};
+use crate::outputs::{FollowOutputs, FollowSinks, outputs_of, sinks_over};
+use crate::pictured::fill_said;
 use crate::receiving::octets;
 use crate::replayed::Replayed;
-use crate::unplaced::UnplacedOutput;
 use command_end::{Command, Devices, Hints, Ran};
 use command_line::FollowWords;
-use devices::{FileOutput, OutputSink, Reading, Stream};
+use devices::{Meter, OutputSink, Reading, Stream};
 use follow_engine::{FollowAsked, check_words, follow_files};
-use frame_sinks::{Filling, FormSink};
+use frame_sinks::Filling;
 use recording_engines::FlowWords;
 use run_outcome::Fault;
 use side_by_side::Side;
 use std::alloc::{AllocError, Global};
-use std::mem;
 
 /// A file of `follow`, of this machine and in global memory.
 type FollowFile<'a> = Side<Global, Replayed<'a>>;
@@ -49,23 +49,27 @@ pub struct FollowCommand<'a> {
     /// How samples without a value are filled, and the text of the fill, where one is given.
     pub filling: Filling,
     pub fill: Option<&'a [u8]>,
-    /// The values of the fill, where its text is given; or that the words are refused, the file
-    /// can't be written, or the SDP not be read.
+    /// The values of the fill, where its text is given; or that the words are refused, a file can't
+    /// be written, or the SDP not be read.
     pub opened: Result<Option<[u16; 3]>, Fault>,
     /// The SDP, and by which flows each file is taken that is a recording.
     pub files: Files<'a>,
     pub sides: Vec<FollowFile<'a>>,
-    /// The file of the pictures, where they are written.
-    pub out: Option<FileOutput<'a>>,
-    /// Whether that is one of the files that are read.
+    /// The files that are written.
+    pub outputs: FollowOutputs<'a>,
+    /// Whether one of them is one of the files that are read.
     pub is_input: bool,
     pub output: OutputSink<Stream>,
 }
 
 impl<'a> FollowCommand<'a> {
     /// The command of these words, of which nothing is done yet but that the SDP is read; or that
-    /// there is no memory for its list of files.
-    pub fn new(rt: &'a HostRuntime, words: &'a FollowWords<'a>) -> Result<Self, AllocError>
+    /// there is no memory for its list of files. A meter is told how much is read.
+    pub fn new(
+        rt: &'a HostRuntime,
+        words: &'a FollowWords<'a>,
+        meter: &Meter,
+    ) -> Result<Self, AllocError>
         ensures { IfOk result ⟦<FollowCommand<'a> as Command>⟧.is_new }
     {
         let asked = asked(words);
@@ -73,16 +77,16 @@ impl<'a> FollowCommand<'a> {
             a: octets(words.a),
             b: octets(words.b),
         };
-        let sides = closed_sides(rt, words.recordings.as_slice())?;
+        let sides = closed_sides(rt, words.recordings.as_slice(), meter)?;
         let fill = octets(words.fill);
-        let mut out = named_output(rt, words.out);
-        let is_input = is_among(rt, words, &out);
-        let mut files = Files::new(rt);
+        let mut outputs = FollowOutputs::new(rt, words);
+        let is_input = outputs.are_read(rt, words);
+        let mut files = Files::new(rt, meter);
         let opened = open(
             rt,
             asked,
             fill,
-            &mut out,
+            &mut outputs,
             is_input,
             flows,
             words.sdp,
@@ -98,9 +102,9 @@ impl<'a> FollowCommand<'a> {
             opened,
             files,
             sides,
-            out,
+            outputs,
             is_input,
-            output: OutputSink::beside(rt, words.out.unwrap_or("")),
+            output: OutputSink::beside(rt, beside(words)).metered(meter),
         })
     }
 }
@@ -109,25 +113,24 @@ impl FollowCommand<'_> {
     /// Follows, where nothing is refused yet.
     fn follow_opened(&mut self) -> Result<(), Fault>
         requires new { AreNewSides self.old.sides.items }
-        requires unplaced { IfSome self.old.out (λ f. IsUnplaced f) }
+        requires unplaced { AreUnplaced self.old.outputs }
         ensures done { OnOk result (IfOk self.old.opened (λ values. FollowsFiles self.old.asked
             (said_text self.old.files.said) self.old.files.ways.items
             (zip self.old.sides.items self.new.sides.items) self.old.filling values
-            self.old.out self.new.out
+            self.old.outputs self.new.outputs
             (output_took self.old.output) (output_took self.new.output))) }
-        ensures unplaced { IfSome self.new.out (λ f. IsUnplaced f) }
+        ensures unplaced { AreUnplaced self.new.outputs }
         ensures refusal { IfErr result (λ f. OfRefusal f (λ r. MatchResult self.old.opened
             (λ _. IsFollowRefusal self.old.asked.frames self.old.asked.ssrc.now
             (said_text self.old.files.said) self.old.files.ways.items
             (SideRead replayed_gave replayed_ended)
             (zip self.old.sides.items self.new.sides.items) r)
-            (λ g. (g ≡ Refused r) × (self.new.out ≡ self.old.out)
+            (λ g. (g ≡ Refused r) × (self.new.outputs ≡ self.old.outputs)
             × (output_took self.new.output ≡ output_took self.old.output)))) }
         ensures owed { MatchResult self.old.opened (λ _. Accounts result
             (counts (failures_each replayed_failures self.old.sides.items)
             (failures_each replayed_failures self.new.sides.items)
-            ∷ counts (failures_in writing_failures self.old.out)
-            (failures_in writing_failures self.new.out)
+            ∷ counts (written_failures self.old.outputs) (written_failures self.new.outputs)
             ∷ counts (output_failures self.old.output) (output_failures self.new.output) ∷ []))
             (λ f. result ≡ Err f) }
     {
@@ -139,7 +142,7 @@ impl FollowCommand<'_> {
                 values,
                 &mut self.files,
                 &mut self.sides,
-                &mut self.out,
+                &mut self.outputs,
                 &mut self.output,
             ),
             Err(fault) => Err(fault),
@@ -156,11 +159,11 @@ fn filling(words: &FollowWords<'_>) -> Filling {
     }
 }
 
-/// Whether the file of the pictures, where there is one, is one of the files that are read.
-fn is_among(rt: &HostRuntime, words: &FollowWords<'_>, out: &Option<FileOutput<'_>>) -> bool {
-    match out {
-        Some(file) => is_read(rt, words.sdp, words.recordings.as_slice(), file.identity()),
-        None => false,
+/// The name beside which lines are printed: of a file that is standard output, where one is.
+fn beside<'a>(words: &FollowWords<'a>) -> &'a str {
+    match words.report {
+        Some("-") => "-",
+        _ => words.out.unwrap_or(""),
     }
 }
 
@@ -177,24 +180,25 @@ fn asked<'a>(words: &'a FollowWords<'a>) -> FollowAsked<'a> {
 fn closed_sides<'a>(
     rt: &'a HostRuntime,
     names: &[&'a str],
+    meter: &Meter,
 ) -> Result<Vec<FollowFile<'a>>, AllocError>
     ensures { IfOk result (λ sides. AreNewSides sides.items) }
 {
     let mut sides = Vec::new(rt.alloc());
     for name in names {
-        sides.push(Side::closed(Replayed::once(rt, name)))?;
+        sides.push(Side::closed(Replayed::once(rt, name, meter)))?;
     }
     Ok(sides)
 }
 
-/// Looks at the words, and at the place of the file of pictures, reads the SDP where one is named,
-/// and finds by which flows each of so many files is taken that is a recording. No such file is
+/// Looks at the words, and at the places of the files that are written, reads the SDP where one is
+/// named, and finds by which flows each of so many files is taken that is a recording. No such file is
 /// looked at yet. It answers the values of the fill, where its text is given.
 fn open<'a>(
     rt: &'a HostRuntime,
     asked: FollowAsked<'_>,
     fill: Option<&[u8]>,
-    out: &mut Option<FileOutput<'_>>,
+    outputs: &mut FollowOutputs<'_>,
     is_input: bool,
     flows: FlowWords<'_>,
     sdp: Option<&'a str>,
@@ -202,11 +206,11 @@ fn open<'a>(
     files: &mut Files<'a>,
 ) -> Result<Option<[u16; 3]>, Fault>
     requires unread { AreUnread files.old }
-    requires unwritten { IfSome out.old (λ f. (file_took f ≡ []) × IsUnplaced f) }
+    requires unwritten { AreUnwritten outputs.old }
     ensures unread { AreUnread files.new }
-    ensures unwritten { IfSome out.new (λ f. (file_took f ≡ []) × IsUnplaced f) }
+    ensures unwritten { AreUnwritten outputs.new }
     ensures given { IfOk result (λ values. IsFillGiven (option_copied fill.entry) values) }
-    ensures apart { OnOk result (IfSome out.new (λ _. IsFalse is_input)) }
+    ensures apart { OnOk result (AreApart outputs.new is_input) }
     ensures ways { OnOk result (AreWaysBy (option_copied flows.entry.a)
         (option_copied flows.entry.b) (said_text files.new.said) count files.new.ways.items) }
     ensures refusal { IfErr result (λ f. OfRefusal f (IsFollowOpening asked.entry
@@ -215,13 +219,13 @@ fn open<'a>(
 {
     check_words(asked)?;
     let values = fill_said(fill)?;
-    find_place(out, is_input)?;
+    outputs.find(is_input)?;
     files.read_sdp(rt, sdp)?;
     files.find_ways(rt, flows, count)?;
     Ok(values)
 }
 
-/// Follows, and writes the pictures where there is a file for them.
+/// Follows, and writes of the frames what there is a file for.
 fn follow_into<'a>(
     rt: &HostRuntime,
     asked: FollowAsked<'_>,
@@ -229,51 +233,51 @@ fn follow_into<'a>(
     fill: Option<[u16; 3]>,
     files: &mut Files<'_>,
     sides: &mut Vec<FollowFile<'_>>,
-    out: &mut Option<FileOutput<'a>>,
+    outputs: &mut FollowOutputs<'a>,
     output: &mut OutputSink<Stream>,
 ) -> Result<(), Fault>
     requires new { AreNewSides sides.old.items }
-    requires unplaced { IfSome out.old (λ f. IsUnplaced f) }
+    requires unplaced { AreUnplaced outputs.old }
     ensures followed { OnOk result (FollowsFiles asked.entry (said_text files.old.said)
-        files.old.ways.items (zip sides.old.items sides.new.items) filling fill out.old out.new
-        (output_took output.old) (output_took output.new)) }
-    ensures unplaced { IfSome out.new (λ f. IsUnplaced f) }
+        files.old.ways.items (zip sides.old.items sides.new.items) filling fill outputs.old
+        outputs.new (output_took output.old) (output_took output.new)) }
+    ensures unplaced { AreUnplaced outputs.new }
     ensures refusal { IfErr result (λ f. OfRefusal f (IsFollowRefusal asked.entry.frames
         asked.entry.ssrc.now (said_text files.old.said) files.old.ways.items
         (SideRead replayed_gave replayed_ended) (zip sides.old.items sides.new.items))) }
     ensures owed { Accounts result (counts (failures_each replayed_failures sides.old.items)
         (failures_each replayed_failures sides.new.items)
-        ∷ counts (failures_in writing_failures out.old) (failures_in writing_failures out.new)
+        ∷ counts (written_failures outputs.old) (written_failures outputs.new)
         ∷ counts (output_failures output.old) (output_failures output.new) ∷ []) }
 {
-    let file = mem::replace(out, None);
-    let mut pictures = sink_over(rt, filling, fill, file);
-    let followed = follow(rt, asked, files, sides, &mut pictures, output);
-    *out = file_of(pictures);
+    let taken = outputs.take();
+    let mut sinks = sinks_over(rt, filling, fill, taken);
+    let followed = follow(rt, asked, files, sides, &mut sinks, output);
+    *outputs = outputs_of(sinks);
     followed
 }
 
-/// Follows, and shows the frames to a sink of pictures, where there is one.
+/// Follows, and shows the frames to sinks, those of them that there are.
 fn follow(
     rt: &HostRuntime,
     asked: FollowAsked<'_>,
     files: &mut Files<'_>,
     sides: &mut Vec<FollowFile<'_>>,
-    pictures: &mut Option<FormSink<UnplacedOutput<'_>>>,
+    sinks: &mut FollowSinks<'_>,
     output: &mut OutputSink<Stream>,
 ) -> Result<(), Fault>
     requires { AreNewSides sides.old.items }
     ensures followed { OnOk result ((totals : FollowTotals) × FollowsWhole asked.entry
         (said_text files.old.said) files.old.ways.items (SideRead replayed_gave replayed_ended)
-        (zip sides.old.items sides.new.items) (TakesIn (TakesFrame octets_under))
-        pictures.old pictures.new (output_took output.old) (output_took output.new) totals) }
+        (zip sides.old.items sides.new.items)
+        (TakesBoth (TakesIn (TakesFrame octets_under)) (TakesIn (TakesLines octets_under)))
+        sinks.old sinks.new (output_took output.old) (output_took output.new) totals) }
     ensures refusal { IfErr result (λ f. OfRefusal f (IsFollowRefusal asked.entry.frames
         asked.entry.ssrc.now (said_text files.old.said) files.old.ways.items
         (SideRead replayed_gave replayed_ended) (zip sides.old.items sides.new.items))) }
     ensures owed { Accounts result (counts (failures_each replayed_failures sides.old.items)
         (failures_each replayed_failures sides.new.items)
-        ∷ counts (failures_in failures_under pictures.old)
-        (failures_in failures_under pictures.new)
+        ∷ counts (sinks_failures sinks.old) (sinks_failures sinks.new)
         ∷ counts (output_failures output.old) (output_failures output.new) ∷ []) }
 {
     follow_files(
@@ -283,7 +287,7 @@ fn follow(
         sides,
         files.ways.as_slice(),
         files.seen.as_mut_slice(),
-        pictures,
+        sinks,
         output,
     )?;
     Ok(())
@@ -309,9 +313,9 @@ fn begun<'a>(side: &FollowFile<'a>) -> Option<Reading<'a>> {
 impl<'a> Command for FollowCommand<'a> {
     // (the SDP was read, which the flows of recordings wait for)
     ghost is_new = { λ c. AreUnread c.files × AreNewSides c.sides.items
-        × IfSome c.out (λ f. (file_took f ≡ []) × IsUnplaced f) × (output_took c.output ≡ [])
+        × AreUnwritten c.outputs × (output_took c.output ≡ [])
         × IfOk c.opened (λ values. IsFillGiven (option_copied c.fill) values)
-        × OnOk c.opened (IfSome c.out (λ _. IsFalse c.is_input))
+        × OnOk c.opened (AreApart c.outputs c.is_input)
         × OnOk c.opened (AreWaysBy (option_copied c.flows.a) (option_copied c.flows.b)
         (said_text c.files.said) (length c.sides.items) c.files.ways.items)
         × IfErr c.opened (λ f. OfRefusal f (IsFollowOpening c.asked (option_copied c.fill)
@@ -319,37 +323,39 @@ impl<'a> Command for FollowCommand<'a> {
 
     // What is printed is a line for each frame that leaves a follower, of all records of the
     // captures and recordings that were read as they go side by side, of recordings by their flows;
-    // and the totals of it. What is written, where a file is named, is the stream of the pictures
-    // of these frames, filled or held as the words say.
+    // and the totals of it. What is written, where files are named for it, is the stream of the
+    // pictures of these frames, filled or held as the words say, and what a report has of them.
     ghost does = { λ old new. IfOk old.opened (λ values. FollowsFiles old.asked
         (said_text old.files.said) old.files.ways.items (zip old.sides.items new.sides.items)
-        old.filling values old.out new.out (output_took old.output) (output_took new.output)) };
+        old.filling values old.outputs new.outputs
+        (output_took old.output) (output_took new.output)) };
 
-    // A refusal of the words, of the file that is to be written, of the SDP or of the words for
+    // A refusal of the words, of a file that is to be written, of the SDP or of the words for
     // flows, where nothing is printed or written; or else one of what was read.
     ghost is_refused = { λ old new r. MatchResult old.opened (λ _. IsFollowRefusal
         old.asked.frames old.asked.ssrc.now (said_text old.files.said) old.files.ways.items
         (SideRead replayed_gave replayed_ended) (zip old.sides.items new.sides.items) r)
-        (λ f. (f ≡ Refused r) × SameFile old.out new.out
+        (λ f. (f ≡ Refused r) × SameOutputs old.outputs new.outputs
         × (output_took new.output ≡ output_took old.output)) };
 
-    ghost is_placed = { λ c. IfSome c.out (λ f. IsInPlace f) };
+    ghost is_placed = { λ c. AreInPlace c.outputs };
 
-    ghost is_unplaced = { λ c. IfSome c.out (λ f. IsUnplaced f) };
+    ghost is_unplaced = { λ c. AreLeft c.outputs };
 
     // (where it could not begin, it came to what stopped it)
     ghost owes = { λ old new outcome. MatchResult old.opened (λ _. Accounts outcome
         (counts (failures_each replayed_failures old.sides.items)
         (failures_each replayed_failures new.sides.items)
-        ∷ counts (failures_in writing_failures old.out) (failures_in writing_failures new.out)
+        ∷ counts (written_failures old.outputs) (written_failures new.outputs)
         ∷ counts (output_failures old.output) (output_failures new.output) ∷ []))
         (λ f. outcome ≡ Err f) };
 
     fn run(&mut self) -> Ran {
         let outcome = self.follow_opened();
+        self.output.clear();
         Ran {
             outcome,
-            is_whole: settle(&mut self.out, outcome.is_ok()),
+            is_whole: self.outputs.settle(outcome.is_ok()),
         }
     }
 
@@ -357,7 +363,7 @@ impl<'a> Command for FollowCommand<'a> {
         Devices {
             sdp: self.files.sdp_reading(),
             read: last_begun(self.sides.as_slice()),
-            written: writing(&self.out),
+            written: self.outputs.writing(),
             output: self.output.writing(),
             kept: None,
             hints: Hints {

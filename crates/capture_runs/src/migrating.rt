@@ -8,6 +8,7 @@ ghost use Rattle.devices.specs.Passed.{writing_failures};
 ghost use Rattle.run_outcome.specs.Fault.{Accounts, IfRefused, counts};
 ghost use Rattle.run_outcome.specs.Refusing.{OfRefusal};
 ghost use Rattle.run_outcome.specs.Text.{GivesText};
+ghost use Rattle.run_outcome.specs.TextRefusals.{SaysCaptureText};
 ghost use Rattle.run_outcome.specs.declared.refusal.Refusal.TheVariants.{OutputIsInput};
 ghost use Rattle.run_outcome.specs.declared.refusal.Writer.TheVariants.{Migrate};
 
@@ -69,6 +70,7 @@ fn migrate<'a>(
         (file_gave capture.old) (file_gave capture.new) (file_ended capture.new)
         (file_took out.old) (file_took out.new) (output_took output.old)
         (output_took output.new)) }
+    ensures described { OnOk result (SaysCaptureText (FileRead sdp.old sdp.new)) }
     ensures unplaced { IsUnplaced out.new }
     ensures apart { OnOk result (IsFalse is_input) }
     ensures refusal { IfErr result (λ f. OfRefusal f (λ r.
@@ -89,13 +91,13 @@ impl<'a> Command for MigrateCommand<'a> {
     ghost is_new = { λ c. (file_gave c.sdp ≡ []) × (file_gave c.capture ≡ [])
         × (file_took c.out ≡ []) × IsUnplaced c.out × (output_took c.output ≡ []) };
 
-    // What is written is the capture that was read, with the text that was read, and it is printed
-    // how many records it has.
+    // What is written is the capture that was read, with the text that was read, which describes a
+    // video, and it is printed how many records it has.
     ghost does = { λ old new. PrintsMigrated
         (GivesText 65535 (file_gave old.sdp) (file_gave new.sdp) (file_ended new.sdp))
         (file_gave old.capture) (file_gave new.capture) (file_ended new.capture)
         (file_took old.out) (file_took new.out) (output_took old.output)
-        (output_took new.output) };
+        (output_took new.output) × SaysCaptureText (FileRead old.sdp new.sdp) };
 
     // Then nothing is printed.
     ghost is_refused = { λ old new r.

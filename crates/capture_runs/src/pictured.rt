@@ -1,5 +1,6 @@
-//! The file that `follow` writes pictures to, where one is named.
-ghost use Rattle.std.specs.Prelude.{◌≡◌, [], IfErr, IfOk, IfSome, IsFalse, IsTrue, OnOk};
+//! A file that `follow` writes, where one is named, and the sink that writes pictures to it.
+ghost use Rattle.std.specs.Prelude.{◌≡◌, [], IfErr, IfOk, IfSome, IsFalse, IsSome, IsTrue};
+ghost use Rattle.std.specs.Prelude.{OnOk};
 ghost use Rattle.std.specs.Option.{option_copied};
 ghost use Rattle.capture_runs.specs.Pictured.{IsFillGiven, IsFillRefusal, IsSinkOver, SameFile};
 ghost use Rattle.capture_runs.specs.Pictured.{file_under};
@@ -97,6 +98,7 @@ pub(crate) fn settle(out: &mut Option<FileOutput<'_>>, is_done: bool) -> bool
     ensures placed { IsTrue result → IsTrue is_done → IfSome out.new (λ f. IsInPlace f) }
     ensures undone { IsFalse is_done → IfSome out.new (λ f. IsUnplaced f) }
     ensures cut { IsFalse result → IfSome out.new (λ f. IsUnplaced f) }
+    ensures there { IsFalse result → IsSome out.new }
 {
     match out {
         Some(file) => file.settle(is_done),

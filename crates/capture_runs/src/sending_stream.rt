@@ -15,7 +15,9 @@ use crate::sending::{is_typed, sending};
 use capture_engines::Sending;
 use command_end::{Command, Devices, Hints, Ran, find_output};
 use command_line::SendWords;
-use devices::{FileOutput, FileSource, OutputSink, Rest, Stream, named_file, one_is, reading_of};
+use devices::{
+    FileOutput, FileSource, Meter, OutputSink, Rest, Stream, named_file, one_is, reading_of,
+};
 use run_outcome::{Fault, Writer};
 use stream_sending::send_stream;
 
@@ -37,12 +39,12 @@ pub struct SendStreamCommand<'a> {
 
 impl<'a> SendStreamCommand<'a> {
     /// The command of these words for the stream of this name, which is standard input where the
-    /// name is `-`. Nothing is done yet.
-    pub fn new(rt: &'a HostRuntime, words: &SendWords<'a>, name: &'a str) -> Self
+    /// name is `-`. Nothing is done yet. A meter is told how much is read of the stream.
+    pub fn new(rt: &'a HostRuntime, words: &SendWords<'a>, name: &'a str, meter: &Meter) -> Self
         ensures { ⟦<SendStreamCommand<'a> as Command>⟧.is_new result }
     {
         let sdp = named_file(rt, words.sdp);
-        let stream = FileSource::given(rt, name);
+        let stream = FileSource::given(rt, name).metered(meter);
         let out = FileOutput::new(rt, words.out, Rest::Stays);
         let is_input = is_read(&out, &sdp, &stream);
         SendStreamCommand {
@@ -53,7 +55,7 @@ impl<'a> SendStreamCommand<'a> {
             stream,
             out,
             is_input,
-            output: OutputSink::beside(rt, words.out),
+            output: OutputSink::beside(rt, words.out).metered(meter),
         }
     }
 }
@@ -146,6 +148,7 @@ impl<'a> Command for SendStreamCommand<'a> {
             self.is_input,
             &mut self.output,
         );
+        self.output.clear();
         Ran {
             outcome,
             is_whole: self.out.settle(outcome.is_ok()),

@@ -9,7 +9,13 @@ use Rattle.run_outcome.specs.declared.refusal.Refusal.{Refusal}
 use Rattle.std.proofs.Math.Seq.{take-length}
 use Rattle.std.proofs.lemmas.List.{take_all, drop_all}
 
--- three of an outcome that is no fault
+-- two of an outcome that is no fault
+pub on_ok_both : {V E : Type 0} (P Q : Type 0) (r : Result V E) → OnOk r P → OnOk r Q
+    → OnOk r (P × Q)
+on_ok_both P Q (Ok v) p q = (p, q)
+on_ok_both P Q (Err e) p q = tt
+
+-- three of them
 pub on_ok_all : {V E : Type 0} (P Q R S : Type 0) (r : Result V E) → OnOk r P → OnOk r Q
     → OnOk r (R × S) → OnOk r (P × Q × R × S)
 on_ok_all P Q R S (Ok v) p q rs = (p, q, rs.0, rs.1)

@@ -213,6 +213,7 @@ fn blamed_by(refusal: Refusal) -> Blamed {
         Refusal::ImportPlaces => Blamed::Word("the recordings"),
         Refusal::OutputIsInput(Writer::Receive) => Blamed::Word("--state"),
         Refusal::OutputIsInput(Writer::Convert) => Blamed::Word("OUT"),
+        Refusal::OutputIsInput(Writer::Follow) => Blamed::Word("--out or --report"),
         Refusal::OutputIsInput(_) => Blamed::Word("--out"),
         Refusal::SendSdp
         | Refusal::MigrateSdp

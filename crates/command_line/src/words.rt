@@ -15,8 +15,10 @@ pub struct Given<'a> {
     pub words: Words<'a>,
     /// Whether a fault's place is told behind its line.
     pub is_verbose: bool,
-    /// Whether it is not told by itself where standard error is a terminal.
+    /// Whether nothing more than is asked for is told where standard error is a terminal.
     pub is_quiet: bool,
+    /// Whether it is told how far the command is.
+    pub has_progress: bool,
 }
 
 /// A command, and what it is asked for.
@@ -260,6 +262,8 @@ pub struct FollowWords<'a> {
     pub is_eager: bool,
     /// The file of the pictures, where they are written.
     pub out: Option<&'a str>,
+    /// The file of what each frame lacks, where that is written.
+    pub report: Option<&'a str>,
     /// The text of the fill, where one is given.
     pub fill: Option<&'a str>,
     /// Whether a sample without a value takes that of the picture before.
@@ -324,7 +328,16 @@ pub fn read_words(alloc: Global, words: &[String]) -> Result<Given<'_>, WordsFau
         words: command(alloc, &matches)?,
         is_verbose: matches.get_flag("verbose"),
         is_quiet: matches.get_flag("quiet"),
+        has_progress: has_progress(&matches),
     })
+}
+
+/// Whether it is told how far the command is. (Of a command without that word it isn't.)
+fn has_progress(matches: &ArgMatches<'_>) -> bool {
+    match matches.subcommand() {
+        Some((_, given)) => given.get_flag("progress"),
+        None => false,
+    }
 }
 
 /// Reads the command.
@@ -498,7 +511,8 @@ fn inspect_words<'a>(
     })
 }
 
-fn follow_words<'a>(alloc: Global, given: &ArgMatches<'a>) -> Result<FollowWords<'a>, AllocError> {
+fn follow_words<'a>(alloc: Global, given: &ArgMatches<'a>) -> Result<FollowWords<'a>, WordsFault> {
+    check_apart(alloc, given)?;
     Ok(FollowWords {
         sdp: given.get_str("sdp"),
         a: given.get_str("a"),
@@ -507,10 +521,24 @@ fn follow_words<'a>(alloc: Global, given: &ArgMatches<'a>) -> Result<FollowWords
         ssrc: word(given, "ssrc"),
         is_eager: given.get_flag("eager"),
         out: given.get_str("out"),
+        report: given.get_str("report"),
         fill: given.get_str("fill"),
         is_held: given.get_flag("hold"),
         recordings: list(alloc, given, "recordings")?,
     })
+}
+
+/// Refuses one name for two files that are written.
+fn check_apart(alloc: Global, given: &ArgMatches<'_>) -> Result<(), WordsFault> {
+    let (Some(out), Some(report)) = (given.get_str("out"), given.get_str("report")) else {
+        return Ok(());
+    };
+    if out == report {
+        return Err(WordsFault::Misworded(format!(in alloc;
+            "'--out <FILE>' and '--report <FILE>' both name '{out}'"
+        )?));
+    }
+    Ok(())
 }
 
 fn format_words<'a>(given: &ArgMatches<'a>) -> Option<FormatWords<'a>> {

@@ -5,6 +5,10 @@
 #[cfg(test)]
 mod checks;
 #[cfg(test)]
+mod engine_calls;
+#[cfg(test)]
+mod engines;
+#[cfg(test)]
 mod faults;
 #[cfg(test)]
 mod growths;

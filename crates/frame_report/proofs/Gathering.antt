@@ -225,6 +225,26 @@ end_all old mid new page page' opening frames end e p q =
     subst (λ (t : List ℕ). TakesText old new (t ++ (frames ++ end))) e
     (gathers_all old mid new page page' frames end p q)
 
+-- a page on which nothing waited, all of which is written then
+pub page_all : (old mid new : SinkTold) (page page' text : List ℕ) → page ≡ []
+    → Gathers old mid page page' text → TakesText mid new page' → TakesText old new text
+page_all old mid new page page' text e p q =
+    subst (TakesText old new)
+    (sym p.whole ∙ ap (λ (t : List ℕ). t ++ text) e)
+    (took_both old mid new p.first page' p.taken q)
+
+pub page_cut : (old mid new : SinkTold) (page page' text : List ℕ) → page ≡ []
+    → Gathers old mid page page' text → TakesPart mid new page' → TakesPart old new text
+page_cut old mid new page page' text e p q =
+    subst (TakesPart old new)
+    (sym p.whole ∙ ap (λ (t : List ℕ). t ++ text) e)
+    (prefix_then old mid new p.first page' p.taken q)
+
+pub page_first : (old new : SinkTold) (page text : List ℕ) → page ≡ []
+    → TakesPart old new (page ++ text) → TakesPart old new text
+page_first old new page text e p =
+    subst (TakesPart old new) (ap (λ (t : List ℕ). t ++ text) e) p
+
 -- ---- words that are added one after the other
 
 joined2 : (p q r a b : List ℕ) → q ≡ p ++ a → r ≡ q ++ b → r ≡ p ++ (a ++ b)

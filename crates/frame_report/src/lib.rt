@@ -1,7 +1,7 @@
 //! What a receiver lacks, as text (own): the counts of each frame, its missing runs of pgroups
 //! and its contested samples.
 //!
-//! What a report says is told by `report_text`.
+//! What a report says is told by `report_text`, and of a frame by `frame_text`.
 #![tactic(auto)]
 
 mod contested;
@@ -14,4 +14,4 @@ mod report;
 mod rows;
 
 pub use fault::ReportFault;
-pub use report::write_report;
+pub use report::{write_frame, write_report};

@@ -45,6 +45,34 @@ pub fn write_report<A: Allocator, K: ByteSink>(
     Ok(())
 }
 
+/// Writes what a frame lacks, as text: the lines that a report has of it, of this timestamp. No
+/// memory is taken.
+///
+/// # Errors
+///
+/// `Device` where the sink failed: it then has a first part of the text more than before, and not
+/// all.
+pub fn write_frame<A: Allocator, K: ByteSink>(
+    timestamp: u32,
+    frame: &Frame<A>,
+    sink: &mut K,
+) -> Result<(), ReportFault>
+    ensures ok { OnOk result
+        (K.took sink.new ≡ K.took sink.old ++ frame_text timestamp frame.now) }
+    ensures fault { OnErr result
+        (GrowsPart (K.took sink.old) (K.took sink.new) (frame_text timestamp frame.now)) }
+    ensures counted { CountsFaults (K.failures sink.old) (K.failures sink.new) result }
+    ensures held { OnOk result
+        (Appends (K.held sink.old) (K.held sink.new) (frame_text timestamp frame.now)) }
+    ensures held_part { OnErr result
+        (AppendsPrefix (K.held sink.old) (K.held sink.new) (frame_text timestamp frame.now)) }
+{
+    let mut page = Page::new();
+    put_frame(&mut page, sink, timestamp, frame)?;
+    page.write(sink)?;
+    Ok(())
+}
+
 /// Puts the last line, and writes what waits: a report without `end` isn't whole.
 fn write_end<K: ByteSink>(page: &mut Page, sink: &mut K) -> Result<(), DeviceFault>
     ensures ok { OnOk result

@@ -1,9 +1,14 @@
--- What a sink of pictures does with a frame.
-use Rattle.std.specs.Prelude.{◌≡◌, ℕ, List, ◌++◌, Some}
+-- What sinks do with a frame (own).
+use Rattle.std.specs.Prelude.{◌≡◌, ◌⊎◌, ℕ, List, ◌++◌, Some, take}
+use Rattle.std.specs.List.{flat_map}
 use Rattle.following.specs.Following.{Handed}
+use Rattle.frame_report.specs.Report.{frame_text}
+use Rattle.frame_sinks.specs.declared.both.BothSinks.{BothSinks}
 use Rattle.frame_sinks.specs.Pictures.{head_for, held_by, picture_of}
 use Rattle.frame_sinks.specs.declared.form_sink.FormSink.{FormSink}
+use Rattle.frame_sinks.specs.declared.report_sink.ReportSink.{ReportSink}
 use Rattle.settled_forms.specs.Settled.{form_text}
+use Rattle.st_format.specs.Device.{GrowsPart}
 
 -- It took a frame: the sink of octets below it, of which `took` says what it took so far, took the
 -- frame's picture, behind the head of a stream where one begins; and it holds what the next one is
@@ -16,3 +21,38 @@ pub record TakesFrame {K A : Type 0} (took : K → List ℕ) (k : FormSink K A) 
   pub held : l.held ≡ held_by k.filling (picture_of k.fill k.held h.frame)
   pub filling : l.filling ≡ k.filling
   pub fill : l.fill ≡ k.fill
+
+-- It failed at one: the sink of octets took nothing, or a first part of that, and not all.
+abbrev pub FailsFrame : {K A : Type 0} → (K → List ℕ) → FormSink K A → Handed → FormSink K A
+    → Type 0
+FailsFrame took k h l =
+    (took l.sink ≡ took k.sink)
+    ⊎ GrowsPart (took k.sink) (took l.sink)
+    (head_for k.format h.frame.format ++ form_text (picture_of k.fill k.held h.frame))
+
+-- A first part of these octets came behind others: none of them, some, or all (own).
+pub record GrowsSome (old new octets : List ℕ) : Type 0 where
+  pub count : ℕ
+  pub grown : new ≡ old ++ take count octets
+
+-- ---- what frames lack
+
+-- what a receiver's report has of a frame
+abbrev pub lines_of : Handed → List ℕ
+lines_of h = frame_text h.timestamp h.frame
+
+-- so of frames, one behind the other
+abbrev pub frames_report : List Handed → List ℕ
+frames_report frames = flat_map lines_of frames
+
+-- It took a frame: the sink of octets below it took what a report has of it.
+abbrev pub TakesLines : {K : Type 0} → (K → List ℕ) → ReportSink K → Handed → ReportSink K
+    → Type 0
+TakesLines took k h l = took l.sink ≡ took k.sink ++ lines_of h
+
+-- ---- two sinks
+
+-- Both took a frame.
+abbrev pub TakesBoth : {P Q : Type 0} → (P → Handed → P → Type 0) → (Q → Handed → Q → Type 0)
+    → BothSinks P Q → Handed → BothSinks P Q → Type 0
+TakesBoth first second k h l = first k.first h l.first × second k.second h l.second

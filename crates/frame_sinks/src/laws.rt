@@ -2,22 +2,27 @@
 ghost use Rattle.std.specs.Prelude.{◌≡◌, ◌++◌, ◌∷◌, ℕ, List, None, Option, Result};
 ghost use Rattle.std.specs.List.{AllByRecursion, flat_map};
 ghost use Rattle.flow.specs.declared.flows.Flows.{Flows};
-ghost use Rattle.follow_engine.specs.Events.{frames_of_events};
-ghost use Rattle.follow_engine.specs.Followed.{FollowsWhole, followed_events};
-ghost use Rattle.follow_engine.specs.Shown.{TakesAll};
+ghost use Rattle.follow_engine.specs.Events.{events_of, frames_of_events, running_from};
+ghost use Rattle.follow_engine.specs.Followed.{FollowsPart, FollowsWhole, followed_events};
+ghost use Rattle.follow_engine.specs.Shown.{TakesAll, TakesSome};
 ghost use Rattle.follow_engine.specs.Sides.{SideRead};
 ghost use Rattle.follow_engine.specs.declared.opening.FollowAsked.{FollowAsked};
 ghost use Rattle.follow_engine.specs.declared.telling.FollowTotals.{FollowTotals};
+ghost use Rattle.following.specs.Follower.{opened};
 ghost use Rattle.following.specs.Following.{Handed};
 ghost use Rattle.frame_sinks.specs.Pictures.{form_stream, pictures_of};
-ghost use Rattle.frame_sinks.specs.Sinks.{TakesFrame};
+ghost use Rattle.frame_sinks.specs.Sinks.{FailsFrame, GrowsSome, TakesBoth, TakesFrame, TakesLines};
+ghost use Rattle.frame_sinks.specs.Sinks.{frames_report};
+ghost use Rattle.frame_sinks.specs.declared.both.BothSinks.{BothSinks};
 ghost use Rattle.frame_sinks.specs.declared.form_sink.FormSink.{FormSink};
+ghost use Rattle.frame_sinks.specs.declared.report_sink.ReportSink.{ReportSink};
 ghost use Rattle.picture_forms.specs.Layouts.{IsRgb, IsYcc, pixmap_text, y4m_text};
 ghost use Rattle.run_outcome.specs.declared.refusal.Refusal.{Refusal};
 ghost use Rattle.side_by_side.specs.declared.side.Side.{Side};
 ghost use Rattle.st_format.specs.declared.format.Format.{Format};
 ghost use Rattle.st_format.specs.Picture.{Values};
 
+use follow_engine::PictureSink;
 use st_format::{ByteSink, ByteSource};
 use std::alloc::Allocator;
 
@@ -41,6 +46,25 @@ pub fn follows<K: ByteSink, A: Allocator, B: Allocator, S: ByteSource>()
         (frames_of_events (followed_events w is.opening is.entries))) }
 {}
 
+/// Where that ends before, as a device failed or a file was at fault, it is a first part of that
+/// stream.
+pub fn written_part<K: ByteSink, A: Allocator>()
+    ensures { (k l : FormSink K A) (hs : List Handed) → TakesSome (TakesFrame K.took)
+        (FailsFrame K.took) k hs l → GrowsSome (K.took k.sink) (K.took l.sink)
+        (form_stream k.format (pictures_of k.filling k.fill k.held hs)) }
+{}
+
+/// So where files are followed, and the run ends before: it is a first part of the stream of the
+/// pictures of all frames that leave a follower of their first records.
+pub fn follows_part<K: ByteSink, A: Allocator, B: Allocator, S: ByteSource>()
+    ensures { (w : FollowAsked) (sdp : Option (List ℕ)) (files : List (Side B S × Side B S))
+        (k l : FormSink K A) → (is : FollowsPart w sdp (SideRead S.gave S.ended) files
+        (TakesFrame K.took) (FailsFrame K.took) k l) → GrowsSome (K.took k.sink) (K.took l.sink)
+        (form_stream k.format (pictures_of k.filling k.fill k.held (frames_of_events
+        (events_of w.is_eager (running_from (opened is.opening w.frames 900000))
+        is.datagrams)))) }
+{}
+
 /// A stream of pictures of one format is a YUV4MPEG2 file of them where they are YCbCr, and where
 /// they are RGB their portable pixmaps.
 pub fn one_format()
@@ -50,4 +74,18 @@ pub fn one_format()
     ensures rgb { (f : Format) (ps : List Values) → IsRgb f.sampling →
         AllByRecursion (λ q. q.format ≡ f) ps →
         form_stream None ps ≡ flat_map pixmap_text ps }
+{}
+
+/// What is written of frames that a sink of what they lack takes one after the other is what a
+/// report has of each, octet for octet.
+pub fn reported<K: ByteSink>()
+    ensures { (k l : ReportSink K) (hs : List Handed) → TakesAll (TakesLines K.took) k hs l
+        → K.took l.sink ≡ K.took k.sink ++ frames_report hs }
+{}
+
+/// Frames that two sinks take as one are those that each of them takes.
+pub fn both<P: PictureSink + Drop, Q: PictureSink + Drop>()
+    ensures { (k l : BothSinks P Q) (hs : List Handed) →
+        TakesAll (TakesBoth P.takes Q.takes) k hs l →
+        TakesAll P.takes k.first hs l.first × TakesAll Q.takes k.second hs l.second }
 {}

@@ -4,18 +4,19 @@ use crate::run_made;
 use capture_runs::{SendCommand, SendStreamCommand, said_otherwise};
 use command_end::run_command;
 use command_line::{BadValue, SendWords};
+use devices::Meter;
 use form_files::Form;
 
 /// Sends pictures into a capture, and answers the exit status. Where the SDP says another format or
 /// payload type than is sent, that is told where faults are explained; the capture is as without.
-pub fn send(rt: &HostRuntime, words: &SendWords<'_>, explains: bool) -> u8 {
+pub fn send(rt: &HostRuntime, words: &SendWords<'_>, explains: bool, meter: &Meter) -> u8 {
     let status = match words.pictures.as_slice() {
         [name] if is_stream(name) => {
-            run_command(rt, explains, SendStreamCommand::new(rt, words, name)).status
+            run_command(rt, explains, SendStreamCommand::new(rt, words, name, meter)).status
         }
         names => match names.iter().find(|name| is_stream(name)) {
             Some(name) => return refuse_mixed(rt, name),
-            None => run_made(rt, explains, SendCommand::new(rt, words)),
+            None => run_made(rt, explains, SendCommand::new(rt, words, meter)),
         },
     };
     if explains && status == 0 {

@@ -6,6 +6,7 @@ use Rattle.capture_engines.specs.Files.{files_datagrams}
 use Rattle.capture_engines.specs.Sending.{run_sender}
 use Rattle.capture_engines.specs.declared.sender.Sending.{Sending}
 use Rattle.capture_runs.specs.Followed.{FollowsFiles, IsListed}
+use Rattle.capture_runs.specs.Outputs.{outputs_of}
 use Rattle.capture_runs.specs.Replayed.{replayed_ended, replayed_gave}
 use Rattle.capture_runs.specs.declared.replayed.Replayed.{Replayed}
 use Rattle.devices.specs.Passed.{file_took}
@@ -187,8 +188,9 @@ all_listed (h ∷ hs) old new is =
 module _ {A : Type 0} (w : FollowAsked) (sdp : Option (List ℕ))
     (ways : List (Result Flows Refusal)) (files : List (Side A Replayed × Side A Replayed))
     (filling : Filling) (fill : Option (List ℕ)) (out out' : FileOutput)
-    (printed printed' : List ℕ)
-    (is : FollowsFiles w sdp ways files filling fill (Some out) (Some out') printed printed')
+    (report report' : Option FileOutput) (printed printed' : List ℕ)
+    (is : FollowsFiles w sdp ways files filling fill (outputs_of (Some out) report)
+    (outputs_of (Some out') report') printed printed')
   where
     abbrev Told : Side A Replayed × Side A Replayed → List ℕ → Type 0
     Told = SideRead replayed_gave replayed_ended

@@ -8,6 +8,7 @@ use Rattle.st_format.specs.declared.format.Format.{Format}
 use Rattle.media_file.specs.Fronts.{front_text}
 use Rattle.media_file.specs.Writer.{Writer, WriterPlace}
 use Rattle.media_file.specs.declared.front.Version.TheVariants.{Two}
+use Rattle.packet_plan.specs.Plan.{IsSize}
 use Rattle.packet_plan.specs.Sender.{SendsFrom}
 use Rattle.capture_engines.specs.Sending.{HasSent, SendsMore, SendsNext, run_sender}
 use Rattle.capture_engines.specs.declared.sender.Sender.{Sender as Sends}
@@ -90,10 +91,10 @@ pub stream_sent : {A K : Type 0} {G : Ghosts K} (took : K → List ℕ) (wanted 
     → took opened.sink ≡ start ++ front_text Two text → old.writer ≡ opened
     → old.wanted ≡ wanted → old.next ≡ wanted.first → old.sent ≡ 0
     → SendsMore took 0 (first ∷ rest) old last → first.format ≡ f
-    → last_took ≡ took last.writer.sink → count ≡ last.sent
+    → last_took ≡ took last.writer.sink → count ≡ last.sent → IsSize wanted.max_octets f
     → TakesStream wanted text f (first ∷ rest) start last_took count
 stream_sent {A} {K} {G} took wanted text f first rest start last_took count opened old last place
-    front writer is next none sends same at counts =
+    front writer is next none sends same at counts limits =
     let begun : HasSent took wanted text start [] old =
     none_sent took wanted text start old is next
     (ap (λ (w : Writer K). w.place.paths) writer ∙ ap (λ (q : WriterPlace). q.paths) place)
@@ -105,6 +106,7 @@ stream_sent {A} {K} {G} took wanted text f first rest start last_took count open
     sends.sent wanted text start [] refl begun in
     let by : first.format ≡ last.plan.format = has.sent.format in
     record {
+      limits = limits;
       datagrams = has.datagrams;
       sent =
           subst (λ (x : Format). SendsFrom (run_sender x wanted) 0 (first ∷ rest) wanted.first

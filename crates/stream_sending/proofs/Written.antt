@@ -4,6 +4,7 @@ use Rattle.std.specs.List.{AllByRecursion, flat_map}
 use Rattle.st_format.specs.declared.format.Format.{Format}
 use Rattle.st_format.specs.Fields.{fields_of}
 use Rattle.st_format.specs.Picture.{Values}
+use Rattle.packet_plan.specs.Plan.{IsSize}
 use Rattle.packet_plan.specs.Sender.{SendsFrom}
 use Rattle.picture_forms.specs.Frames.{frame_walk}
 use Rattle.picture_forms.specs.Layouts.{IsYcc, frame_text, planes_text, y4m_text}
@@ -54,6 +55,7 @@ pictures_taken wanted text f [] old new count few takes = takes
 pictures_taken wanted text f (p ∷ ps) old new count few takes =
     let same : p.format ≡ f = takes.sent.format in
     record {
+      limits = subst (λ (x : Format). IsSize wanted.max_octets x) (sym same) takes.limits;
       datagrams = takes.datagrams;
       sent = record {
         few = few;

@@ -6,6 +6,7 @@ use Rattle.st_format.specs.Fields.{fields_of}
 use Rattle.st_format.specs.Picture.{Values}
 use Rattle.st_format.specs.declared.format.Format.{Format}
 use Rattle.media_file.specs.Writer.{written_text}
+use Rattle.packet_plan.specs.Plan.{IsSize}
 use Rattle.packet_plan.specs.Sender.{SendsFrom}
 use Rattle.picture_forms.specs.Heads.{HasHead}
 use Rattle.run_outcome.specs.Line.{line_text}
@@ -22,9 +23,11 @@ use Rattle.stream_sending.specs.Streams.{HasFrames, IsStreamFault, IsStreamOf}
 -- ---- what is written
 
 -- A sink took the capture of a text and of the datagrams of pictures of this format, which are so
--- many: of the k-th as frame k, all by raster plans, the packets' numbers running on.
+-- many: of the k-th as frame k, all by raster plans, the packets' numbers running on. The size of
+-- packets that is asked for is one that plans are made for.
 pub record TakesStream (wanted : Sending) (text : List ℕ) (f : Format) (pictures : List Values)
     (old new : List ℕ) (count : ℕ) : Type 0 where
+  pub limits : IsSize wanted.max_octets f
   pub datagrams : List (List ℕ)
   pub sent : SendsFrom (run_sender f wanted) 0 pictures wanted.first datagrams
   pub taken : new ≡ old ++ written_text wanted.paths text datagrams

@@ -2,6 +2,7 @@
 ghost use Rattle.std.specs.Prelude.{◌≡◌, ◌≤◌, ◌<◌, ◌∷◌, [], false, length, IfErr, IfOk, IfSome};
 ghost use Rattle.std.specs.Prelude.{OnOk};
 ghost use Rattle.std.specs.Io.KnownBytes.{IsAtEnd};
+ghost use Rattle.packet_plan.specs.Plan.{IsSize};
 ghost use Rattle.picture_forms.specs.declared.streams.Standing.TheVariants.{Reads};
 ghost use Rattle.run_outcome.specs.Fault.{Accounts, IfRefused, counts};
 ghost use Rattle.run_outcome.specs.Refusing.{OfRefusal};
@@ -44,6 +45,7 @@ pub(crate) fn send_opened<A: Allocator + Copy, S: ByteSource, K: ByteSink>(
 {
     let format = reader.format();
     let plan = Plan::new(alloc, format, wanted.max_octets)?;
+    plan.facts();
     let blank = blank_picture(alloc, format)?;
     let mut buf = room(alloc)?;
     match next_picture(reader, blank)? {
@@ -103,6 +105,7 @@ fn send_from<A: Allocator, S: ByteSource, K: ByteSink>(
     requires reads { reader.old.standing ≡ Reads }
     requires alike { first.format ≡ plan.format }
     requires format { first.format ≡ reader.old.format }
+    requires limits { IsSize wanted.max_octets plan.format }
     requires empty { IsAtEnd (K.held sink.old) }
     requires room { length buf.old ≡ 65535 }
     ensures sent { IfOk result (λ n. SendsFirst wanted said.now reader.old.format first

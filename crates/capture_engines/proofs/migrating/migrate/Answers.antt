@@ -5,6 +5,7 @@ use Rattle.run_outcome.specs.Text.{GivesText}
 use Rattle.run_outcome.specs.declared.line.Line.TheVariants.{Records}
 use Rattle.run_outcome.proofs.Printed.{on_ok}
 use Rattle.capture_engines.specs.Migrating.{Passed, Migrates, PrintsMigrated, passed}
+use Rattle.capture_engines.proofs.Sendings.{on_any}
 use Rattle.capture_engines.proofs.Leaving.{moved_left, printed_left, untouched}
 use Rattle.capture_engines.proofs.migrating.migrate.Goals as goal
 
@@ -68,3 +69,6 @@ returns-clause-migrated g c =
       printed = printed;
     })
     c.print.ensures.printed
+
+pub returns-clause-described : goal.returns-clause-described
+returns-clause-described g c = on_any c.print.result _ c.in_ok-said.ensures.says

@@ -1,6 +1,7 @@
-use Rattle.std.proofs.Common.{◌≡◌, Err, ap, rules, subst, sym}
+use Rattle.std.proofs.Common.{◌≡◌, ℕ, Err, ap, rules, subst, sym}
 use Rattle.std.proofs.lemmas.Result.{err_from_is_err_and}
 use Rattle.std.specs.List.{zip}
+use Rattle.packet_plan.specs.Plan.{IsSize}
 use Rattle.run_outcome.specs.Moments.{WasRead}
 use Rattle.capture_engines.specs.Sent.{FirstSays}
 use Rattle.capture_engines.proofs.SentRefusals.{plan_refused}
@@ -25,3 +26,8 @@ returns-clause-says g c =
     let pictures = zip c.args.pictures.now c.read_at.new.pictures in
     let same : c.in_ok-picture.picture.format ≡ c.in_ok-plan.plan.format = search rules in
     subst (λ x. FirstSays told x pictures) same c.in_ok-picture.ensures.says
+
+pub returns-clause-limits : goal.returns-clause-limits
+returns-clause-limits g c =
+    subst (λ (m : ℕ). IsSize m c.in_ok-plan.plan.format) c.in_ok-plan.ensures.made.1
+    c.facts.ensures.full.limits

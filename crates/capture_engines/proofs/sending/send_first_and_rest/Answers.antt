@@ -1,4 +1,6 @@
-use Rattle.std.proofs.Common.{rules, ap, arith, drop, inr, sym, ◌∙◌, length-drop}
+use Rattle.std.proofs.Common.{rules, ap, arith, drop, inr, sym, subst, ◌∙◌, length-drop}
+use Rattle.packet_plan.specs.Plan.{IsSize}
+use Rattle.st_format.specs.declared.format.Format.{Format}
 use Rattle.run_outcome.specs.Moments.{WasRead}
 use Rattle.run_outcome.proofs.SetSums.{counted_behind}
 use Rattle.capture_engines.proofs.Sendings.{first_and_rest_sent, first_sent, if_ok_both}
@@ -14,6 +16,8 @@ returns-clause-sent g c =
     c.args.wanted c.args.said.now c.args.picture (drop 1 pictures) _
     (g.K.ByteSink.took c.args.sink.now) _ n each.between c.send_each-sent.new.sender
     (omega (arith, length-drop 1 pictures))
+    (subst (λ (f : Format). IsSize c.args.wanted.max_octets f) (sym c.requires.alike)
+    c.requires.limits)
     (first_sent (λ m. g.K.ByteSink.took m.now) c.args.wanted c.args.said.now
     (g.K.ByteSink.took c.args.sink.now) c.args.picture c.in-Ok.writer c.new-sender.result
     each.between c.in-Ok.ensures.place c.in-Ok.ensures.took c.new-sender.ensures.writer

@@ -5,7 +5,7 @@ use Rattle.capture_runs.proofs.followed.follow.Goals as goal
 pub returns-clause-followed : goal.returns-clause-followed
 returns-clause-followed c = (
   c.in_ok-follow_files.field-0,
-  follows_same c.args.asked _ _ _ _ _ c.args.pictures.now c.follow_files.new.pictures _ _ _
+  follows_same c.args.asked _ _ _ _ _ c.args.sinks.now c.follow_files.new.pictures _ _ _
       c.text_of.ensures c.as_slice.ensures.value c.in_ok-follow_files.ensures.followed,
 )
 

@@ -20,19 +20,20 @@ returns-clause-done c =
     let took' = output_took mid.output in
     on_ok c.follow_opened-outcome.result
     (IfOk was.opened (λ fill. FollowsFiles was.asked said was.files.ways.items files was.filling
-    fill was.out mid.out took took'))
+    fill was.outputs mid.outputs took took'))
     (IfOk was.opened (λ fill. FollowsFiles was.asked said was.files.ways.items files was.filling
-    fill was.out c.settle.new.out took took'))
-    (done_settled was.opened was.asked said was.files.ways.items files was.filling was.out mid.out
-    c.settle.new.out took took' c.settle.ensures.same) c.follow_opened-outcome.ensures.done
+    fill was.outputs c.settle.new.self took took'))
+    (done_settled was.opened was.asked said was.files.ways.items files was.filling was.outputs
+    mid.outputs
+    c.settle.new.self took took' c.settle.ensures.same) c.follow_opened-outcome.ensures.done
 
 pub returns-clause-refusal : goal.returns-clause-refusal
 returns-clause-refusal c =
     let was = c.args.self.now in
     let mid = c.follow_opened-outcome.new.self in
     if_err_map c.follow_opened-outcome.result
-    (λ f. of_refusal_map f (λ r. refused_settled was.opened _ _ r was.out mid.out c.settle.new.out
-    c.settle.ensures.same)) c.follow_opened-outcome.ensures.refusal
+    (λ f. of_refusal_map f (λ r. refused_settled was.opened _ _ r was.outputs mid.outputs
+    c.settle.new.self c.settle.ensures.same)) c.follow_opened-outcome.ensures.refusal
 
 pub returns-clause-owed : goal.returns-clause-owed
 returns-clause-owed c =
@@ -41,5 +42,5 @@ returns-clause-owed c =
     owed_settled was.opened c.follow_opened-outcome.result
     (failures_each replayed_failures was.sides.items)
     (failures_each replayed_failures mid.sides.items) (output_failures was.output)
-    (output_failures mid.output) was.out mid.out c.settle.new.out c.settle.ensures.same
+    (output_failures mid.output) was.outputs mid.outputs c.settle.new.self c.settle.ensures.same
     c.follow_opened-outcome.ensures.owed

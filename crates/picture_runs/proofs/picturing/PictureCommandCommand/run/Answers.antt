@@ -1,6 +1,6 @@
 use Rattle.std.proofs.Common.{sym}
 use Rattle.command_end.proofs.Quiet.{refused_both}
-use Rattle.picture_runs.proofs.Both.{on_ok_both}
+use Rattle.command_end.proofs.Outcomes.{on_ok_both}
 use Rattle.picture_runs.proofs.picturing.PictureCommandCommand.run.Goals as goal
 
 pub returns-clause-done : goal.returns-clause-done

@@ -1,0 +1,89 @@
+-- The files that `follow` writes, where they are named (own).
+use Rattle.std.specs.Prelude.{◌≡◌, ◌⊎◌, ◌+◌, ℕ, Bool, List, [], ◌++◌, Option, None, Some, IfSome}
+use Rattle.std.specs.Prelude.{IsFalse, IsSome, option_map}
+use Rattle.capture_runs.specs.Pictured.{IsSinkOver, SameFile, TakesPictures, failures_under}
+use Rattle.capture_runs.specs.Pictured.{file_under, octets_under}
+use Rattle.capture_runs.specs.declared.outputs.FollowOutputs.{FollowOutputs}
+use Rattle.capture_runs.specs.declared.unplaced.UnplacedOutput.{UnplacedOutput}
+use Rattle.devices.specs.Passed.{IsInPlace, IsUnplaced, file_took, writing_failures}
+use Rattle.devices.specs.declared.file_output.FileOutput.{FileOutput}
+use Rattle.following.specs.Following.{Handed}
+use Rattle.frame_sinks.specs.Sinks.{frames_report}
+use Rattle.frame_sinks.specs.declared.both.BothSinks.{BothSinks}
+use Rattle.frame_sinks.specs.declared.filling.Filling.{Filling}
+use Rattle.frame_sinks.specs.declared.form_sink.FormSink.{FormSink}
+use Rattle.frame_sinks.specs.declared.report_sink.ReportSink.{ReportSink}
+use Rattle.run_outcome.specs.Fault.{failures_in}
+
+-- these files
+abbrev pub outputs_of : Option FileOutput → Option FileOutput → FollowOutputs
+outputs_of out report = record { out = out; report = report }
+
+-- ---- where they stand
+
+-- nothing went into them, and what stood under their names stands there
+abbrev pub AreUnwritten : FollowOutputs → Type 0
+AreUnwritten o = IfSome o.out (λ f. (file_took f ≡ []) × IsUnplaced f)
+    × IfSome o.report (λ f. (file_took f ≡ []) × IsUnplaced f)
+
+-- what stood under their names stands there
+abbrev pub AreUnplaced : FollowOutputs → Type 0
+AreUnplaced o = IfSome o.out (λ f. IsUnplaced f) × IfSome o.report (λ f. IsUnplaced f)
+
+-- all that they took is in the files that have their names
+abbrev pub AreInPlace : FollowOutputs → Type 0
+AreInPlace o = IfSome o.out (λ f. IsInPlace f) × IfSome o.report (λ f. IsInPlace f)
+
+-- What stood under their names stands there; but where the pictures' file alone could not take its
+-- name, the report has its own.
+abbrev pub AreLeft : FollowOutputs → Type 0
+AreLeft o = IfSome o.out (λ f. IsUnplaced f) × (IfSome o.report (λ f. IsUnplaced f)
+    ⊎ (IsSome o.out × IfSome o.report (λ f. IsInPlace f)))
+
+-- where one is named, none is a file that is read
+abbrev pub AreApart : FollowOutputs → Bool → Type 0
+AreApart o is_input = IfSome o.out (λ _. IsFalse is_input) × IfSome o.report (λ _. IsFalse is_input)
+
+-- ---- what they took, and how often one failed
+
+-- A file took what a report has of these frames, where there is one; and nothing else.
+abbrev pub TakesReport : List Handed → Option FileOutput → Option FileOutput → Type 0
+TakesReport frames None g = g ≡ None
+TakesReport frames (Some f) None = ⊥
+TakesReport frames (Some f) (Some g) = file_took g ≡ file_took f ++ frames_report frames
+
+abbrev pub written_failures : FollowOutputs → ℕ
+written_failures o = failures_in writing_failures o.out + failures_in writing_failures o.report
+
+-- they took nothing more, and failed no more
+abbrev pub SameOutputs : FollowOutputs → FollowOutputs → Type 0
+SameOutputs o p = SameFile o.out p.out × SameFile o.report p.report
+
+-- ---- the sinks over them
+
+-- a sink of what frames lack stands over the file
+abbrev pub IsReportOver : Option FileOutput → Option (ReportSink UnplacedOutput) → Type 0
+IsReportOver None k = k ≡ None
+IsReportOver (Some f) None = ⊥
+IsReportOver (Some f) (Some k) = k.sink.file ≡ f
+
+-- the file below it
+abbrev pub report_under : Option (ReportSink UnplacedOutput) → Option FileOutput
+report_under k = option_map (λ s. s.sink.file) k
+
+abbrev pub report_failures : ReportSink UnplacedOutput → ℕ
+report_failures k = writing_failures k.sink.file
+
+-- the sinks over all of them
+abbrev pub FollowSinks : Type 0 → Type 0
+FollowSinks A = BothSinks (Option (FormSink UnplacedOutput A)) (Option (ReportSink UnplacedOutput))
+
+abbrev pub AreSinksOver : {A : Type 0} → Filling → Option (List ℕ) → FollowOutputs → FollowSinks A
+    → Type 0
+AreSinksOver filling fill o k = IsSinkOver filling fill o.out k.first × IsReportOver o.report k.second
+
+abbrev pub outputs_under : {A : Type 0} → FollowSinks A → FollowOutputs
+outputs_under k = outputs_of (file_under k.first) (report_under k.second)
+
+abbrev pub sinks_failures : {A : Type 0} → FollowSinks A → ℕ
+sinks_failures k = failures_in failures_under k.first + failures_in report_failures k.second

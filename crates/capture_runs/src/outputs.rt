@@ -1,0 +1,162 @@
+//! The files that `follow` writes, where they are named: the pictures' stream and the report.
+ghost use Rattle.std.specs.Prelude.{◌≡◌, ◌⊎◌, IfErr, IfSome, IsFalse, IsTrue, OnOk};
+ghost use Rattle.capture_runs.specs.Outputs.{AreApart, AreInPlace, AreLeft, AreSinksOver};
+ghost use Rattle.capture_runs.specs.Outputs.{AreUnplaced, AreUnwritten, IsReportOver};
+ghost use Rattle.capture_runs.specs.Outputs.{SameOutputs, outputs_under, report_under};
+ghost use Rattle.devices.specs.Passed.{IsUnplaced};
+ghost use Rattle.run_outcome.specs.Refusing.{OfRefusal};
+ghost use Rattle.run_outcome.specs.declared.refusal.Refusal.TheVariants.{OutputIsInput};
+ghost use Rattle.run_outcome.specs.declared.refusal.Writer.TheVariants.{Follow};
+
+use crate::opening::is_read;
+use crate::pictured::{file_of, find_place, named_output, settle, sink_over, writing};
+use crate::unplaced::UnplacedOutput;
+use command_line::FollowWords;
+use devices::{FileOutput, Writing};
+use frame_sinks::{BothSinks, Filling, FormSink, ReportSink};
+use run_outcome::Fault;
+use std::mem;
+
+/// A sink of frames over each file that is written.
+pub(crate) type FollowSinks<'a> = BothSinks<
+    Option<FormSink<UnplacedOutput<'a>>>,
+    Option<ReportSink<UnplacedOutput<'a>>>,
+>;
+
+/// The files that `follow` writes, those of them that are named.
+#[derive(Drop)]
+pub struct FollowOutputs<'a> {
+    /// The stream of the frames' pictures.
+    pub out: Option<FileOutput<'a>>,
+    /// What each frame lacks.
+    pub report: Option<FileOutput<'a>>,
+}
+
+impl<'a> FollowOutputs<'a> {
+    /// The files of these words, none of which is looked at yet. A part of one is of use, and
+    /// stays.
+    pub(crate) fn new(rt: &'a HostRuntime, words: &FollowWords<'a>) -> Self
+        ensures { AreUnwritten result }
+    {
+        FollowOutputs {
+            out: named_output(rt, words.out),
+            report: named_output(rt, words.report),
+        }
+    }
+
+    /// Leaves none, and answers those that there were.
+    pub(crate) fn take(&mut self) -> FollowOutputs<'a>
+        ensures { result ≡ self.old }
+    {
+        FollowOutputs {
+            out: mem::replace(&mut self.out, None),
+            report: mem::replace(&mut self.report, None),
+        }
+    }
+
+    /// Whether one of them is one of the files that these words say are read.
+    pub(crate) fn are_read(&self, rt: &HostRuntime, words: &FollowWords<'_>) -> bool {
+        is_among(rt, words, &self.out) || is_among(rt, words, &self.report)
+    }
+
+    /// Looks at their places.
+    pub(crate) fn find(&mut self, is_input: bool) -> Result<(), Fault>
+        requires { AreUnwritten self.old }
+        ensures unwritten { AreUnwritten self.new }
+        ensures apart { OnOk result (AreApart self.new is_input) }
+        ensures refusal { IfErr result (λ f. OfRefusal f
+            (λ r. (r ≡ OutputIsInput Follow) × IsTrue is_input)) }
+    {
+        find_place(&mut self.out, is_input)?;
+        find_place(&mut self.report, is_input)
+    }
+
+    /// Ends their writing, and tells whether that went well: the report's first, and where it could
+    /// not take its name the other file takes none either.
+    pub(crate) fn settle(&mut self, is_done: bool) -> bool
+        requires { AreUnplaced self.old }
+        ensures same { SameOutputs self.old self.new }
+        ensures placed { IsTrue result → IsTrue is_done → AreInPlace self.new }
+        ensures left { IsFalse is_done ⊎ IsFalse result → AreLeft self.new }
+    {
+        let is_reported = settle(&mut self.report, is_done);
+        let is_written = settle(&mut self.out, is_done && is_reported);
+        is_reported && is_written
+    }
+
+    /// How the writing went of the one that failed, or else of the first one.
+    pub(crate) fn writing(&self) -> Option<Writing<'_>> {
+        match writing(&self.report) {
+            Some(report) if report.has_failed => Some(report),
+            report => writing(&self.out).or(report),
+        }
+    }
+}
+
+/// Whether a file, where there is one, is one of those that are read.
+fn is_among(rt: &HostRuntime, words: &FollowWords<'_>, file: &Option<FileOutput<'_>>) -> bool {
+    match file {
+        Some(file) => is_read(rt, words.sdp, words.recordings.as_slice(), file.identity()),
+        None => false,
+    }
+}
+
+/// Sinks over the files, those of them that there are.
+pub(crate) fn sinks_over<'a>(
+    rt: &HostRuntime,
+    filling: Filling,
+    fill: Option<[u16; 3]>,
+    outputs: FollowOutputs<'a>,
+) -> FollowSinks<'a>
+    requires { AreUnplaced outputs }
+    ensures { AreSinksOver filling fill outputs.entry result }
+{
+    BothSinks {
+        first: sink_over(rt, filling, fill, outputs.out),
+        second: report_over(outputs.report),
+    }
+}
+
+/// A sink of what frames lack over the file, where there is one.
+fn report_over<'a>(report: Option<FileOutput<'a>>) -> Option<ReportSink<UnplacedOutput<'a>>>
+    requires { IfSome report (λ f. IsUnplaced f) }
+    ensures { IsReportOver report.entry result }
+{
+    match report {
+        Some(file) => Some(ReportSink {
+            sink: UnplacedOutput { file },
+        }),
+        None => None,
+    }
+}
+
+/// The files below sinks.
+pub(crate) fn outputs_of<'a>(sinks: FollowSinks<'a>) -> FollowOutputs<'a>
+    ensures files { result ≡ outputs_under sinks.entry }
+    ensures unplaced { AreUnplaced result }
+{
+    FollowOutputs {
+        out: file_of(sinks.first),
+        report: report_of(sinks.second),
+    }
+}
+
+/// The file below a sink of what frames lack, where there is one.
+fn report_of<'a>(sink: Option<ReportSink<UnplacedOutput<'a>>>) -> Option<FileOutput<'a>>
+    ensures file { result ≡ report_under sink.entry }
+    ensures unplaced { IfSome result (λ f. IsUnplaced f) }
+{
+    match sink {
+        Some(sink) => Some(file_reported(sink)),
+        None => None,
+    }
+}
+
+/// The file below a sink of what frames lack.
+fn file_reported<'a>(report: ReportSink<UnplacedOutput<'a>>) -> FileOutput<'a>
+    ensures file { result ≡ report.entry.sink.file }
+    ensures unplaced { IsUnplaced result }
+{
+    let below = report.sink;
+    below.file
+}

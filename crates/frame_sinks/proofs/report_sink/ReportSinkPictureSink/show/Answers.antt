@@ -1,0 +1,5 @@
+use Rattle.run_outcome.proofs.Blaming.{failed_one}
+use Rattle.frame_sinks.proofs.report_sink.ReportSinkPictureSink.show.Goals as goal
+
+pub returns-in-Err-clause-failures : goal.returns-in-Err-clause-failures
+returns-in-Err-clause-failures g c = failed_one _ _ c.in-Err.ensures.counted
