@@ -192,6 +192,102 @@ run send --sdp none.sdp --pt sdp --out no-send.cap no-such-file
 says 'send: the payload type of a text that is no SDP' 1 '' 'st2110: sdp 2 NoVideo'
 none 'send: nothing is written for such a text' no-send.cap
 
+# A stream of pictures sends what their files do. Its planes are Y, Cb and Cr; other words of its lines say nothing.
+grey='80808080 80808080'
+{
+    printf 'YUV4MPEG2 W4 H2 F60:1 Ip A1:1 C422 XYSCSS=422\nFRAME\n'
+    octets "1011121314151617 $grey"
+    printf 'FRAME Ip XNOTHING\n'
+    octets "1415161710111213 $grey"
+    printf 'FRAME\n'
+    octets "2021222324252627 $grey"
+} >three.y4m
+run send --out stream.cap --max 40 --first 5 --base 900 three.y4m
+says 'a stream' 0 'sent 6' ''
+alike 'a stream: the file' stream.cap three.cap
+"$program" send --out stream.cap --max 40 --first 5 --base 900 - <three.y4m >out 2>err
+status=$?
+says 'a stream on standard input' 0 'sent 6' ''
+alike 'a stream on standard input: the file' stream.cap three.cap
+cat three.y4m | "$program" send --out - --max 40 --first 5 --base 900 - 2>err >stream.cap
+alike 'a stream in a pipe of both sides: the file' stream.cap three.cap
+while read -r asked; do
+    # shellcheck disable=SC2086
+    run send $asked --out files.cap p.pic swapped.pic third.pic
+    mv out files.out
+    # shellcheck disable=SC2086
+    run send $asked --out stream.cap three.y4m
+    says "a stream, $asked" 0 "$(cat files.out)" ''
+    alike "a stream, $asked: the file" stream.cap files.cap
+done <<'END'
+--sdp typed.sdp --pt sdp --paths both
+--sdp other.sdp --pt 97 --ssrc 4294967295 --paths b
+--max 24 --first 4294967295 --base 4294967295
+END
+run send --verbose --sdp other.sdp --pt sdp --out stream.cap three.y4m
+says 'a stream of another format than the SDP says' 0 'sent 3' \
+    '  the SDP says YCbCr-4:2:2 10 4 2 30000/1001 pt 100, sent was YCbCr-4:2:2 8 4 2 60 pt 100'
+# Of 10 bits a stream has two octets for a sample, the low one first: Cb 155, Y 040, Cr 2AA, Y 3AC.
+octets '5332305049433031 000A000200010000EA60000003E9 55440AABAC' >ten.pic
+{
+    printf 'YUV4MPEG2 W2 H1 F60000:1001 C422p10\nFRAME\n'
+    octets '4000AC03 5501 AA02'
+    printf 'FRAME\n'
+    octets '4000AC03 5501 AA02'
+} >ten.y4m
+run send --out files.cap ten.pic ten.pic
+run send --out stream.cap ten.y4m
+says 'a stream of 10 bits' 0 'sent 2' ''
+alike 'a stream of 10 bits: the file' stream.cap files.cap
+# A head and no frame.
+head -c 46 three.y4m >front.y4m
+run send --out front.cap front.y4m
+says 'a stream without pictures' 0 'sent 0' ''
+none 'a stream without pictures: nothing is written' front.cap
+
+# Faults of streams: what was sent before stays.
+head -c 75 three.y4m >cut.y4m
+run send --out cut.cap --max 42 cut.y4m
+says 'send: a stream that is cut' 1 '' 'st2110: form 7 Truncated'
+holds 'send: a stream that is cut, what was sent' cut.cap.partial "$one"
+run send --verbose --out cut.cap --max 42 cut.y4m
+says 'send: a stream that is cut, where' 1 '' 'st2110: form 7 Truncated
+  at cut.y4m, octet 75; wanted more octets: the file ends before it is whole; what was written stays as cut.cap.partial'
+{
+    head -c 68 three.y4m
+    printf 'FRAMES\n'
+} >bad.y4m
+run send --out bad.cap --max 42 bad.y4m
+says 'send: no second frame' 1 '' 'st2110: form 4 BadHeader'
+holds 'send: no second frame, what was sent' bad.cap.partial "$one"
+cp p.pic pic.y4m
+printf 'YUV4MPEG2 W4 H2 F25:1 Ip A0:0 C420jpeg XYSCSS=420JPEG\n' >yellow.y4m
+printf 'YUV4MPEG2 W3 H2 F60:1 C422\n' >odd.y4m
+while read -r fault asked; do
+    # shellcheck disable=SC2086
+    run send --out no-send.cap $asked
+    says "send: $asked" 1 '' "st2110: $(printf '%s' "$fault" | tr _ ' ')"
+done <<'END'
+form_3_BadMagic pic.y4m
+form_5_UnsupportedForm yellow.y4m
+form_6_BadFormat odd.y4m
+form_3_BadMagic --max 23 pic.y4m
+plan_2_BadPacketSize --max 23 three.y4m
+sdp_2_NoVideo --sdp none.sdp pic.y4m
+END
+none 'send: nothing is written after a stream is refused' no-send.cap
+run send --out three.y4m three.y4m
+says 'send: a stream is the output' 1 '' 'st2110: send 4 OutputIsInput'
+run send --out no-send.cap no-such.y4m
+says 'send: no such stream' 3 '' 'st2110: device'
+for beside in p.pic three.y4m -; do
+    run send --out no-send.cap three.y4m $beside
+    misworded "send: a stream, and $beside" \
+        "invalid value 'three.y4m' for '<PICTURE>...': a stream of pictures is sent alone" -
+done
+run send --out no-send.cap p.pic -
+misworded 'send: a picture, and standard input' "invalid value '-' for '<PICTURE>...': a stream of pictures is sent alone" -
+
 # Words that the command line refuses.
 run send p.pic
 misworded 'send: without --out' "$missing\n  --out <FILE>" 'send --out <FILE> <PICTURE>...'
