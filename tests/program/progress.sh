@@ -60,6 +60,13 @@ slow p.cap 100 | "$program" receive --window 900 --state slow.rcv - >out 2>err
 status=$?
 says 'a pipe without progress' 0 "delivered 8
 $whole" ''
+# A standard error that takes nothing changes nothing.
+slow p.cap 100 | "$program" receive --progress --window 900 --state slow.rcv - >out 2>/dev/full
+status=$?
+: >err
+says 'progress into a full device' 0 "delivered 8
+$whole" ''
+alike 'progress into a full device: the receiver' slow.rcv plain.rcv
 
 # The size of plain files is known of all together: three pictures of a mebioctet and 22 octets, sent into a pipe of which
 # one more than the first is taken, and then the rest.
