@@ -6,4 +6,3 @@ pub mod Told
 pub mod Sound
 pub mod Oldest
 pub mod Whole
-pub mod SoFar
