@@ -13,6 +13,10 @@ use Rattle.picture_forms.specs.Frames.{GaveFrame, TakesFrame, frame_walk}
 use Rattle.picture_forms.specs.Layouts.{planes_text}
 use Rattle.picture_forms.specs.Streams.{standing_after}
 use Rattle.picture_forms.specs.Walks.{GaveFault}
+use Rattle.packet_plan.specs.declared.plan.PlanFault.{PlanFault}
+use Rattle.packet_plan.specs.declared.plan.PlanFault.TheVariants.{NoMemory, BadPacketSize}
+use Rattle.run_outcome.specs.LowerFaults.{of_plan}
+use Rattle.run_outcome.specs.Pictures.{IsPlanFault}
 use Rattle.run_outcome.specs.Refusing.{OfRefusal}
 use Rattle.run_outcome.specs.declared.refusal.Refusal.{Refusal}
 use Rattle.run_outcome.specs.declared.refusal.Refusal.TheVariants as refusal
@@ -151,3 +155,11 @@ refused_first most f v a b c ended first refusal.SendPictures wrong = record {
   many = omega (arith, wrong.many);
 }
 refused_first most f v a b c ended first r wrong = absurd wrong
+
+-- that there is no plan
+pub plan_refused : (most : ℕ) (f g : Format) (a : List ℕ) (ended : Type 0) (e : PlanFault) → g ≡ f
+    → (e ≡ BadPacketSize → IsPlanFault most g BadPacketSize)
+    → OfRefusal (of_plan e) (IsOpenedRefusal most f a a ended)
+plan_refused most f g a ended NoMemory same is = tt
+plan_refused most f g a ended BadPacketSize same is =
+    (refl, subst (λ (x : Format). IsPlanFault most x BadPacketSize) same (is refl))

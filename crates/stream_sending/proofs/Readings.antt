@@ -1,7 +1,7 @@
 -- What was read is a stream, or has a first fault.
 use Rattle.std.proofs.Common.{◌≡◌, ℕ, inl, inr, List, [], ◌∷◌, ◌++◌, Result, Ok, Err, append_assoc}
 use Rattle.std.proofs.Common.{append-nil, sym, ap, subst, ◌∙◌}
-use Rattle.std.specs.Prelude.{IfErr}
+use Rattle.std.specs.Prelude.{IfErr, IfOk, OnOk}
 use Rattle.st_format.specs.declared.format.Format.{Format}
 use Rattle.st_format.specs.Fields.{fields_of}
 use Rattle.st_format.specs.Given.{GaveValue}
@@ -147,3 +147,9 @@ pub frames_refused : {V : Type 0} (most : ℕ) (f : Format) (r : Result V Fault)
     → IfErr r (λ e. OfRefusal e (IsFramesRefusal most (IsRead a c ended)))
 frames_refused most f r a b c ended h wrong =
     if_err_map r (λ e is. of_refusal_map e (opened_refused most f a b c ended h) is) wrong
+
+-- where a run ended well, so did the source
+pub ended_ok : {V E : Type 0} {P : V → Type 0} {Q : Type 0} (r : Result V E) → ((v : V) → P v → Q)
+    → IfOk r P → OnOk r Q
+ended_ok (Ok v) then p = then v p
+ended_ok (Err e) then p = tt

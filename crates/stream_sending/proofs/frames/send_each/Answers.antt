@@ -1,4 +1,4 @@
-use Rattle.std.proofs.Common.{◌∙◌, ap, arith, refl, sym}
+use Rattle.std.proofs.Common.{[], ◌∙◌, ◌∷◌, ap, arith, length, length-append, refl, sym}
 use Rattle.std.proofs.lemmas.Result.{err_from_is_err_and}
 use Rattle.run_outcome.proofs.Refusals.{of_refusal_map}
 use Rattle.stream_sending.proofs.FramesRead.{gave_end, refused_behind}
@@ -21,3 +21,79 @@ loop-place-init g c = record {
   sent = none_so_far g.K.ByteSink.took c.args.reader.now.format c.args.picture
       (g.S.ByteSource.gave c.args.reader.now.source) c.args.sender.now;
 }
+
+pub loop-place-preserved : goal.loop-place-preserved
+loop-place-preserved g c =
+    let l = c.loop-place in
+    let told = g.S.ByteSource in
+    let next = c.in_ok-next_picture.ensures in
+    record {
+      room = c.in_ok-send.ensures.room;
+      stands = c.in_ok-send.ensures.stands;
+      reads = rw c.in-Some.is at next.reads;
+      plan = c.in_ok-send.ensures.plan ∙ l.invariant.plan;
+      stream = next.format ∙ l.invariant.stream;
+      format = (rw c.in-Some.is at next.gave).0 ∙ l.invariant.stream;
+      alike = (rw c.in-Some.is at next.gave).0 ∙ l.invariant.stream
+          ∙ sym l.invariant.format ∙ l.invariant.alike;
+      source = next.failures ∙ l.invariant.source;
+      sink = c.in_ok-send.ensures.failures ∙ l.invariant.sink;
+      read_names = next.names ∙ l.invariant.read_names;
+      names = c.in_ok-send.ensures.names ∙ l.invariant.names;
+      sent = more_so_far g.K.ByteSink.took c.args.reader.now.format l.place c.args.picture
+          l.picture c.in-Some.next (told.gave c.args.reader.now.source)
+          (told.gave l.reader.source) (told.gave c.next_picture.new.reader.source)
+          c.args.sender.now l.sender c.send.new.self l.invariant.sent c.in_ok-send.ensures.sent
+          (rw l.invariant.stream at (rw c.in-Some.is at next.gave));
+    }
+
+pub returns-in-None-clause-sent : goal.returns-in-None-clause-sent
+returns-in-None-clause-sent g c =
+    let l = c.loop-place in
+    let told = g.S.ByteSource in
+    let so_far = l.invariant.sent in
+    let gave = rw c.in-None.is at c.in_ok-next_picture.ensures.gave in
+    record {
+      rest = so_far.rest;
+      gave = gave_end c.args.reader.now.format so_far.rest (told.gave c.args.reader.now.source)
+          (told.gave l.reader.source) (told.gave c.next_picture.new.reader.source) so_far.gave
+          gave.0;
+      over = gave.1;
+      sent = all_so_far g.K.ByteSink.took c.args.reader.now.format l.place c.args.picture
+          l.picture (told.gave c.args.reader.now.source) (told.gave l.reader.source)
+          c.args.sender.now l.sender c.send.new.self so_far c.in_ok-send.ensures.sent;
+    }
+
+pub returns-in_err-send-clause-refusal : goal.returns-in_err-send-clause-refusal
+returns-in_err-send-clause-refusal g c =
+    let l = c.loop-place in
+    let p = err_from_is_err_and c.from_residual.result c.from_residual.ensures.1 in
+    rw (p.1, p.2) (of_refusal_map c.in_err-send.field-0.0
+    (λ r is. absurd (is.1 (l.invariant.alike ∙ ap (λ x. x.format) (sym l.invariant.plan))))
+    c.in_err-send.ensures.refusal)
+
+pub returns-in_err-next_picture-clause-refusal : goal.returns-in_err-next_picture-clause-refusal
+returns-in_err-next_picture-clause-refusal g c =
+    let l = c.loop-place in
+    let told = g.S.ByteSource in
+    let p = err_from_is_err_and c.from_residual-in_err-next_picture.result
+    c.from_residual-in_err-next_picture.ensures.1 in
+    rw (p.1, p.2) (of_refusal_map c.in_err-next_picture.field-0.0
+    (refused_behind 4294967295 c.args.reader.now.format l.invariant.sent.rest
+    (told.gave c.args.reader.now.source) (told.gave l.reader.source) _ _ l.invariant.sent.gave)
+    (rw l.invariant.stream at c.in_err-next_picture.ensures.refusal))
+
+pub returns-clause-refusal : goal.returns-clause-refusal
+returns-clause-refusal g c =
+    let l = c.loop-place in
+    let so_far = l.invariant.sent in
+    record {
+      pictures = so_far.rest;
+      gave = so_far.gave;
+      many = omega (
+        arith,
+        so_far.count,
+        ap length so_far.read,
+        length-append so_far.sent (l.picture ∷ []),
+      );
+    }

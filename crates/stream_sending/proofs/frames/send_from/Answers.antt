@@ -1,0 +1,26 @@
+use Rattle.std.proofs.Common.{ap, inr, rules, ◌∙◌}
+use Rattle.run_outcome.proofs.SetSums.{counted_behind}
+use Rattle.capture_engines.proofs.Sendings.{if_ok_both, open_failed}
+use Rattle.stream_sending.proofs.Sendings.{stream_sent}
+use Rattle.stream_sending.proofs.frames.send_from.Goals as goal
+
+pub returns-clause-sent : goal.returns-clause-sent
+returns-clause-sent g c =
+    if_ok_both c.send_each-sent.result _ _ _
+    (λ n each count. record {
+      rest = each.rest;
+      gave = each.gave;
+      over = each.over;
+      taken = stream_sent (λ m. g.K.ByteSink.took m.now) c.args.wanted c.args.said.now
+          c.args.reader.now.format c.args.first each.rest (g.K.ByteSink.took c.args.sink.now) _ n
+          c.in-Ok.writer c.new-sender.result c.send_each-sent.new.sender c.in-Ok.ensures.place
+          c.in-Ok.ensures.took c.new-sender.ensures.writer c.new-sender.ensures.wanted
+          c.new-sender.ensures.next c.new-sender.ensures.sent each.sent c.requires.format
+          (search rules) count;
+    }) c.send_each-sent.ensures.sent c.send_each-sent.ensures.count
+
+pub returns-clause-failures : goal.returns-clause-failures
+returns-clause-failures g c =
+    counted_behind c.send_each-sent.result _ _ _ _ _
+    (ap (λ w. g.K.ByteSink.failures w.sink.now) c.new-sender.ensures.writer
+    ∙ c.in-Ok.ensures.counted) (search rules) c.send_each-sent.ensures.failures

@@ -1,0 +1,56 @@
+use Rattle.std.proofs.Common.{[], ◌∷◌, Err, ap, refl}
+use Rattle.std.proofs.lemmas.Result.{IfOk-weaker, err_from_is_err_and}
+use Rattle.run_outcome.proofs.Refusals.{if_err_map, of_refusal_map}
+use Rattle.stream_sending.proofs.Frames.{gave_end, gave_first, gave_none, plan_refused}
+use Rattle.stream_sending.proofs.Frames.{refused_first, refused_next}
+use Rattle.stream_sending.proofs.frames.send_opened.Goals as goal
+
+pub returns-in_err-plan-clause-refusal : goal.returns-in_err-plan-clause-refusal
+returns-in_err-plan-clause-refusal g c =
+    let p = err_from_is_err_and c.from_residual.result c.from_residual.ensures.1 in
+    rw (p.1, p.2)
+    (plan_refused c.args.wanted.max_octets c.args.reader.now.format c.format.result
+    (g.S.ByteSource.gave c.args.reader.now.source) _ c.in_err-plan.field-0.0
+    c.format.ensures.value (λ is. c.in_err-plan.ensures.size.0 (ap Err is)))
+
+pub returns-in_err-next_picture-clause-refusal : goal.returns-in_err-next_picture-clause-refusal
+returns-in_err-next_picture-clause-refusal g c =
+    let p = err_from_is_err_and c.from_residual-in_err-next_picture.result
+    c.from_residual-in_err-next_picture.ensures.1 in
+    rw (p.1, p.2) (of_refusal_map c.in_err-next_picture.field-0.0
+    (refused_next c.args.wanted.max_octets c.args.reader.now.format _ _ _)
+    c.in_err-next_picture.ensures.refusal)
+
+pub returns-in-None-clause-sent : goal.returns-in-None-clause-sent
+returns-in-None-clause-sent g c =
+    let f = c.args.reader.now.format in
+    let start = g.S.ByteSource.gave c.args.reader.now.source in
+    let gave = rw c.in-None.is at c.in_ok-next_picture.ensures.gave in
+    record {
+      pictures = [];
+      gave = gave_end f [] start start _ (gave_none f start) gave.0;
+      over = gave.1;
+      taken = (refl, refl);
+    }
+
+pub returns-in-Some-clause-sent : goal.returns-in-Some-clause-sent
+returns-in-Some-clause-sent g c =
+    let f = c.args.reader.now.format in
+    let next = c.in_ok-next_picture.ensures in
+    IfOk-weaker c.send_from.result _ _
+    (λ n sends. record {
+      pictures = c.in-Some.first ∷ sends.rest;
+      gave = gave_first f c.in-Some.first sends.rest _ _ _ (rw c.in-Some.is at next.gave)
+          sends.gave;
+      over = sends.over;
+      taken = sends.taken;
+    }) (rw next.format at c.send_from.ensures.sent)
+
+pub returns-in-Some-clause-refusal : goal.returns-in-Some-clause-refusal
+returns-in-Some-clause-refusal g c =
+    let f = c.args.reader.now.format in
+    let next = c.in_ok-next_picture.ensures in
+    if_err_map c.send_from.result
+    (λ e. of_refusal_map e (refused_first c.args.wanted.max_octets f c.in-Some.first _ _ _ _
+    (rw c.in-Some.is at next.gave)))
+    (rw next.format at c.send_from.ensures.refusal)

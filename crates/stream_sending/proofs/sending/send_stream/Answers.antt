@@ -1,0 +1,50 @@
+use Rattle.std.proofs.Common.{List, inl, inr, subst, sym, ℕ, ◌∙◌}
+use Rattle.std.proofs.lemmas.Result.{err_from_is_err_and}
+use Rattle.st_format.specs.History.{IsRead}
+use Rattle.run_outcome.proofs.Printed.{on_ok}
+use Rattle.run_outcome.proofs.Refusals.{of_refusal_map}
+use Rattle.run_outcome.specs.TextRefusals.{IsCaptureText, SaysText}
+use Rattle.capture_engines.proofs.Sendings.{on_any}
+use Rattle.capture_engines.proofs.TypedTexts.{text_given}
+use Rattle.stream_sending.specs.Sent.{IsFramesRefusal, IsSentBy}
+use Rattle.stream_sending.proofs.sending.send_stream.Goals as goal
+
+pub returns-clause-sent : goal.returns-clause-sent
+returns-clause-sent g c =
+    on_ok c.print.result _ _
+    (λ printed. record {
+      text = c.deref-2.result.now;
+      says =
+          subst (λ (l : List ℕ). SaysText g.S.ByteSource.gave g.S.ByteSource.ended
+          c.args.sdp.now c.read_if_given.new.sdp l)
+          (sym c.deref-2.ensures.value) c.in_ok-said.ensures.says;
+      sending = c.in_ok-sending.sending;
+      sending_is =
+          subst (λ (l : List ℕ). IsSentBy c.args.by_sdp c.args.wanted l c.in_ok-sending.sending)
+          (c.deref.ensures.value ∙ sym c.deref-2.ensures.value) c.in_ok-sending.ensures.sent;
+      count = c.in_ok-sent.sent;
+      frames = c.in_ok-sent.ensures.sent;
+      line = printed;
+    }) c.print.ensures.printed
+
+pub sending_by-requires-text : goal.sending_by-requires-text
+sending_by-requires-text g c is =
+    subst IsCaptureText (sym c.deref.ensures.value)
+    (text_given g.S.ByteSource.gave g.S.ByteSource.ended c.args.sdp.now c.read_if_given.new.sdp _
+    (c.requires.given is) c.in_ok-said.ensures.says)
+
+pub returns-in_err-sent-clause-refusal : goal.returns-in_err-sent-clause-refusal
+returns-in_err-sent-clause-refusal g c =
+    let told = g.S.ByteSource in
+    let f = c.in_err-sent.field-0.0 in
+    let p = err_from_is_err_and c.from_residual-in_err-sent.result
+    c.from_residual-in_err-sent.ensures.1 in
+    rw (p.1, p.2)
+    (of_refusal_map f (λ r is. inr (
+    subst (λ (n : ℕ). IsFramesRefusal n (IsRead (told.gave c.args.stream.now)
+    (told.gave c.send_frames.new.stream) (told.ended c.send_frames.new.stream)) r)
+    c.in_ok-sending.ensures.size is
+    )) c.in_err-sent.ensures.refusal)
+
+pub returns-clause-ended : goal.returns-clause-ended
+returns-clause-ended g c = on_any c.print.result _ c.in_ok-sent.ensures.ended
