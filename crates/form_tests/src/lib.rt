@@ -5,11 +5,11 @@
 #[cfg(test)]
 mod checks;
 #[cfg(test)]
-mod engine_calls;
-#[cfg(test)]
-mod engines;
-#[cfg(test)]
 mod faults;
+#[cfg(test)]
+mod form_calls;
+#[cfg(test)]
+mod form_engines;
 #[cfg(test)]
 mod growths;
 #[cfg(test)]
