@@ -1,8 +1,8 @@
 use Rattle.std.proofs.Common.{[], ◌∷◌, Err, ap, refl}
 use Rattle.std.proofs.lemmas.Result.{IfOk-weaker, err_from_is_err_and}
 use Rattle.run_outcome.proofs.Refusals.{if_err_map, of_refusal_map}
-use Rattle.stream_sending.proofs.Frames.{gave_end, gave_first, gave_none, plan_refused}
-use Rattle.stream_sending.proofs.Frames.{refused_first, refused_next}
+use Rattle.stream_sending.proofs.FramesRead.{gave_end, gave_first, gave_none, plan_refused}
+use Rattle.stream_sending.proofs.FramesRead.{refused_first, refused_next}
 use Rattle.stream_sending.proofs.frames.send_opened.Goals as goal
 
 pub returns-in_err-plan-clause-refusal : goal.returns-in_err-plan-clause-refusal
