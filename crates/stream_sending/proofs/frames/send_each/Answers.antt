@@ -26,7 +26,7 @@ pub loop-place-preserved : goal.loop-place-preserved
 loop-place-preserved g c =
     let l = c.loop-place in
     let told = g.S.ByteSource in
-    let next = c.in_ok-next_picture.ensures in
+    let next = c.in_ok-next.ensures in
     record {
       room = c.in_ok-send.ensures.room;
       stands = c.in_ok-send.ensures.stands;
@@ -52,7 +52,7 @@ returns-in-None-clause-sent g c =
     let l = c.loop-place in
     let told = g.S.ByteSource in
     let so_far = l.invariant.sent in
-    let gave = rw c.in-None.is at c.in_ok-next_picture.ensures.gave in
+    let gave = rw c.in-None.is at c.in_ok-next.ensures.gave in
     record {
       rest = so_far.rest;
       gave = gave_end c.args.reader.now.format so_far.rest (told.gave c.args.reader.now.source)
@@ -72,16 +72,16 @@ returns-in_err-send-clause-refusal g c =
     (λ r is. absurd (is.1 (l.invariant.alike ∙ ap (λ x. x.format) (sym l.invariant.plan))))
     c.in_err-send.ensures.refusal)
 
-pub returns-in_err-next_picture-clause-refusal : goal.returns-in_err-next_picture-clause-refusal
-returns-in_err-next_picture-clause-refusal g c =
+pub returns-in_err-next-clause-refusal : goal.returns-in_err-next-clause-refusal
+returns-in_err-next-clause-refusal g c =
     let l = c.loop-place in
     let told = g.S.ByteSource in
-    let p = err_from_is_err_and c.from_residual-in_err-next_picture.result
-    c.from_residual-in_err-next_picture.ensures.1 in
-    rw (p.1, p.2) (of_refusal_map c.in_err-next_picture.field-0.0
+    let p = err_from_is_err_and c.from_residual-in_err-next.result
+    c.from_residual-in_err-next.ensures.1 in
+    rw (p.1, p.2) (of_refusal_map c.in_err-next.field-0.0
     (refused_behind 4294967295 c.args.reader.now.format l.invariant.sent.rest
     (told.gave c.args.reader.now.source) (told.gave l.reader.source) _ _ l.invariant.sent.gave)
-    (rw l.invariant.stream at c.in_err-next_picture.ensures.refusal))
+    (rw l.invariant.stream at c.in_err-next.ensures.refusal))
 
 pub returns-clause-refusal : goal.returns-clause-refusal
 returns-clause-refusal g c =

@@ -13,19 +13,19 @@ returns-in_err-plan-clause-refusal g c =
     (g.S.ByteSource.gave c.args.reader.now.source) _ c.in_err-plan.field-0.0
     c.format.ensures.value (λ is. c.in_err-plan.ensures.size.0 (ap Err is)))
 
-pub returns-in_err-next_picture-clause-refusal : goal.returns-in_err-next_picture-clause-refusal
-returns-in_err-next_picture-clause-refusal g c =
-    let p = err_from_is_err_and c.from_residual-in_err-next_picture.result
-    c.from_residual-in_err-next_picture.ensures.1 in
-    rw (p.1, p.2) (of_refusal_map c.in_err-next_picture.field-0.0
+pub returns-in_err-first-clause-refusal : goal.returns-in_err-first-clause-refusal
+returns-in_err-first-clause-refusal g c =
+    let p = err_from_is_err_and c.from_residual-in_err-first.result
+    c.from_residual-in_err-first.ensures.1 in
+    rw (p.1, p.2) (of_refusal_map c.in_err-first.field-0.0
     (refused_next c.args.wanted.max_octets c.args.reader.now.format _ _ _)
-    c.in_err-next_picture.ensures.refusal)
+    c.in_err-first.ensures.refusal)
 
 pub returns-in-None-clause-sent : goal.returns-in-None-clause-sent
 returns-in-None-clause-sent g c =
     let f = c.args.reader.now.format in
     let start = g.S.ByteSource.gave c.args.reader.now.source in
-    let gave = rw c.in-None.is at c.in_ok-next_picture.ensures.gave in
+    let gave = rw c.in-None.is at c.in_ok-first.ensures.gave in
     record {
       pictures = [];
       gave = gave_end f [] start start _ (gave_none f start) gave.0;
@@ -36,7 +36,7 @@ returns-in-None-clause-sent g c =
 pub returns-in-Some-clause-sent : goal.returns-in-Some-clause-sent
 returns-in-Some-clause-sent g c =
     let f = c.args.reader.now.format in
-    let next = c.in_ok-next_picture.ensures in
+    let next = c.in_ok-first.ensures in
     IfOk-weaker c.send_from.result _ _
     (λ n sends. record {
       pictures = c.in-Some.first ∷ sends.rest;
@@ -49,7 +49,7 @@ returns-in-Some-clause-sent g c =
 pub returns-in-Some-clause-refusal : goal.returns-in-Some-clause-refusal
 returns-in-Some-clause-refusal g c =
     let f = c.args.reader.now.format in
-    let next = c.in_ok-next_picture.ensures in
+    let next = c.in_ok-first.ensures in
     if_err_map c.send_from.result
     (λ e. of_refusal_map e (refused_first c.args.wanted.max_octets f c.in-Some.first _ _ _ _
     (rw c.in-Some.is at next.gave)))
