@@ -9,12 +9,15 @@ use Rattle.picture_forms.specs.declared.fault.FormFault.{FormFault}
 use Rattle.picture_forms.specs.declared.fault.FormFault.TheVariants as form
 use Rattle.picture_forms.specs.declared.streams.Standing.{Standing}
 use Rattle.picture_forms.specs.declared.streams.Standing.TheVariants.{Reads}
+use Rattle.picture_forms.specs.Faults.{CountsFault}
 use Rattle.picture_forms.specs.Frames.{GaveFrame, TakesFrame, frame_walk}
 use Rattle.picture_forms.specs.Layouts.{planes_text}
 use Rattle.picture_forms.specs.Streams.{standing_after}
 use Rattle.picture_forms.specs.Walks.{GaveFault}
 use Rattle.packet_plan.specs.declared.plan.PlanFault.{PlanFault}
 use Rattle.packet_plan.specs.declared.plan.PlanFault.TheVariants.{NoMemory, BadPacketSize}
+use Rattle.run_outcome.proofs.Blaming.{failed_one}
+use Rattle.run_outcome.specs.Fault.{Blames, counts}
 use Rattle.run_outcome.specs.LowerFaults.{of_plan}
 use Rattle.run_outcome.specs.Pictures.{IsPlanFault}
 use Rattle.run_outcome.specs.Refusing.{OfRefusal}
@@ -121,6 +124,18 @@ next_refused f a b ended form.Truncated g =
     record { part = g.part; grown = g.grown; says = g.says }
 next_refused f a b ended form.ValueTooLarge g =
     record { part = g.part; grown = g.grown; says = g.says }
+
+-- what it says of how often a source failed
+pub form_blames : (f : FormFault) (old new : ℕ) → CountsFault f old new
+    → Blames (counts old new ∷ []) (form_fault f)
+form_blames form.NoMemory old new is = is
+form_blames form.Device old new is = failed_one old new is
+form_blames form.BadMagic old new is = is
+form_blames form.BadHeader old new is = is
+form_blames form.UnsupportedForm old new is = is
+form_blames form.BadFormat old new is = is
+form_blames form.Truncated old new is = is
+form_blames form.ValueTooLarge old new is = is
 
 -- ---- refusals
 

@@ -10,7 +10,6 @@ use Rattle.st_format.specs.Picture.{Values}
 use Rattle.st_format.proofs.Histories.{since_is}
 use Rattle.picture_forms.specs.declared.fault.FormFault.{FormFault}
 use Rattle.picture_forms.specs.declared.fault.FormFault.TheVariants as form
-use Rattle.picture_forms.specs.Faults.{IfContent}
 use Rattle.picture_forms.specs.Heads.{HasHead, head_walk}
 use Rattle.picture_forms.specs.Walks.{GaveFault}
 use Rattle.picture_forms.proofs.HeadIs.{head_found}
@@ -21,7 +20,6 @@ use Rattle.run_outcome.specs.declared.refusal.Refusal.{Refusal}
 use Rattle.run_outcome.specs.declared.refusal.Refusal.TheVariants as refusal
 use Rattle.capture_engines.specs.declared.sender.Sending.{Sending}
 use Rattle.convert_engine.specs.Converting.{form_fault}
-use Rattle.convert_engine.proofs.Contents.{content_map, content_told}
 use Rattle.stream_sending.specs.Reading.{GaveFrames, IsOpenedRefusal, SendsOpened}
 use Rattle.stream_sending.specs.Sent.{IsFramesRefusal, SendsFrames}
 use Rattle.stream_sending.specs.Streams.{BeginsFrames, BeginsStream, IsStreamFault, IsStreamOf}
@@ -76,26 +74,29 @@ frames_sent wanted text f a b c ended old new count h sends = record {
 -- ---- a fault
 
 -- of the head
+head_fault : (a b : List ℕ) (ended : Type 0) (e : FormFault) (part : List ℕ) → b ≡ a ++ part
+    → ((behind : List ℕ) → (ended → behind ≡ []) → head_walk (part ++ behind) ≡ Err e)
+    → (octets : List ℕ) → IsRead a b ended octets → IsStreamFault octets e
+head_fault a b ended e part grown says octets q =
+    inl (ap head_walk (one_part a b part octets ended grown q) ∙ says q.behind q.all)
+
 pub head_refused : (most : ℕ) (a b : List ℕ) (ended : Type 0) (e : FormFault)
     → GaveFault head_walk a b ended e
     → OfRefusal (form_fault e) (IsFramesRefusal most (IsRead a b ended))
-head_refused most a b ended e g = by e (content_told e (IsRead a b ended)
-    (λ octets. IsStreamFault octets e)
-    (λ octets q. content_map e (head_walk (g.part ++ q.behind) ≡ Err e) (IsStreamFault octets e)
-    (λ x. inl (ap head_walk (one_part a b g.part octets ended g.grown q) ∙ x))
-    (g.says q.behind q.all)))
-  where
-    by : (x : FormFault)
-        → IfContent x ((octets : List ℕ) → IsRead a b ended octets → IsStreamFault octets x)
-        → OfRefusal (form_fault x) (IsFramesRefusal most (IsRead a b ended))
-    by form.NoMemory wrong = tt
-    by form.Device wrong = tt
-    by form.BadMagic wrong = wrong
-    by form.BadHeader wrong = wrong
-    by form.UnsupportedForm wrong = wrong
-    by form.BadFormat wrong = wrong
-    by form.Truncated wrong = wrong
-    by form.ValueTooLarge wrong = wrong
+head_refused most a b ended form.NoMemory g = tt
+head_refused most a b ended form.Device g = tt
+head_refused most a b ended form.BadMagic g =
+    head_fault a b ended form.BadMagic g.part g.grown g.says
+head_refused most a b ended form.BadHeader g =
+    head_fault a b ended form.BadHeader g.part g.grown g.says
+head_refused most a b ended form.UnsupportedForm g =
+    head_fault a b ended form.UnsupportedForm g.part g.grown g.says
+head_refused most a b ended form.BadFormat g =
+    head_fault a b ended form.BadFormat g.part g.grown g.says
+head_refused most a b ended form.Truncated g =
+    head_fault a b ended form.Truncated g.part g.grown g.says
+head_refused most a b ended form.ValueTooLarge g =
+    head_fault a b ended form.ValueTooLarge g.part g.grown g.says
 
 more : (a b c first next : List ℕ) → b ≡ a ++ first → c ≡ b ++ next → c ≡ a ++ (first ++ next)
 more a b c first next p q = q ∙ ap (λ (l : List ℕ). l ++ next) p ∙ append_assoc a first next

@@ -15,7 +15,7 @@ loop-place-init g c = record {
   format = c.requires.format;
   alike = c.requires.alike;
   source = refl;
-  sink = refl;
+  written = refl;
   read_names = refl;
   names = refl;
   sent = none_so_far g.K.ByteSink.took c.args.reader.now.format c.args.picture
@@ -37,7 +37,7 @@ loop-place-preserved g c =
       alike = (rw c.in-Some.is at next.gave).0 ∙ l.invariant.stream
           ∙ sym l.invariant.format ∙ l.invariant.alike;
       source = next.failures ∙ l.invariant.source;
-      sink = c.in_ok-send.ensures.failures ∙ l.invariant.sink;
+      written = c.in_ok-send.ensures.failures ∙ l.invariant.written;
       read_names = next.names ∙ l.invariant.read_names;
       names = c.in_ok-send.ensures.names ∙ l.invariant.names;
       sent = more_so_far g.K.ByteSink.took c.args.reader.now.format l.place c.args.picture

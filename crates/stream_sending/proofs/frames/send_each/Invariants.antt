@@ -6,7 +6,7 @@ use Rattle.stream_sending.proofs.frames.send_each.Given as goal
 abbrev pub invariant-loop-place : goal.invariant-loop-place
 invariant-loop-place g l =
     let told = g.S.ByteSource in
-    let sink = g.K.ByteSink in
+    let put = g.K.ByteSink in
     record {
       room : length l.buf ≡ 65535;
       stands : l.sender.writer.place.failed ≡ false;
@@ -16,10 +16,10 @@ invariant-loop-place g l =
       format : l.picture.format ≡ l.initial.reader.format;
       alike : l.picture.format ≡ l.initial.sender.plan.format;
       source : told.failures l.reader.source ≡ told.failures l.initial.reader.source;
-      sink : sink.failures l.sender.writer.sink ≡ sink.failures l.initial.sender.writer.sink;
+      written : put.failures l.sender.writer.sink ≡ put.failures l.initial.sender.writer.sink;
       read_names : told.names l.reader.source ≡ told.names l.initial.reader.source;
-      names : sink.names l.sender.writer.sink ≡ sink.names l.initial.sender.writer.sink;
-      sent : SoFar sink.took l.initial.reader.format l.place l.initial.picture l.picture
+      names : put.names l.sender.writer.sink ≡ put.names l.initial.sender.writer.sink;
+      sent : SoFar put.took l.initial.reader.format l.place l.initial.picture l.picture
           (told.gave l.initial.reader.source) (told.gave l.reader.source) l.initial.sender
           l.sender;
     }
