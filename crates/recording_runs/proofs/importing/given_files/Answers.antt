@@ -16,5 +16,5 @@ loop-name-preserved c =
     subst (λ (fs : List _). AreNew fs) (sym c.in_ok-push.ensures.items) (
       all_more _ c.loop-name.files.items _ c.loop-name.invariant.0 tt,
       all_more _ c.loop-name.files.items _ c.loop-name.invariant.1
-          (c.metered.ensures.gave ∙ c.given.ensures.fresh),
+          (c.metered-file.ensures.gave ∙ c.given.ensures.fresh),
     )
