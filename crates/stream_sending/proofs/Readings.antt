@@ -149,8 +149,45 @@ pub frames_refused : {V : Type 0} (most : ℕ) (f : Format) (r : Result V Fault)
 frames_refused most f r a b c ended h wrong =
     if_err_map r (λ e is. of_refusal_map e (opened_refused most f a b c ended h) is) wrong
 
--- where a run ended well, so did the source
-pub ended_ok : {V E : Type 0} {P : V → Type 0} {Q : Type 0} (r : Result V E) → ((v : V) → P v → Q)
-    → IfOk r P → OnOk r Q
-ended_ok (Ok v) then p = then v p
-ended_ok (Err e) then p = tt
+-- ---- of a device that was lent, and came back as it then was
+
+module _ {T : Type 0} (gave : T → List ℕ) (ended : T → Type 0) (old last new : T) where
+  pub head_back : (most : ℕ) (e : FormFault) (f : Fault) → f ≡ form_fault e → new ≡ last
+      → GaveFault head_walk (gave old) (gave last) (ended last) e
+      → OfRefusal f (IsFramesRefusal most (IsRead (gave old) (gave new) (ended new)))
+  head_back most e f is same g =
+      subst (λ (t : T). OfRefusal f (IsFramesRefusal most (IsRead (gave old) (gave t) (ended t))))
+      (sym same)
+      (subst
+      (λ (h : Fault). OfRefusal h (IsFramesRefusal most (IsRead (gave old) (gave last) (ended last))))
+      (sym is) (head_refused most (gave old) (gave last) (ended last) e g))
+
+  pub sent_back : (mid : T) (wanted : Sending) (text : List ℕ) (f : Format)
+      (took took' : List ℕ) (r : Result ℕ Fault) → new ≡ last
+      → GaveValue head_walk (gave old) (gave mid) (fields_of f)
+      → IfOk r (λ n. SendsOpened wanted text f (gave mid) (gave last) (ended last) took took' n)
+      → IfOk r (λ n. SendsFrames (IsRead (gave old) (gave new) (ended new)) wanted text took took'
+      n)
+  sent_back mid wanted text f took took' (Ok n) same h sends =
+      subst
+      (λ (t : T). SendsFrames (IsRead (gave old) (gave t) (ended t)) wanted text took took' n)
+      (sym same)
+      (frames_sent wanted text f (gave old) (gave mid) (gave last) (ended last) took took' n h
+      sends)
+  sent_back mid wanted text f took took' (Err e) same h sends = tt
+
+  pub refused_back : (mid : T) (most : ℕ) (f : Format) (r : Result ℕ Fault) → new ≡ last
+      → GaveValue head_walk (gave old) (gave mid) (fields_of f)
+      → IfErr r (λ e. OfRefusal e (IsOpenedRefusal most f (gave mid) (gave last) (ended last)))
+      → IfErr r (λ e. OfRefusal e
+      (IsFramesRefusal most (IsRead (gave old) (gave new) (ended new))))
+  refused_back mid most f r same h wrong =
+      subst
+      (λ (t : T). IfErr r (λ e. OfRefusal e
+      (IsFramesRefusal most (IsRead (gave old) (gave t) (ended t))))) (sym same)
+      (frames_refused most f r (gave old) (gave mid) (gave last) (ended last) h wrong)
+
+  pub ended_back : {V : Type 0} {P : V → Type 0} (r : Result V Fault) → new ≡ last
+      → ((v : V) → P v → ended last) → IfOk r P → OnOk r (ended new)
+  ended_back (Ok v) same then p = subst (λ (t : T). ended t) (sym same) (then v p)
+  ended_back (Err e) same then p = tt

@@ -1,4 +1,6 @@
-use Rattle.std.proofs.Common.{ap, inr, rules, ◌∙◌}
+use Rattle.std.proofs.Common.{ap, inr, rules, subst, sym, ◌∙◌}
+use Rattle.st_format.specs.declared.format.Format.{Format}
+use Rattle.packet_plan.specs.Plan.{IsSize}
 use Rattle.run_outcome.proofs.SetSums.{counted_behind}
 use Rattle.capture_engines.proofs.Sendings.{if_ok_both, open_failed}
 use Rattle.stream_sending.proofs.Sendings.{stream_sent}
@@ -16,7 +18,9 @@ returns-clause-sent g c =
           c.in-Ok.writer c.new-sender.result c.send_each-sent.new.sender c.in-Ok.ensures.place
           c.in-Ok.ensures.took c.new-sender.ensures.writer c.new-sender.ensures.wanted
           c.new-sender.ensures.next c.new-sender.ensures.sent each.sent c.requires.format
-          (search rules) count;
+          (search rules) count
+          (subst (λ (f : Format). IsSize c.args.wanted.max_octets f)
+          (sym c.requires.alike ∙ c.requires.format) c.requires.limits);
     }) c.send_each-sent.ensures.sent c.send_each-sent.ensures.count
 
 pub returns-clause-failures : goal.returns-clause-failures

@@ -9,9 +9,9 @@ pub returns-in_err-plan-clause-refusal : goal.returns-in_err-plan-clause-refusal
 returns-in_err-plan-clause-refusal g c =
     let p = err_from_is_err_and c.from_residual.result c.from_residual.ensures.1 in
     rw (p.1, p.2)
-    (plan_refused c.args.wanted.max_octets c.args.reader.now.format c.format.result
+    (plan_refused c.args.wanted.max_octets c.args.reader.now.format c.format-format.result
     (g.S.ByteSource.gave c.args.reader.now.source) _ c.in_err-plan.field-0.0
-    c.format.ensures.value (λ is. c.in_err-plan.ensures.size.0 (ap Err is)))
+    c.format-format.ensures.value (λ is. c.in_err-plan.ensures.size.0 (ap Err is)))
 
 pub returns-in_err-first-clause-refusal : goal.returns-in_err-first-clause-refusal
 returns-in_err-first-clause-refusal g c =

@@ -27,8 +27,8 @@ returns-clause-sent g c =
       line = printed;
     }) c.print.ensures.printed
 
-pub sending_by-requires-text : goal.sending_by-requires-text
-sending_by-requires-text g c is =
+pub sending_by-requires-clause-text : goal.sending_by-requires-clause-text
+sending_by-requires-clause-text g c is =
     subst IsCaptureText (sym c.deref.ensures.value)
     (text_given g.S.ByteSource.gave g.S.ByteSource.ended c.args.sdp.now c.read_if_given.new.sdp _
     (c.requires.given is) c.in_ok-said.ensures.says)
