@@ -251,7 +251,9 @@ fn tell_flows(
         (counts (output_failures output.old) (output_failures output.new)) result }
 {
     let form = form_of_flows(is_json);
-    inspect_engine::inspect(rt.alloc(), recordings.as_mut_slice(), form, output)
+    let told = inspect_engine::inspect(rt.alloc(), recordings.as_mut_slice(), form, output);
+    output.clear();
+    told
 }
 
 fn tell_stream(
@@ -269,7 +271,7 @@ fn tell_stream(
         (counts (output_failures output.old) (output_failures output.new)) result }
 {
     let form = form_of_streams(is_json);
-    inspect_streams(
+    let told = inspect_streams(
         rt.alloc(),
         wanted,
         form,
@@ -278,7 +280,9 @@ fn tell_stream(
         files.ways.as_slice(),
         files.seen.as_mut_slice(),
         output,
-    )
+    );
+    output.clear();
+    told
 }
 
 impl InspectCommand<'_> {
@@ -328,7 +332,6 @@ impl<'a> Command for InspectCommand<'a> {
             }
             Err(fault) => Err(fault),
         };
-        self.output.clear();
         Ran {
             outcome,
             is_whole: true,

@@ -9,5 +9,6 @@ returns-clause-refusal c =
 
 pub returns-clause-done : goal.returns-clause-done
 returns-clause-done c =
-    on_ok_both _ _ c.migrate-outcome.result c.migrate-outcome.ensures.migrated
-    c.migrate-outcome.ensures.described
+    rw c.settle.ensures.took
+    (on_ok_both _ _ c.migrate-outcome.result c.migrate-outcome.ensures.migrated
+    c.migrate-outcome.ensures.described)
