@@ -19,6 +19,3 @@ pub mod ScriptOnce
 pub mod RehearsedOnce
 pub mod NoRehearsalRefusals
 pub mod NoTraceRefusals
-pub mod NoSendRefusals
-pub mod NoInspectRefusals
-pub mod NoMigrateRefusals
