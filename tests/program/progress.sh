@@ -69,7 +69,8 @@ $whole" ''
 alike 'progress into a full device: the receiver' slow.rcv plain.rcv
 
 # The size of plain files is known of all together: three pictures of a mebioctet and 22 octets, sent into a pipe of which
-# one more than the first is taken, and then the rest.
+# one more than the first is taken, and then the rest. A line comes with the first reading behind a second, that of the
+# 262,144 octets that the next picture begins with.
 octets '5332305049433031 0008 0400 0200 0000003C 00000001' >large.pic
 head -c 1048576 /dev/zero >>large.pic
 run send --out large.cap large.pic large.pic large.pic
@@ -86,8 +87,8 @@ mv out want
 status=$(cat status)
 : >out
 rounded err
-says 'progress of pictures' 0 '' "1.0 MB of 3.1 MB, R, S
-2.0 MB of 3.1 MB, R, S
+says 'progress of pictures' 0 '' "1.3 MB of 3.1 MB, R, S
+2.3 MB of 3.1 MB, R, S
 $(cat want)"
 alike 'progress of pictures: the capture' piped.cap large.cap
 

@@ -250,6 +250,7 @@ head -c 75 three.y4m >cut.y4m
 run send --out cut.cap --max 42 cut.y4m
 says 'send: a stream that is cut' 1 '' 'st2110: form 7 Truncated'
 holds 'send: a stream that is cut, what was sent' cut.cap.partial "$one"
+rm -f cut.cap.partial
 run send --verbose --out cut.cap --max 42 cut.y4m
 says 'send: a stream that is cut, where' 1 '' 'st2110: form 7 Truncated
   at cut.y4m, octet 75; wanted more octets: the file ends before it is whole; what was written stays as cut.cap.partial'
