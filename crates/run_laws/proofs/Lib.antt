@@ -19,3 +19,6 @@ pub mod ScriptOnce
 pub mod RehearsedOnce
 pub mod NoRehearsalRefusals
 pub mod NoTraceRefusals
+pub mod NoSendRefusals
+pub mod NoInspectRefusals
+pub mod NoMigrateRefusals

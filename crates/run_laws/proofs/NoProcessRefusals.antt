@@ -310,7 +310,7 @@ module _ {S : Type 0} (gave : S → List ℕ) (ended : S → Type 0) where
   none_given : (s : S) → (let none : Option S = None in none ≡ given s) → ⊥
   none_given s e = absurd cc
 
-  text_not : (sdp later : Option S) (text : List ℕ) (r : Refusal)
+  pub text_not : (sdp later : Option S) (text : List ℕ) (r : Refusal)
       → SaysText gave ended sdp later text → IsTextOfRun (WasRead gave ended) sdp later r → ⊥
   text_not None later text r says wrong = none_given wrong.0 wrong.2
   text_not (Some s) None text r says wrong = absurd says

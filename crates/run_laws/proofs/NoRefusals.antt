@@ -51,7 +51,7 @@ whole x = Ok x
 abbrev failed : (X : Type 0) → FileFault → Result X FileFault
 failed X f = Err f
 
-apart : {X : Type 0} (r : Result X FileFault) (x : X) (f : FileFault) → r ≡ whole x
+pub apart : {X : Type 0} (r : Result X FileFault) (x : X) (f : FileFault) → r ≡ whole x
     → r ≡ failed X f → ⊥
 apart {X} r x f reads fails = let bad : whole x ≡ failed X f = sym reads ∙ fails in absurd cc
 
@@ -182,7 +182,7 @@ one_format octets p q a b =
     (ap (λ (s : Shown). s.format)
     (picture_once p q a.picture b.picture (sym a.whole ∙ b.whole)))
 
-no_plan_fault : (max : ℕ) (f : Format) (e : PlanFault) → IsSize max f → IsPlanFault max f e → ⊥
+pub no_plan_fault : (max : ℕ) (f : Format) (e : PlanFault) → IsSize max f → IsPlanFault max f e → ⊥
 no_plan_fault max f BadPacketSize is (inl few) = absurd (omega (arith, is.least, few))
 no_plan_fault max f BadPacketSize is (inr many) = absurd (omega (arith, is.most, many))
 no_plan_fault max f NoMemory is wrong = absurd wrong

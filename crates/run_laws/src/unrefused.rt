@@ -3,15 +3,22 @@
 //! and memory was there. Each is the contract of a function that does nothing; a caller has the
 //! first premise from the clause of the call. That octets are below 256 is wanted, as the
 //! conditions of faults are told of octets.
-ghost use Rattle.std.specs.Prelude.{◌≡◌, ◌∷◌, ℕ, List, Option, Some};
+ghost use Rattle.std.specs.Prelude.{◌≡◌, ◌∷◌, ℕ, List, Option, Some, false, length};
+ghost use Rattle.std.specs.List.{zip};
 ghost use Rattle.st_format.specs.Device.{AreOctets};
 ghost use Rattle.st_format.specs.History.{IsRead, since};
 ghost use Rattle.st_format.specs.Member.{IsMember};
 ghost use Rattle.run_outcome.specs.Moments.{WasRead};
-ghost use Rattle.run_outcome.specs.TextRefusals.{SaysText};
+ghost use Rattle.run_outcome.specs.Text.{GivesText};
+ghost use Rattle.run_outcome.specs.TextRefusals.{SaysCaptureText, SaysText};
 ghost use Rattle.run_outcome.specs.declared.refusal.Refusal.{Refusal};
 ghost use Rattle.capture_engines.specs.Looped.{IsLoopRefusal};
 ghost use Rattle.capture_engines.specs.Looping.{Link, Loops};
+ghost use Rattle.capture_engines.specs.MigrateRefused.{IsMigrateRefusal};
+ghost use Rattle.capture_engines.specs.Migrating.{PrintsMigrated};
+ghost use Rattle.capture_engines.specs.Sending.{SendsAll};
+ghost use Rattle.capture_engines.specs.Sent.{IsSendRefusal};
+ghost use Rattle.capture_engines.specs.declared.sender.Sending.{Sending};
 ghost use Rattle.receiver_engines.specs.MergeAllRefused.{IsMergeAllRefusal};
 ghost use Rattle.receiver_engines.specs.MergedAll.{MergesAll};
 ghost use Rattle.receiver_engines.specs.Processing.{SendsSaidFiles};
@@ -25,6 +32,8 @@ ghost use Rattle.script_engines.specs.Rehearsed.{IsRefusedScript, Rehearses};
 ghost use Rattle.script_engines.specs.Traced.{IsUntraced, Traces};
 ghost use Rattle.export_engine.specs.ExportRefused.{IsExportRefusal};
 ghost use Rattle.export_engine.specs.Exported.{PrintsExported};
+ghost use Rattle.inspect_engine.specs.Told.{IsInspectRefusal, Tells};
+ghost use Rattle.inspect_engine.specs.declared.form.Form.{Form};
 ghost use Rattle.run_laws.specs.Received.{read_of};
 
 use st_format::ByteSource;
@@ -97,4 +106,32 @@ pub fn rehearse_unrefused<A: Allocator, S: ByteSource>()
     ensures { (source later : S) (old new : List ℕ) (r : Refusal)
         → DoesScript (Rehearses A) (S.gave source) (S.gave later) (S.ended later) old new
         → IsRefusedFor IsRefusedScript (S.gave source) (S.gave later) (S.ended later) r → ⊥ }
+{}
+
+/// The same of a run of `send` (`sent` there).
+pub fn send_unrefused<S: ByteSource>()
+    ensures { (wanted : Sending) (sdp sdp_later : Option S) (pictures later : List S)
+        (old new shown printed : List ℕ) (r : Refusal)
+        → SendsAll S.gave S.ended wanted sdp sdp_later pictures later old new shown printed
+        → ((s : S × S) → IsMember s (zip pictures later) → AreOctets (read_of S.gave s))
+        → IsSendRefusal wanted.max_octets (length pictures) sdp sdp_later
+        (WasRead S.gave S.ended) (zip pictures later) r → ⊥ }
+{}
+
+/// The same of a run of `inspect` (`told` there), whatever the octets.
+pub fn inspect_unrefused<S: ByteSource>()
+    ensures { (form : Form) (recordings : List (S × S)) (shown printed : List ℕ) (r : Refusal)
+        → Tells form (WasRead S.gave S.ended) recordings false shown printed
+        → IsInspectRefusal form (WasRead S.gave S.ended) recordings shown printed r → ⊥ }
+{}
+
+/// The same of a run of `migrate` (`migrated` and `described` there), whatever the octets.
+pub fn migrate_unrefused<D: ByteSource, S: ByteSource>()
+    ensures { (sdp sdp_later : D) (source later : S) (old new shown printed : List ℕ)
+        (r : Refusal) → PrintsMigrated
+        (GivesText 65535 (D.gave sdp) (D.gave sdp_later) (D.ended sdp_later))
+        (S.gave source) (S.gave later) (S.ended later) old new shown printed
+        → SaysCaptureText (IsRead (D.gave sdp) (D.gave sdp_later) (D.ended sdp_later))
+        → IsMigrateRefusal (IsRead (D.gave sdp) (D.gave sdp_later) (D.ended sdp_later))
+        (IsRead (S.gave source) (S.gave later) (S.ended later)) r → ⊥ }
 {}

@@ -1,0 +1,70 @@
+-- Against what a run of `inspect` read that ended well no refusal speaks.
+use Rattle.std.proofs.Common.{◌≡◌, ℕ, zero, suc, ◌<◌, Bool, true, false, List, [], ◌∷◌, length}
+use Rattle.std.proofs.Common.{Option, None, Some, inl, inr, sym, ap, ◌∙◌, subst, arith}
+use Rattle.std.specs.Prelude.{slice_index_or}
+use Rattle.std.specs.List.{AllZip, Any, list_all}
+use Rattle.std.proofs.lemmas.Bool.{and_parts}
+use Rattle.pcap_file.specs.Runs.{fault_in, most_packet}
+use Rattle.pcap_file.specs.declared.fault.RecordingFault.{RecordingFault}
+use Rattle.pcap_file.specs.declared.fault.RecordingFault.TheVariants.{Device, Truncated, BadMagic}
+use Rattle.pcap_file.specs.declared.fault.RecordingFault.TheVariants.{BadVersion, BadBlock}
+use Rattle.pcap_file.specs.declared.fault.RecordingFault.TheVariants.{BadInterface, BadTime, Packed}
+use Rattle.pcap_file.specs.declared.fault.RecordingFault.TheVariants.{TooManyInterfaces}
+use Rattle.pcap_file.specs.declared.fault.RecordingFault.TheVariants.{PacketTooLong, TooManyBlocks}
+use Rattle.run_outcome.specs.Moments.{WasRead}
+use Rattle.run_outcome.specs.declared.refusal.Refusal.{Refusal}
+use Rattle.run_outcome.specs.declared.refusal.Refusal.TheVariants as why
+use Rattle.inspect_engine.specs.Inspected.{IsFaultOf, is_told}
+use Rattle.inspect_engine.specs.Told.{IsInspectRefusal, Tells}
+use Rattle.inspect_engine.specs.declared.form.Form.{Form}
+use Rattle.run_laws.specs.Received.{all_read, read_of}
+use Rattle.run_laws.proofs.Receiving.{was_read}
+
+not_both : {X : Type 0} → (let t : Bool = true in let f : Bool = false in f ≡ t) → X
+not_both e = absurd cc
+
+abbrev failed : RecordingFault → Option RecordingFault
+failed f = Some f
+
+-- where a reading is told as one that ended, it came to no fault but that it was cut short
+not_fault : (told : List ℕ → Type 0) (octets : List ℕ) (r : Refusal) → told octets
+    → is_told (fault_in most_packet octets) ≡ true → IsFaultOf most_packet told r → ⊥
+not_fault told octets (why.Recording Truncated) there ends wrong = absurd wrong
+not_fault told octets (why.Recording f) there ends wrong =
+    let e : is_told (failed f) ≡ true = sym (ap is_told (wrong octets there)) ∙ ends in
+    not_both e
+not_fault told octets r there ends wrong = absurd wrong
+
+module _ {S : Type 0} (gave : S → List ℕ) (ended : S → Type 0) where
+  all_zip : (files : List (S × S)) → AllZip (WasRead gave ended) files (all_read gave files)
+  all_zip [] = tt
+  all_zip (s ∷ ss) = (was_read gave ended s, all_zip ss)
+
+  -- what holds of the octets of each file holds of those of one
+  at_place : (test : List ℕ → Bool) (files : List (S × S)) (k : ℕ) (x : S × S)
+      → list_all test (all_read gave files) ≡ true → k < length files
+      → slice_index_or files k x ≡ x → test (read_of gave x) ≡ true
+  at_place test [] k x all lt at = absurd (omega (arith, lt))
+  at_place test (s ∷ ss) zero x all lt at =
+      subst (λ (y : S × S). test (read_of gave y) ≡ true) at
+      (and_parts (test (read_of gave s)) (list_all test (all_read gave ss)) all).0
+  at_place test (s ∷ ss) (suc k) x all lt at =
+      at_place test ss k x
+      (and_parts (test (read_of gave s)) (list_all test (all_read gave ss)) all).1
+      (omega (arith, lt)) at
+
+pub inspect_not : {S : Type 0} (gave : S → List ℕ) (ended : S → Type 0) (form : Form)
+    (files : List (S × S)) (shown shown' : List ℕ) (r : Refusal)
+    → Tells form (WasRead gave ended) files false shown shown'
+    → IsInspectRefusal form (WasRead gave ended) files shown shown' r → ⊥
+inspect_not gave ended form files shown shown' r tells (inl cut) =
+    let octets : List (List ℕ) = all_read gave files in
+    let zipped = all_zip gave ended files in
+    not_both (tells.cuts octets zipped ∙ sym (cut.1.cuts octets zipped))
+inspect_not gave ended form files shown shown' r tells (inr at) =
+    let octets : List (List ℕ) = all_read gave files in
+    let zipped = all_zip gave ended files in
+    let one = at.1 in
+    not_fault (WasRead gave ended one.1) (read_of gave one.1) r (was_read gave ended one.1)
+    (at_place gave ended (λ o. is_told (fault_in most_packet o)) files one.0 one.1
+    (tells.ends octets zipped) one.2 one.3) one.4
