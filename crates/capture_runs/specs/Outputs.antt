@@ -80,7 +80,8 @@ FollowSinks A = BothSinks (Option (FormSink UnplacedOutput A)) (Option (ReportSi
 
 abbrev pub AreSinksOver : {A : Type 0} → Filling → Option (List ℕ) → FollowOutputs → FollowSinks A
     → Type 0
-AreSinksOver filling fill o k = IsSinkOver filling fill o.out k.first × IsReportOver o.report k.second
+AreSinksOver filling fill o k =
+    IsSinkOver filling fill o.out k.first × IsReportOver o.report k.second
 
 abbrev pub outputs_under : {A : Type 0} → FollowSinks A → FollowOutputs
 outputs_under k = outputs_of (file_under k.first) (report_under k.second)
