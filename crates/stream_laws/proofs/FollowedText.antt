@@ -8,6 +8,7 @@ use Rattle.capture_engines.specs.declared.sender.Sending.{Sending}
 use Rattle.capture_runs.specs.Followed.{FollowsFiles, IsListed}
 use Rattle.capture_runs.specs.Outputs.{outputs_of}
 use Rattle.capture_runs.specs.Replayed.{replayed_ended, replayed_gave}
+use Rattle.capture_runs.specs.declared.picture_directory.PictureDirectory.{PictureDirectory}
 use Rattle.capture_runs.specs.declared.replayed.Replayed.{Replayed}
 use Rattle.devices.specs.Passed.{file_took}
 use Rattle.devices.specs.declared.file_output.FileOutput.{FileOutput}
@@ -188,9 +189,10 @@ all_listed (h ∷ hs) old new is =
 module _ {A : Type 0} (w : FollowAsked) (sdp : Option (List ℕ))
     (ways : List (Result Flows Refusal)) (files : List (Side A Replayed × Side A Replayed))
     (filling : Filling) (fill : Option (List ℕ)) (out out' : FileOutput)
-    (report report' : Option FileOutput) (printed printed' : List ℕ)
-    (is : FollowsFiles w sdp ways files filling fill (outputs_of (Some out) report)
-    (outputs_of (Some out') report') printed printed')
+    (report report' : Option FileOutput) (directory directory' : Option PictureDirectory)
+    (printed printed' : List ℕ)
+    (is : FollowsFiles w sdp ways files filling fill (outputs_of (Some out) report directory)
+    (outputs_of (Some out') report' directory') printed printed')
   where
     abbrev Told : Side A Replayed × Side A Replayed → List ℕ → Type 0
     Told = SideRead replayed_gave replayed_ended

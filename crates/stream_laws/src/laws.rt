@@ -20,6 +20,7 @@ ghost use Rattle.capture_engines.specs.declared.sender.Sending.{Sending};
 ghost use Rattle.capture_runs.specs.Followed.{FollowsFiles};
 ghost use Rattle.capture_runs.specs.Outputs.{outputs_of};
 ghost use Rattle.capture_runs.specs.Replayed.{replayed_ended, replayed_gave};
+ghost use Rattle.capture_runs.specs.declared.picture_directory.PictureDirectory.{PictureDirectory};
 ghost use Rattle.capture_runs.specs.declared.replayed.Replayed.{Replayed};
 ghost use Rattle.devices.specs.Passed.{file_took};
 ghost use Rattle.devices.specs.declared.file_output.FileOutput.{FileOutput};
@@ -169,10 +170,10 @@ pub fn sent_and_followed_file<B: Allocator>()
         (ways : List (Result Flows Refusal))
         (files : List (Side B Replayed × Side B Replayed)) (filling : Filling)
         (fill : Option (List ℕ)) (out out' : FileOutput) (report report' : Option FileOutput)
-        (printed printed' : List ℕ)
+        (directory directory' : Option PictureDirectory) (printed printed' : List ℕ)
         (sent : IsSentFile wanted text format (first ∷ others) capture)
-        (is : FollowsFiles w sdp ways files filling fill (outputs_of (Some out) report)
-        (outputs_of (Some out') report') printed printed') →
+        (is : FollowsFiles w sdp ways files filling fill (outputs_of (Some out) report directory)
+        (outputs_of (Some out') report' directory') printed printed') →
         BringDatagrams (SideRead replayed_gave replayed_ended) ways files sent.datagrams →
         AwaitsPictures is.follows.opening (run_sender format wanted) (first ∷ others) →
         IsInTime w is.follows.opening wanted.base is.follows.entries →
@@ -183,10 +184,10 @@ pub fn sent_and_followed_file<B: Allocator>()
         (ways : List (Result Flows Refusal))
         (files : List (Side B Replayed × Side B Replayed)) (filling : Filling)
         (fill : Option (List ℕ)) (out out' : FileOutput) (report report' : Option FileOutput)
-        (printed printed' : List ℕ)
+        (directory directory' : Option PictureDirectory) (printed printed' : List ℕ)
         (sent : IsSentFile wanted text format pictures capture)
-        (is : FollowsFiles w sdp ways files filling fill (outputs_of (Some out) report)
-        (outputs_of (Some out') report') printed printed') →
+        (is : FollowsFiles w sdp ways files filling fill (outputs_of (Some out) report directory)
+        (outputs_of (Some out') report' directory') printed printed') →
         BringDatagrams (SideRead replayed_gave replayed_ended) ways files sent.datagrams →
         AwaitsPictures is.follows.opening (run_sender format wanted) pictures →
         IsInTime w is.follows.opening wanted.base is.follows.entries →
