@@ -182,6 +182,64 @@ pictured 'path B alone, held' y4m 16 2 '09 08 07' 1 "$recordings/late-b.txt"
 run follow --sdp "$recordings/ipv6.sdp" --out pictures.out "$recordings/ipv6.pcap"
 pictured 'pixmaps' ppm 24 3 '00 00 00' 0 "$recordings/ipv6.txt"
 
+# What each frame lacks, as report tells it. Rows have 8 columns, 16 samples, and of a frame's three packets of 48, 48 and 32 path
+# A lost the second one of the third frame and the first one of the fourth. What is whole has its line alone.
+# lacks NAME TEXT: whether lacks.txt has just this.
+lacks() {
+    printf '%s\n' "$2" >want.lacks
+    alike "follow: $1, the report" lacks.txt want.lacks
+    rm -f lacks.txt
+}
+whole='frame 900 present 128 missing 0 contested 0
+frame 4500 present 128 missing 0 contested 0'
+lost='frame 8100 present 80 missing 48 contested 0
+missing row 3 columns 0 to 7
+missing row 4 columns 0 to 7
+missing row 5 columns 0 to 7
+frame 11700 present 80 missing 48 contested 0
+missing row 0 columns 0 to 7
+missing row 1 columns 0 to 7
+missing row 2 columns 0 to 7'
+run follow --sdp "$recordings/late.sdp" --report lacks.txt "$recordings/late-a.pcap"
+lacks 'path A alone' "$whole
+$lost"
+run follow --sdp "$recordings/late.sdp" --report lacks.txt "$recordings/late-a.pcap" "$recordings/late-b.pcap"
+lacks 'two paths' "$whole
+frame 8100 present 128 missing 0 contested 0
+frame 11700 present 128 missing 0 contested 0"
+# The first octet of the first packet's samples, which is Cb of row 0 and column 0, is another in a second recording.
+other=FF
+[ "$(od -An -v -tx1 -j 114 -N 1 "$recordings/late-a.pcap" | tr -d ' ')" != ff ] || other=00
+{
+    head -c 114 "$recordings/late-a.pcap"
+    octets $other
+    tail -c +116 "$recordings/late-a.pcap"
+} >other.pcap
+follows 'two that differ' 'frame 900 present 127 missing 0 contested 1 late 0
+frame 4500 present 128 missing 0 contested 0 late 0
+frame 8100 present 80 missing 48 contested 0 late 0
+frame 11700 present 80 missing 48 contested 0 late 0
+frames 4 kept 20 late 0 far 0 refused 0' --sdp "$recordings/late.sdp" --report lacks.txt "$recordings/late-a.pcap" other.pcap
+lacks 'two that differ' "frame 900 present 127 missing 0 contested 1
+contested row 0 column 0 Cb
+frame 4500 present 128 missing 0 contested 0
+$lost"
+run follow --sdp "$recordings/late.sdp" --report - "$recordings/late-a.pcap"
+mv out lacks.txt
+mv err out
+: >err
+says 'follow: a report on standard output, the lines on standard error' 0 'frame 900 present 128 missing 0 contested 0 late 0
+frame 4500 present 128 missing 0 contested 0 late 0
+frame 8100 present 80 missing 48 contested 0 late 0
+frame 11700 present 80 missing 48 contested 0 late 0
+frames 4 kept 10 late 0 far 0 refused 0' ''
+lacks 'standard output' "$whole
+$lost"
+run follow --sdp "$recordings/late.sdp" --out pictures.out --report lacks.txt "$recordings/late-a.pcap"
+pictured 'with a report' y4m 16 2 '10 80 80' 0 "$recordings/late-a.txt"
+lacks 'with pictures' "$whole
+$lost"
+
 # Refusals, in their order: the words, the SDP, the files before their records, and their records. Where a record is at fault
 # the frames are not told that were still in.
 refuses_follow() {
@@ -207,10 +265,23 @@ refuses_follow 'the window before the fill' 'open 2 BadWindow' --window 0 --fill
 cp "$recordings/late-a.pcap" late.copy
 refuses_follow 'the output before the SDP' 'follow 2 OutputIsInput' --sdp missing.sdp --out late.copy late.copy
 refuses_follow 'the fill before the output' 'follow 1 BadFill' --fill 1,2 --out late.copy late.copy
+refuses_follow 'a report that is read' 'follow 2 OutputIsInput' --sdp missing.sdp --report late.copy late.copy
+refuses_follow 'a report beside an output that is read' 'follow 2 OutputIsInput' --sdp missing.sdp --out late.copy \
+    --report lacks.txt late.copy
+none 'follow: no report is written' lacks.txt
+for name in lacks.txt -; do
+    run follow --sdp missing.sdp --out $name --report $name late.copy
+    misworded "follow: two files by one name, $name" "'--out <FILE>' and '--report <FILE>' both name '$name'" -
+done
 rm late.copy
 refuses_follow 'cut short, with pictures' 'recording 2 Truncated' --sdp "$recordings/loopback.sdp" --out cut.y4m \
     "$recordings/cut.pcap"
 none 'follow: no file of pictures has the name' cut.y4m
+refuses_follow 'cut short, with a report' 'recording 2 Truncated' --sdp "$recordings/loopback.sdp" --report lacks.txt \
+    "$recordings/cut.pcap"
+none 'follow: no report has the name' lacks.txt
+run follow --sdp "$recordings/late.sdp" --report missing/lacks.txt "$recordings/late-a.pcap"
+says 'follow: a report in no folder' 3 '' 'st2110: device'
 
 # What was sent and followed is the pictures' file: of three pictures, of four packets each, by a capture of each path, of
 # which A lacks each third packet, and B the ones behind these. A record has 35 octets.
