@@ -240,6 +240,56 @@ pictured 'with a report' y4m 16 2 '10 80 80' 0 "$recordings/late-a.txt"
 lacks 'with pictures' "$whole
 $lost"
 
+# Each picture as a file of its own: the head of a picture's file and GStreamer's picture.
+# filed NAME FIRST: whether the folder filed has just GStreamer's two pictures, of timestamps from this one on.
+filed() {
+    stamp=$2
+    for part in 1 1153; do
+        {
+            octets '5332305049433031 0008 0020 0012 00000019 00000001'
+            tail -c +$part "$recordings/two-cards.raw" | head -c 1152
+        } >want.pic
+        alike "follow: $1, the picture of $stamp" filed/$stamp.pic want.pic
+        stamp=$((stamp + 3600))
+    done
+    rm -f filed/$2.pic filed/$(($2 + 3600)).pic
+    rmdir filed || fail "follow: $1, the pictures" "more files than two: $(ls filed)"
+}
+both='frame 900 present 1152 missing 0 contested 0 late 0
+frame 4500 present 1152 missing 0 contested 0 late 0
+frames 2 kept 16 late 0 far 0 refused 0'
+mkdir filed
+follows 'pictures as files' "$both" --sdp "$recordings/two-cards.sdp" --pictures filed "$recordings/two-cards.pcapng"
+filed 'pictures as files' 900
+# One that has the name is replaced, whichever fill there is where nothing is missing; and all three at once.
+mkdir filed
+printf 'nothing' >filed/900.pic
+follows 'all that is written' "$both" --sdp "$recordings/two-cards.sdp" --fill 1,2,3 --pictures filed/ --report lacks.txt \
+    --out pictures.out "$recordings/two-cards.pcapng"
+filed 'all that is written' 900
+lacks 'all that is written' 'frame 900 present 1152 missing 0 contested 0
+frame 4500 present 1152 missing 0 contested 0'
+rm -f pictures.out
+# Where something is missing, the picture is what convert makes of the stream's: of path A alone, filled and held.
+for words in '--fill 9,8,7' '--hold'; do
+    mkdir filed
+    # shellcheck disable=SC2086
+    run follow --sdp "$recordings/late.sdp" $words --pictures filed --out pictures.y4m "$recordings/late-a.pcap"
+    place=0
+    for stamp in 900 4500 8100 11700; do
+        run convert --nth $place pictures.y4m want.pic
+        alike "follow: path A alone $words, the picture of $stamp" filed/$stamp.pic want.pic
+        place=$((place + 1))
+    done
+    rm -r filed pictures.y4m
+done
+run follow --sdp "$recordings/late.sdp" --pictures missing "$recordings/late-a.pcap"
+says 'follow: pictures into no folder' 3 '' 'st2110: device'
+run follow --verbose --sdp "$recordings/late.sdp" --pictures missing "$recordings/late-a.pcap"
+says 'follow: verbose: pictures into no folder' 3 '' 'st2110: device
+  at missing; wanted to write there: No such file or directory (os error 2)'
+none 'follow: no folder is made' missing
+
 # Refusals, in their order: the words, the SDP, the files before their records, and their records. Where a record is at fault
 # the frames are not told that were still in.
 refuses_follow() {
