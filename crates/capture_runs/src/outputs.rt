@@ -1,6 +1,6 @@
 //! The files that `follow` writes, where they are named: the pictures' stream, the report, and
 //! pictures as files of their own.
-ghost use Rattle.std.specs.Prelude.{◌≡◌, ◌⊎◌, IfErr, IfSome, IsFalse, IsTrue, OnOk};
+ghost use Rattle.std.specs.Prelude.{◌≡◌, IfErr, IfSome, IsFalse, IsTrue, OnOk};
 ghost use Rattle.capture_runs.specs.Outputs.{AreApart, AreInPlace, AreLeft, AreSinksOver};
 ghost use Rattle.capture_runs.specs.Outputs.{AreUnplaced, AreUnwritten, IsFilesOver};
 ghost use Rattle.capture_runs.specs.Outputs.{IsReportOver, SameOutputs, directory_under};
@@ -87,11 +87,15 @@ impl<'a> FollowOutputs<'a> {
         requires { AreUnplaced self.old }
         ensures same { SameOutputs self.old self.new }
         ensures placed { IsTrue result → IsTrue is_done → AreInPlace self.new }
-        ensures left { IsFalse is_done ⊎ IsFalse result → AreLeft self.new }
+        ensures undone { IsFalse is_done → AreLeft self.new }
+        ensures cut { IsFalse result → AreLeft self.new }
     {
-        let is_reported = settle(&mut self.report, is_done);
-        let is_written = settle(&mut self.out, is_done && is_reported);
-        is_reported && is_written
+        if settle(&mut self.report, is_done) {
+            settle(&mut self.out, is_done)
+        } else {
+            settle(&mut self.out, false);
+            false
+        }
     }
 
     /// How the writing went of the one that failed, or else of the first one.

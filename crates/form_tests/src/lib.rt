@@ -11,6 +11,8 @@ mod growths;
 #[cfg(test)]
 mod pixmaps;
 #[cfg(test)]
+mod reports;
+#[cfg(test)]
 mod sinks;
 #[cfg(test)]
 mod stream_faults;
