@@ -373,6 +373,30 @@ done
 rm -f followed.y4m
 follows 'what was sent, exchanged' "$frames" --out followed.y4m lossy-b.cap lossy-a.cap
 alike 'follow: what was sent, exchanged, the file' followed.y4m sent.y4m
+# Each picture as a file of its own is the one that was sent; and so of forty, each three times the same.
+mkdir filed
+follows 'what was sent, as files' "$frames" --pictures filed lossy-a.cap lossy-b.cap
+alike 'follow: what was sent, as files, the first' filed/900.pic sent1.pic
+alike 'follow: what was sent, as files, the second' filed/2400.pic sent2.pic
+alike 'follow: what was sent, as files, the last' filed/3900.pic sent3.pic
+rm -r filed
+mkdir filed
+forty=
+while [ ${#forty} -lt 440 ]; do forty="$forty sent$((${#forty} / 11 % 3 + 1)).pic"; done
+# shellcheck disable=SC2086
+run send --out forty.cap --sdp q.sdp --base 900 $forty
+run follow --pictures filed forty.cap
+i=0
+for sent in $forty; do
+    cmp -s "filed/$((900 + 1500 * i)).pic" "$sent" || break
+    i=$((i + 1))
+done
+if [ $i = 40 ] && [ "$(find filed -type f | wc -l)" = 40 ]; then
+    pass 'follow: forty pictures as files'
+else
+    fail 'follow: forty pictures as files' "$i are those that were sent, of $(find filed -type f | wc -l): $(head -c 200 err)"
+fi
+rm -r filed
 # By A alone it isn't: of the packets 0 to 11 it lacks 1, 4, 7 and 10.
 rm -f followed.y4m
 follows 'what was sent, by A alone' 'frame 900 present 12 missing 4 contested 0 late 0

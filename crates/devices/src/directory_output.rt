@@ -98,7 +98,7 @@ impl<'a> DirectoryOutput<'a> {
     pub fn end(&mut self, name: &str) -> Result<(), DeviceFault>
         ensures filed { OnOk result (filed_files self.new
             ≡ filed_files self.old ++ (name.now, next_took self.old.file) ∷ []) }
-        ensures kept { OnErr result (self.new.filed ≡ self.old.filed) }
+        ensures kept { OnErr result (filed_files self.new ≡ filed_files self.old) }
         ensures unfailed { OnOk result
             (directory_failures self.new ≡ directory_failures self.old) }
         ensures counted { OnErr result (Failed (directory_failures self.old)
@@ -114,7 +114,7 @@ impl<'a> DirectoryOutput<'a> {
     fn note(&mut self, name: &str, took: History) -> Result<(), DeviceFault>
         ensures filed { OnOk result (filed_files self.new
             ≡ filed_files self.old ++ (name.now, took.octets) ∷ []) }
-        ensures kept { OnErr result (self.new.filed ≡ self.old.filed) }
+        ensures kept { OnErr result (filed_files self.new ≡ filed_files self.old) }
         ensures unfailed { OnOk result
             (directory_failures self.new ≡ directory_failures self.old) }
         ensures counted { OnErr result (Failed (directory_failures self.old)
