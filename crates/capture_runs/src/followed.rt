@@ -27,7 +27,7 @@ use crate::receiving::octets;
 use crate::replayed::Replayed;
 use command_end::{Command, Devices, Hints, Ran};
 use command_line::FollowWords;
-use devices::{OutputSink, Reading, Stream};
+use devices::{Meter, OutputSink, Reading, Stream};
 use follow_engine::{FollowAsked, check_words, follow_files};
 use frame_sinks::Filling;
 use recording_engines::FlowWords;
@@ -62,8 +62,12 @@ pub struct FollowCommand<'a> {
 
 impl<'a> FollowCommand<'a> {
     /// The command of these words, of which nothing is done yet but that the SDP is read; or that
-    /// there is no memory for its list of files.
-    pub fn new(rt: &'a HostRuntime, words: &'a FollowWords<'a>) -> Result<Self, AllocError>
+    /// there is no memory for its list of files. A meter is told how much is read.
+    pub fn new(
+        rt: &'a HostRuntime,
+        words: &'a FollowWords<'a>,
+        meter: &Meter,
+    ) -> Result<Self, AllocError>
         ensures { IfOk result ⟦<FollowCommand<'a> as Command>⟧.is_new }
     {
         let asked = asked(words);
@@ -71,11 +75,11 @@ impl<'a> FollowCommand<'a> {
             a: octets(words.a),
             b: octets(words.b),
         };
-        let sides = closed_sides(rt, words.recordings.as_slice())?;
+        let sides = closed_sides(rt, words.recordings.as_slice(), meter)?;
         let fill = octets(words.fill);
         let mut outputs = FollowOutputs::new(rt, words);
         let is_input = outputs.are_read(rt, words);
-        let mut files = Files::new(rt);
+        let mut files = Files::new(rt, meter);
         let opened = open(
             rt,
             asked,
@@ -98,7 +102,7 @@ impl<'a> FollowCommand<'a> {
             sides,
             outputs,
             is_input,
-            output: OutputSink::beside(rt, beside(words)),
+            output: OutputSink::beside(rt, beside(words)).metered(meter),
         })
     }
 }
@@ -174,12 +178,13 @@ fn asked<'a>(words: &'a FollowWords<'a>) -> FollowAsked<'a> {
 fn closed_sides<'a>(
     rt: &'a HostRuntime,
     names: &[&'a str],
+    meter: &Meter,
 ) -> Result<Vec<FollowFile<'a>>, AllocError>
     ensures { IfOk result (λ sides. AreNewSides sides.items) }
 {
     let mut sides = Vec::new(rt.alloc());
     for name in names {
-        sides.push(Side::closed(Replayed::once(rt, name)))?;
+        sides.push(Side::closed(Replayed::once(rt, name, meter)))?;
     }
     Ok(sides)
 }
@@ -345,6 +350,7 @@ impl<'a> Command for FollowCommand<'a> {
 
     fn run(&mut self) -> Ran {
         let outcome = self.follow_opened();
+        self.output.clear();
         Ran {
             outcome,
             is_whole: self.outputs.settle(outcome.is_ok()),

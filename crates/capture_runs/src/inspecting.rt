@@ -24,7 +24,7 @@ use crate::replaying::last_begun;
 use capture_engines::Seen;
 use command_end::{Command, Devices, Hints, Ran};
 use command_line::InspectWords;
-use devices::OutputSink;
+use devices::{Meter, OutputSink};
 use inspect_engine::Form as FlowForm;
 use recording_engines::FlowWords;
 use run_outcome::{Fault, LineFault};
@@ -72,10 +72,12 @@ pub struct InspectCommand<'a> {
 impl<'a> InspectCommand<'a> {
     /// The command of these words, and of a format where one is given, of which nothing is done yet
     /// but that the SDP is read, and files looked at for captures where nothing else says a stream.
+    /// A meter is told how much is read.
     pub fn new(
         rt: &'a HostRuntime,
         words: &'a InspectWords<'a>,
         target: Option<Result<Target, FormatFault>>,
+        meter: &Meter,
     ) -> Self
         ensures { ⟦<InspectCommand<'a> as Command>⟧.is_new result }
     {
@@ -89,14 +91,14 @@ impl<'a> InspectCommand<'a> {
             recordings: words.recordings.as_slice(),
             is_json: words.is_json,
         };
-        let mut files = nothing_read(rt);
+        let mut files = nothing_read(rt, meter);
         let opened = open(rt, asked, &mut files);
         InspectCommand {
             rt,
             asked,
             opened,
             files,
-            output: OutputSink::new(rt.stdout()),
+            output: OutputSink::new(rt.stdout()).metered(meter),
         }
     }
 
@@ -107,14 +109,14 @@ impl<'a> InspectCommand<'a> {
     }
 }
 
-fn nothing_read<'a>(rt: &HostRuntime) -> Inspected<'a>
+fn nothing_read<'a>(rt: &HostRuntime, meter: &Meter) -> Inspected<'a>
     ensures { AreFresh result }
 {
     let none = Vec::new(rt.alloc());
     Inspected {
         looked: Snapshot::of(&none),
         flows: none,
-        streams: Files::new(rt),
+        streams: Files::new(rt, meter),
     }
 }
 
@@ -160,7 +162,7 @@ fn open_named<'a>(
         ⊎ IsFlowRefusal (option_copied asked.entry.flows.a)
         (option_copied asked.entry.flows.b) r)) }
 {
-    let recordings = files_of(rt, asked.recordings, false)?;
+    let recordings = files_of(rt, asked.recordings, false, &files.streams.meter)?;
     open_streams(rt, asked, recordings, &mut files.streams)?;
     Ok(Aim::Streams(wanted))
 }
@@ -182,7 +184,7 @@ fn open_looked<'a>(
         ⊎ IsFlowRefusal (option_copied asked.entry.flows.a)
         (option_copied asked.entry.flows.b) r)) }
 {
-    let looked = look_at(rt, asked.recordings)?;
+    let looked = look_at(rt, asked.recordings, &files.streams.meter)?;
     files.looked = Snapshot::of(&looked.files);
     if looked.have_capture {
         open_streams(rt, asked, looked.files, &mut files.streams)?;
@@ -326,6 +328,7 @@ impl<'a> Command for InspectCommand<'a> {
             }
             Err(fault) => Err(fault),
         };
+        self.output.clear();
         Ran {
             outcome,
             is_whole: true,

@@ -7,6 +7,7 @@ ghost use Rattle.media_file.specs.Fronts.{capture_name};
 ghost use Rattle.run_outcome.specs.Fault.{IfRefused};
 
 use crate::replayed::Replayed;
+use devices::Meter;
 use run_outcome::Fault;
 use st_format::read_whole;
 
@@ -26,6 +27,7 @@ pub(crate) fn files_of<'a>(
     rt: &'a HostRuntime,
     names: &[&'a str],
     is_twice: bool,
+    meter: &Meter,
 ) -> Result<Vec<Replayed<'a>>, Fault>
     ensures fresh { IfOk result (λ files. All IsFresh files.items) }
     ensures each { IfOk result (λ files. vec_len files ≡ length names.now) }
@@ -33,24 +35,28 @@ pub(crate) fn files_of<'a>(
 {
     let mut files = Vec::new(rt.alloc());
     for name in names {
-        push_file(&mut files, file_of(rt, name, is_twice))?;
+        push_file(&mut files, file_of(rt, name, is_twice, meter))?;
     }
     Ok(files)
 }
 
 /// The file of a name, which may be to be read twice.
-fn file_of<'a>(rt: &'a HostRuntime, name: &'a str, is_twice: bool) -> Replayed<'a>
+fn file_of<'a>(rt: &'a HostRuntime, name: &'a str, is_twice: bool, meter: &Meter) -> Replayed<'a>
     ensures { IsFresh result }
 {
     if is_twice {
-        Replayed::first(rt, name)
+        Replayed::first(rt, name, meter)
     } else {
-        Replayed::once(rt, name)
+        Replayed::once(rt, name, meter)
     }
 }
 
 /// Looks at the files of these names for one that begins as a capture, up to the first that does.
-pub(crate) fn look_at<'a>(rt: &'a HostRuntime, names: &[&'a str]) -> Result<Looked<'a>, Fault>
+pub(crate) fn look_at<'a>(
+    rt: &'a HostRuntime,
+    names: &[&'a str],
+    meter: &Meter,
+) -> Result<Looked<'a>, Fault>
     ensures looked { IfOk result (λ l. HaveCapture l.have_capture l.files.items) }
     ensures each { IfOk result (λ l. vec_len l.files ≡ length names.now) }
     ensures unrefused { IfErr result (λ f. IfRefused f ⊥) }
@@ -59,9 +65,11 @@ pub(crate) fn look_at<'a>(rt: &'a HostRuntime, names: &[&'a str]) -> Result<Look
         files: Vec::new(rt.alloc()),
         have_capture: false,
     };
+    meter.expect_again();
     for name in names {
-        looked.add(Replayed::first(rt, name))?;
+        looked.add(Replayed::first(rt, name, meter))?;
     }
+    meter.begin_again();
     Ok(looked)
 }
 

@@ -19,7 +19,7 @@ use crate::replaying::last_begun;
 use crate::window::{Found, find_in, read_words};
 use capture_engines::{Seen, Wanted};
 use command_end::find_output;
-use devices::{FileOutput, FileSource, Identity, Reading};
+use devices::{FileOutput, FileSource, Identity, Meter, Reading};
 use flow::Flows;
 use recording_engines::{FlowWords, ways_each};
 use run_outcome::{Fault, MOST_TEXT, Refusal, Writer, read_text};
@@ -43,6 +43,8 @@ pub struct Files<'a> {
     pub ways: Vec<Result<Flows, Refusal>>,
     /// What was seen of each that was taken. It is for a person.
     pub seen: Vec<Seen>,
+    /// What is told how much of them is read. It is for a person.
+    pub meter: Meter,
 }
 
 /// What `receive` is asked for.
@@ -59,7 +61,7 @@ pub struct Asked<'a> {
 
 impl<'a> Files<'a> {
     /// Where nothing is read yet.
-    pub(crate) fn new(rt: &HostRuntime) -> Files<'a>
+    pub(crate) fn new(rt: &HostRuntime, meter: &Meter) -> Files<'a>
         ensures unread { AreUnread result }
         ensures none { result.found ≡ None }
     {
@@ -71,6 +73,7 @@ impl<'a> Files<'a> {
             recordings: Vec::new(rt.alloc()),
             ways: Vec::new(rt.alloc()),
             seen: Vec::new(rt.alloc()),
+            meter: meter.share(),
         }
     }
 
@@ -172,7 +175,7 @@ impl<'a> Files<'a> {
         ensures found { self.new.found ≡ self.old.found }
         ensures unrefused { IfErr result (λ f. OfRefusal f (λ _. ⊥)) }
     {
-        self.recordings = files_of(rt, names, false)?;
+        self.recordings = files_of(rt, names, false, &self.meter)?;
         Ok(())
     }
 
@@ -196,7 +199,8 @@ impl<'a> Files<'a> {
             asked.entry.wanted.window.now asked.entry.wanted.ssrc.now (said_text self.new.said)
             self.new.ways.items self.new.looked.items)) }
     {
-        let mut looked = files_of(rt, asked.recordings, true)?;
+        self.meter.expect_again();
+        let mut looked = files_of(rt, asked.recordings, true, &self.meter)?;
         match find_in(
             rt,
             asked.wanted,
@@ -206,6 +210,7 @@ impl<'a> Files<'a> {
             self.ways.as_slice(),
         ) {
             Ok(found) => {
+                self.meter.begin_again();
                 self.recordings = fresh_files(rt, looked)?;
                 self.found = Some(found);
                 Ok(())

@@ -27,7 +27,7 @@ use crate::window::window_of;
 use capture_engines::{Reception, Wanted, receive_files};
 use command_end::{Command, Devices, Hints, Ran};
 use command_line::ReceiveWords;
-use devices::{FileOutput, FileSink, OutputSink, Rest, Stream};
+use devices::{FileOutput, FileSink, Meter, OutputSink, Rest, Stream};
 use recording_engines::FlowWords;
 use run_outcome::Fault;
 
@@ -51,12 +51,13 @@ pub struct ReceiveCommand<'a> {
 }
 
 impl<'a> ReceiveCommand<'a> {
-    /// The command of these words, of which nothing is done yet but that the SDP is read.
-    pub fn new(rt: &'a HostRuntime, words: &'a ReceiveWords<'a>) -> Self
+    /// The command of these words, of which nothing is done yet but that the SDP is read. A meter is
+    /// told how much is read.
+    pub fn new(rt: &'a HostRuntime, words: &'a ReceiveWords<'a>, meter: &Meter) -> Self
         ensures { ⟦<ReceiveCommand<'a> as Command>⟧.is_new result }
     {
         let asked = asked(words);
-        let mut files = Files::new(rt);
+        let mut files = Files::new(rt, meter);
         let mut state = FileOutput::new(rt, words.state, Rest::Goes);
         let is_input = is_asked(rt, asked, state.identity());
         let opened = files.open(rt, asked, &mut state, is_input);
@@ -67,7 +68,7 @@ impl<'a> ReceiveCommand<'a> {
             files,
             state,
             is_input,
-            output: OutputSink::beside(rt, words.state),
+            output: OutputSink::beside(rt, words.state).metered(meter),
             is_sound: words.is_sound,
             reception: None,
             wants_memory: false,
@@ -266,6 +267,7 @@ impl<'a> Command for ReceiveCommand<'a> {
             ),
             Err(fault) => Err(fault),
         };
+        self.output.clear();
         let is_saved = self.reception.is_some();
         self.wants_memory = is_memory(outcome);
         Ran {

@@ -6,21 +6,22 @@ ghost use Rattle.devices.specs.Passed.{file_gave};
 ghost use Rattle.run_outcome.specs.Fault.{IfRefused};
 
 use crate::replayed::{Keeping, Replayed};
-use devices::{FileSource, Reading};
+use devices::{FileSource, Meter, Reading};
 use run_outcome::Fault;
 use st_format::{ByteSource, DeviceFault};
 use std::fs;
 
 impl<'a> Replayed<'a> {
     /// The file of this name, or standard input where that is `-`, of which nothing is remembered.
-    /// It isn't looked at yet.
-    pub fn once(rt: &'a HostRuntime, name: &'a str) -> Self
+    /// It isn't read yet. A meter is told how much is.
+    pub fn once(rt: &'a HostRuntime, name: &'a str, meter: &Meter) -> Self
         ensures { replayed_gave result ≡ [] }
     {
-        Replayed::over(rt, name, FileSource::given(rt, name), Keeping::No)
+        let file = FileSource::given(rt, name).metered(meter);
+        Replayed::over(rt, name, file, Keeping::No)
     }
 
-    /// The file of this name, whatever that is, likewise.
+    /// The file of this name, whatever that is, likewise, without a meter.
     pub fn named(rt: &'a HostRuntime, name: &'a str) -> Self
         ensures { replayed_gave result ≡ [] }
     {
@@ -29,7 +30,7 @@ impl<'a> Replayed<'a> {
 
     /// The same as [`Replayed::once`] to be read twice: what is read of it is remembered, unless it
     /// is a plain file, which can be opened again.
-    pub fn first(rt: &'a HostRuntime, name: &'a str) -> Self
+    pub fn first(rt: &'a HostRuntime, name: &'a str, meter: &Meter) -> Self
         ensures { replayed_gave result ≡ [] }
     {
         let keeping = if is_plain(rt, name) {
@@ -37,7 +38,8 @@ impl<'a> Replayed<'a> {
         } else {
             Keeping::Yes
         };
-        Replayed::over(rt, name, FileSource::given(rt, name), keeping)
+        let file = FileSource::given(rt, name).metered(meter);
+        Replayed::over(rt, name, file, keeping)
     }
 
     /// A file that gave nothing yet.
@@ -63,10 +65,17 @@ impl<'a> Replayed<'a> {
         ensures unrefused { IfErr result (λ f. IfRefused f ⊥) }
     {
         match self.keeping {
-            Keeping::No => Ok(Replayed::once(self.rt, self.name)),
+            Keeping::No => Ok(self.reopened()),
             Keeping::Yes => Ok(self.rewound()),
             Keeping::Lost => Err(Fault::Memory),
         }
+    }
+
+    /// The file from its front.
+    fn reopened(self) -> Self
+        ensures { replayed_gave result ≡ [] }
+    {
+        Replayed::over(self.rt, self.name, self.file.again(), Keeping::No)
     }
 
     /// What is remembered, from its front, and then what the file gives.

@@ -17,8 +17,8 @@ use capture_engines::{Sending, check_pictures, send_typed};
 use command_end::{Command, Devices, Hints, Ran, find_output};
 use command_line::{NamedPaths, SendWords};
 use devices::{
-    FileOutput, FileSource, OutputSink, Rest, Stream, any_is, last_begun, named_file, named_files,
-    one_is, reading_of,
+    FileOutput, FileSource, Meter, OutputSink, Rest, Stream, any_is, last_begun, metered_files,
+    named_file, one_is, reading_of,
 };
 use media_file::Paths;
 use run_outcome::{Fault, Writer};
@@ -42,12 +42,16 @@ pub struct SendCommand<'a> {
 
 impl<'a> SendCommand<'a> {
     /// The command of these words, of which nothing is done yet, or that there is no memory for its
-    /// list of files.
-    pub fn new(rt: &'a HostRuntime, words: &SendWords<'a>) -> Result<Self, AllocError>
+    /// list of files. A meter is told how much is read of the pictures.
+    pub fn new(
+        rt: &'a HostRuntime,
+        words: &SendWords<'a>,
+        meter: &Meter,
+    ) -> Result<Self, AllocError>
         ensures { IfOk result ⟦<SendCommand<'a> as Command>⟧.is_new }
     {
         let sdp = named_file(rt, words.sdp);
-        let pictures = named_files(rt, words.pictures.as_slice())?;
+        let pictures = metered_files(rt, words.pictures.as_slice(), meter)?;
         let out = FileOutput::new(rt, words.out, Rest::Stays);
         let is_input = is_read(&out, &sdp, pictures.as_slice());
         Ok(SendCommand {
@@ -58,7 +62,7 @@ impl<'a> SendCommand<'a> {
             pictures,
             out,
             is_input,
-            output: OutputSink::beside(rt, words.out),
+            output: OutputSink::beside(rt, words.out).metered(meter),
         })
     }
 }
@@ -182,6 +186,7 @@ impl<'a> Command for SendCommand<'a> {
             self.is_input,
             &mut self.output,
         );
+        self.output.clear();
         Ran {
             outcome,
             is_whole: self.out.settle(outcome.is_ok()),

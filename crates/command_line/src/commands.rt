@@ -122,14 +122,14 @@ const SEND: Said = Said {
     name: "send",
     about: "Sends pictures of one format into a capture, and prints how many datagrams that \
         are",
-    words: &[SENT, SENT_TYPE, STAMP, MAX, SENT_PICTURES],
+    words: &[SENT, SENT_TYPE, STAMP, MAX, SENT_PICTURES, PROGRESS],
 };
 
 const RECEIVE: Said = Said {
     name: "receive",
     about: "Takes the datagrams of captures and recordings into one receiver, prints how many \
         came and a line for each frame, and writes what is known of each sample",
-    words: &[RECEIVED],
+    words: &[RECEIVED, PROGRESS],
 };
 
 const MERGE: Said = Said {
@@ -164,14 +164,14 @@ const IMPORT: Said = Said {
     name: "import",
     about: "Takes a stream's datagrams out of captures and recordings of other tools, joined by \
         time, into a capture, and prints how many came by each path",
-    words: &[IMPORTED],
+    words: &[IMPORTED, PROGRESS],
 };
 
 const INSPECT: Said = Said {
     name: "inspect",
     about: "Prints which streams of datagrams recordings of other tools have, or, by a format, \
         what came of a stream by each path and what is missing",
-    words: &[INSPECTED],
+    words: &[INSPECTED, PROGRESS],
 };
 
 const EXPORT: Said = Said {
@@ -354,7 +354,7 @@ const FOLLOW: Said = Said {
     name: "follow",
     about: "Follows the stream that captures and recordings have, read side by side, and prints a \
         line for every frame as it leaves",
-    words: &[FOLLOWED],
+    words: &[FOLLOWED, PROGRESS],
 };
 
 /// The words of `follow`.
@@ -739,12 +739,13 @@ const CONVERTED: &[Word] = &[
     },
 ];
 
-/// The recordings that are read.
-const RECORDINGS: Word = Word {
-    name: "recordings",
-    usage: Usage::Files("RECORDING"),
-    help: "Files of pcap or pcapng, or - for one on standard input",
-};
+/// Whether it is told how far a command is that reads long files.
+const PROGRESS: &[Word] = &[Word {
+    name: "progress",
+    usage: Usage::Flag,
+    help: "Tell standard error once a second how much was read, how fast, and how long the rest \
+        takes; at a terminal that comes by itself, unless --quiet is given",
+}];
 
 /// The program with its commands.
 pub fn program<'a>(alloc: Global) -> Result<Command<'a>, AllocError> {

@@ -15,8 +15,10 @@ pub struct Given<'a> {
     pub words: Words<'a>,
     /// Whether a fault's place is told behind its line.
     pub is_verbose: bool,
-    /// Whether it is not told by itself where standard error is a terminal.
+    /// Whether nothing more than is asked for is told where standard error is a terminal.
     pub is_quiet: bool,
+    /// Whether it is told how far the command is.
+    pub has_progress: bool,
 }
 
 /// A command, and what it is asked for.
@@ -328,7 +330,16 @@ pub fn read_words(alloc: Global, words: &[String]) -> Result<Given<'_>, WordsFau
         words: command(alloc, &matches)?,
         is_verbose: matches.get_flag("verbose"),
         is_quiet: matches.get_flag("quiet"),
+        has_progress: has_progress(&matches),
     })
+}
+
+/// Whether it is told how far the command is. (Of a command without that word it isn't.)
+fn has_progress(matches: &ArgMatches<'_>) -> bool {
+    match matches.subcommand() {
+        Some((_, given)) => given.get_flag("progress"),
+        None => false,
+    }
 }
 
 /// Reads the command.

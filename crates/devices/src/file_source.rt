@@ -7,6 +7,7 @@ ghost use Rattle.devices.specs.Passed.{file_path};
 
 use crate::history::History;
 use crate::identity::{Identity, identity_of};
+use crate::meter::Meter;
 use crate::standing::Reading;
 use st_format::{ByteSource, DeviceFault};
 use std::fs::{self, File};
@@ -34,6 +35,10 @@ pub struct FileSource<'a> {
     is_packed: bool,
     /// Why it failed last.
     fault: Option<io::Error>,
+    /// What is told how much was read, and how many octets it was told of: those too that were read
+    /// ahead.
+    meter: Meter,
+    metered: u64,
 }
 
 /// Where the reading of a file stands.
@@ -65,6 +70,8 @@ impl<'a> FileSource<'a> {
             octet: 0,
             is_packed: false,
             fault: None,
+            meter: Meter::silent(),
+            metered: 0,
         }
     }
 
@@ -78,6 +85,32 @@ impl<'a> FileSource<'a> {
             source.name = "standard input";
             source.path = "/dev/stdin";
         }
+        source
+    }
+
+    /// The same, which counts among the files of a meter, and tells it how much is read.
+    pub fn metered(self, meter: &Meter) -> Self
+        ensures named { file_path result ≡ file_path self.entry }
+        ensures failures { ⟦<FileSource<'a> as ByteSource>⟧.failures result
+            ≡ ⟦<FileSource<'a> as ByteSource>⟧.failures self.entry }
+        ensures gave { ⟦<FileSource<'a> as ByteSource>⟧.gave result
+            ≡ ⟦<FileSource<'a> as ByteSource>⟧.gave self.entry }
+    {
+        meter.expect(self.rt, self.path);
+        let mut source = self;
+        source.meter = meter.share();
+        source
+    }
+
+    /// The same file from its front, which isn't looked at yet. Its meter counts it as before.
+    pub fn again(self) -> Self
+        ensures named { file_path result ≡ file_path self.entry }
+        ensures unfailed { ⟦<FileSource<'a> as ByteSource>⟧.failures result ≡ 0 }
+        ensures fresh { ⟦<FileSource<'a> as ByteSource>⟧.gave result ≡ [] }
+    {
+        let mut source = FileSource::new(self.rt, self.path);
+        source.name = self.name;
+        source.meter = self.meter.share();
         source
     }
 
@@ -124,10 +157,17 @@ impl<'a> FileSource<'a> {
         let Progress::Within(file) = &mut self.progress else {
             return Ok(0);
         };
+        let is_asked = file.buffer().is_empty();
         let n = file.read(buf)?;
         self.gave.note(&buf[..n]);
         self.is_packed = self.is_packed || is_packed(self.octet, &buf[..n]);
         self.octet = self.octet.saturating_add(n as u64);
+        if is_asked {
+            // (only where the system was asked, which takes longer than to look at a clock)
+            let read = self.octet.saturating_add(file.buffer().len() as u64);
+            self.meter.count(self.rt, read.saturating_sub(self.metered));
+            self.metered = read;
+        }
         if n == 0 && !buf.is_empty() {
             self.progress = Progress::Past;
         }

@@ -5,6 +5,7 @@ ghost use Rattle.devices.specs.Passed.{file_gave, file_path};
 
 use crate::file_source::FileSource;
 use crate::identity::Identity;
+use crate::meter::Meter;
 use crate::standing::Reading;
 use std::alloc::AllocError;
 
@@ -30,9 +31,23 @@ pub fn named_files<'a>(
         ≡ map (λ n. n.now) names.now) }
     ensures fresh { IfOk result (λ files. All (λ f. file_gave f ≡ []) files.items) }
 {
+    metered_files(rt, names, &Meter::silent())
+}
+
+/// The same, which count among the files of a meter, and tell it how much is read.
+pub fn metered_files<'a>(
+    rt: &'a HostRuntime,
+    names: &[&'a str],
+    meter: &Meter,
+) -> Result<Vec<FileSource<'a>>, AllocError>
+    ensures len { IfOk result (λ files. vec_len files ≡ length names.now) }
+    ensures paths { IfOk result (λ files. map file_path files.items
+        ≡ map (λ n. n.now) names.now) }
+    ensures fresh { IfOk result (λ files. All (λ f. file_gave f ≡ []) files.items) }
+{
     let mut files = Vec::new(rt.alloc());
     for name in names {
-        files.push(FileSource::new(rt, name))?;
+        files.push(FileSource::new(rt, name).metered(meter))?;
     }
     Ok(files)
 }

@@ -2,6 +2,7 @@
 ghost use Rattle.std.specs.Prelude.{◌≡◌, ◌+◌, ◌-◌, ◌^◌, ◌<◌, ◌↔◌, [], IsTrue, min, None};
 
 use crate::history::History;
+use crate::meter::Meter;
 use crate::standing::Writing;
 use crate::stream::{OUTPUT, Stream};
 use st_format::{ByteSink, DeviceFault};
@@ -16,6 +17,8 @@ pub struct OutputSink<W: Write + Drop> {
     failures: u64,
     /// Why it failed last, where the system said so.
     fault: Option<io::Error>,
+    /// What may stand in a terminal's line, which is taken from there before anything is written.
+    meter: Meter,
 }
 
 impl<W: Write + Drop> OutputSink<W> {
@@ -30,7 +33,25 @@ impl<W: Write + Drop> OutputSink<W> {
             took: History::new(),
             failures: 0,
             fault: None,
+            meter: Meter::silent(),
         }
+    }
+
+    /// The same beside a meter, whose line is taken from a terminal before anything is written.
+    pub fn metered(self, meter: &Meter) -> Self
+        ensures failures { ⟦<OutputSink<W> as ByteSink>⟧.failures result
+            ≡ ⟦<OutputSink<W> as ByteSink>⟧.failures self }
+        ensures took { ⟦<OutputSink<W> as ByteSink>⟧.took result
+            ≡ ⟦<OutputSink<W> as ByteSink>⟧.took self }
+    {
+        let mut sink = self;
+        sink.meter = meter.share();
+        sink
+    }
+
+    /// Takes the meter's line from a terminal, if one stands there.
+    pub fn clear(&self) {
+        self.meter.clear();
     }
 
     /// How the writing went, for what a person is told of it.
@@ -73,6 +94,7 @@ impl<W: Write + Drop> ByteSink for OutputSink<W> {
 
     /// A write of no octets of some is a failure.
     fn write(&mut self, octets: &[u8]) -> Result<usize, DeviceFault> {
+        self.meter.clear();
         match self.writer.write(octets) {
             Ok(n) if n > 0 || octets.is_empty() => {
                 self.took.note(&octets[..n]);

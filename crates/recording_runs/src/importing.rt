@@ -19,7 +19,7 @@ ghost use Rattle.run_outcome.specs.declared.refusal.Writer.TheVariants.{Import};
 
 use command_end::{Command, Devices, Hints, Ran, find_output};
 use command_line::ImportWords;
-use devices::{FileOutput, FileSource, Identity, OutputSink, Reading, Rest, Stream};
+use devices::{FileOutput, FileSource, Identity, Meter, OutputSink, Reading, Rest, Stream};
 use recording_engines::{FlowWords, ImportCounts, ImportFile};
 use run_outcome::{Fault, Writer};
 use std::alloc::{AllocError, Global};
@@ -44,12 +44,16 @@ pub struct ImportCommand<'a> {
 
 impl<'a> ImportCommand<'a> {
     /// The command of these words, of which nothing is done yet, or that there is no memory for its
-    /// list of files.
-    pub fn new(rt: &'a HostRuntime, words: &ImportWords<'a>) -> Result<Self, AllocError>
+    /// list of files. A meter is told how much is read.
+    pub fn new(
+        rt: &'a HostRuntime,
+        words: &ImportWords<'a>,
+        meter: &Meter,
+    ) -> Result<Self, AllocError>
         ensures { IfOk result ⟦<ImportCommand<'a> as Command>⟧.is_new }
     {
         let sdp = FileSource::new(rt, words.sdp);
-        let files = given_files(rt, words.recordings.as_slice())?;
+        let files = given_files(rt, words.recordings.as_slice(), meter)?;
         let out = FileOutput::new(rt, words.out, Rest::Stays);
         let is_input = is_read(&out, &sdp, files.as_slice());
         Ok(ImportCommand {
@@ -59,7 +63,7 @@ impl<'a> ImportCommand<'a> {
             files,
             out,
             is_input,
-            output: OutputSink::beside(rt, words.out),
+            output: OutputSink::beside(rt, words.out).metered(meter),
             counts: None,
         })
     }
@@ -82,12 +86,17 @@ pub(crate) fn octets(text: Option<&str>) -> Option<&[u8]> {
 }
 
 /// The files of these names, in their order, of which `-` is standard input. None is looked at yet.
-fn given_files<'a>(rt: &'a HostRuntime, names: &[&'a str]) -> Result<Vec<InputFile<'a>>, AllocError>
+fn given_files<'a>(
+    rt: &'a HostRuntime,
+    names: &[&'a str],
+    meter: &Meter,
+) -> Result<Vec<InputFile<'a>>, AllocError>
     ensures { IfOk result (λ files. AreNew files.items) }
 {
     let mut files = Vec::new(rt.alloc());
     for name in names {
-        files.push(ImportFile::Closed(FileSource::given(rt, name)))?;
+        let file = FileSource::given(rt, name).metered(meter);
+        files.push(ImportFile::Closed(file))?;
     }
     Ok(files)
 }
@@ -213,6 +222,7 @@ impl<'a> Command for ImportCommand<'a> {
             &mut self.output,
             &mut self.counts,
         );
+        self.output.clear();
         Ran {
             outcome,
             is_whole: self.out.settle(outcome.is_ok()),

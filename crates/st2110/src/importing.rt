@@ -2,7 +2,7 @@
 use crate::run_made;
 use command_end::{Command, end_without_memory, run_command};
 use command_line::ImportWords;
-use devices::{FileSource, Stream};
+use devices::{FileSource, Meter, Stream};
 use recording_counts::LeftOut;
 use recording_engines::ImportFile;
 use recording_runs::{FlowsCommand, ImportCommand};
@@ -10,8 +10,14 @@ use std::alloc::{AllocError, Global};
 
 /// Makes a capture of captures and recordings, and answers the exit status. Where nothing was
 /// recorded, the flows that the recordings have are told by one command more.
-pub fn import(rt: &HostRuntime, words: &ImportWords<'_>, explains: bool, is_verbose: bool) -> u8 {
-    match ImportCommand::new(rt, words) {
+pub fn import(
+    rt: &HostRuntime,
+    words: &ImportWords<'_>,
+    explains: bool,
+    is_verbose: bool,
+    meter: &Meter,
+) -> u8 {
+    match ImportCommand::new(rt, words, meter) {
         Ok(command) => record(rt, words, command, explains, is_verbose),
         Err(_) => end_without_memory(rt, explains),
     }

@@ -5,6 +5,7 @@ use crate::receiving::tell_flows;
 use capture_runs::InspectCommand;
 use command_end::run_command;
 use command_line::{BadValue, FormatWords, InspectWords};
+use devices::Meter;
 use script_runs::read_format_word;
 use st_format::FormatFault;
 use stream_inspection::Target;
@@ -13,7 +14,13 @@ use stream_inspection::Target;
 /// stream's recordings the packets that were left out are told by the reason, where that is asked
 /// for; and where a flow was asked for of which no datagram came, standard error is told the flows
 /// that the recordings have.
-pub fn inspect(rt: &HostRuntime, words: &InspectWords<'_>, explains: bool, is_verbose: bool) -> u8 {
+pub fn inspect(
+    rt: &HostRuntime,
+    words: &InspectWords<'_>,
+    explains: bool,
+    is_verbose: bool,
+    meter: &Meter,
+) -> u8 {
     let target = match words.format {
         Some(given) => match target_of(given) {
             Ok(target) => Some(target),
@@ -21,7 +28,7 @@ pub fn inspect(rt: &HostRuntime, words: &InspectWords<'_>, explains: bool, is_ve
         },
         None => None,
     };
-    let ended = run_command(rt, explains, InspectCommand::new(rt, words, target));
+    let ended = run_command(rt, explains, InspectCommand::new(rt, words, target, meter));
     let seen = ended.command.seen();
     if is_verbose {
         tell_left_out(rt, &seen.left_out);

@@ -8,6 +8,7 @@ mod describing;
 mod exporting;
 mod importing;
 mod inspecting;
+mod progress;
 mod receiving;
 mod sending;
 
@@ -20,6 +21,7 @@ use exporting::export;
 use importing::import;
 use inspecting::inspect;
 use picture_runs::PictureCommand;
+use progress::meter_of;
 use receiver_runs::{MergeCommand, ProcessCommand, ReportCommand};
 use receiving::receive;
 use run_outcome::Status;
@@ -58,6 +60,7 @@ fn run(rt: &HostRuntime) -> u8 {
 /// Runs the command, and answers the exit status.
 fn follow(rt: &HostRuntime, given: &Given<'_>) -> u8 {
     let explains = explains_faults(rt, given);
+    let meter = meter_of(rt, given);
     match &given.words {
         Words::Trace => run_command(rt, explains, TraceCommand::new(rt, explains)).status,
         Words::Sdp(words) => sdp(rt, words, explains),
@@ -65,16 +68,16 @@ fn follow(rt: &HostRuntime, given: &Given<'_>) -> u8 {
         Words::Migrate(words) => {
             run_command(rt, explains, MigrateCommand::new(rt, words)).status
         }
-        Words::Send(words) => send(rt, words, explains),
-        Words::Receive(words) => receive(rt, words, explains, given.is_verbose),
+        Words::Send(words) => send(rt, words, explains, &meter),
+        Words::Receive(words) => receive(rt, words, explains, given.is_verbose, &meter),
         Words::Merge(words) => run_made(rt, explains, MergeCommand::new(rt, words)),
         Words::Process(words) => run_made(rt, explains, ProcessCommand::new(rt, words)),
         Words::Report(state) => run_command(rt, explains, ReportCommand::new(rt, state)).status,
         Words::Loop(words) => run_command(rt, explains, LoopCommand::new(rt, words)).status,
-        Words::Import(words) => import(rt, words, explains, given.is_verbose),
+        Words::Import(words) => import(rt, words, explains, given.is_verbose, &meter),
         Words::Export(words) => export(rt, words, explains),
-        Words::Inspect(words) => inspect(rt, words, explains, given.is_verbose),
-        Words::Follow(words) => run_made(rt, explains, FollowCommand::new(rt, words)),
+        Words::Inspect(words) => inspect(rt, words, explains, given.is_verbose, &meter),
+        Words::Follow(words) => run_made(rt, explains, FollowCommand::new(rt, words, &meter)),
         Words::Convert(words) => convert(rt, words, explains),
         Words::Picture(words) => {
             run_command(rt, explains, PictureCommand::new(rt, words)).status

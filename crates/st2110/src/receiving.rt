@@ -5,7 +5,7 @@ use capture_engines::{REFUSAL_COUNT, Reception, Seen, Tally, refusal_at};
 use capture_runs::{Files, ReceiveCommand};
 use command_end::run_command;
 use command_line::ReceiveWords;
-use devices::Stream;
+use devices::{Meter, Stream};
 use recording_counts::LeftOut;
 use recording_runs::FlowsCommand;
 use std::alloc::AllocError;
@@ -19,8 +19,14 @@ const NAMED: usize = 3;
 /// packets that were left out are told by the reason where that is asked for. Where a flow was
 /// asked for of which no datagram came, standard error is told the flows that the recordings have.
 /// That this may fail changes nothing.
-pub fn receive(rt: &HostRuntime, words: &ReceiveWords<'_>, explains: bool, is_verbose: bool) -> u8 {
-    let ended = run_command(rt, explains, ReceiveCommand::new(rt, words));
+pub fn receive(
+    rt: &HostRuntime,
+    words: &ReceiveWords<'_>,
+    explains: bool,
+    is_verbose: bool,
+    meter: &Meter,
+) -> u8 {
+    let ended = run_command(rt, explains, ReceiveCommand::new(rt, words, meter));
     let files = &ended.command.files;
     let seen = files.seen();
     if let Some(reception) = &ended.command.reception {

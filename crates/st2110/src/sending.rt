@@ -2,11 +2,12 @@
 use crate::run_made;
 use capture_runs::{SendCommand, said_otherwise};
 use command_line::SendWords;
+use devices::Meter;
 
 /// Sends pictures into a capture, and answers the exit status. Where the SDP says another format or
 /// payload type than is sent, that is told where faults are explained; the capture is as without.
-pub fn send(rt: &HostRuntime, words: &SendWords<'_>, explains: bool) -> u8 {
-    let status = run_made(rt, explains, SendCommand::new(rt, words));
+pub fn send(rt: &HostRuntime, words: &SendWords<'_>, explains: bool, meter: &Meter) -> u8 {
+    let status = run_made(rt, explains, SendCommand::new(rt, words, meter));
     if explains && status == 0 {
         tell_difference(rt, words);
     }

@@ -1,4 +1,4 @@
-use Rattle.std.proofs.Common.{◌≡◌, ◌++◌, ◌∷◌, List, [], subst, sym}
+use Rattle.std.proofs.Common.{◌≡◌, ◌++◌, ◌∷◌, ◌∙◌, List, [], subst, sym}
 use Rattle.std.specs.List.{AllByRecursion}
 use Rattle.recording_runs.specs.Files.{AreNew}
 use Rattle.recording_runs.proofs.importing.given_files.Goals as goal
@@ -15,5 +15,6 @@ pub loop-name-preserved : goal.loop-name-preserved
 loop-name-preserved c =
     subst (λ (fs : List _). AreNew fs) (sym c.in_ok-push.ensures.items) (
       all_more _ c.loop-name.files.items _ c.loop-name.invariant.0 tt,
-      all_more _ c.loop-name.files.items _ c.loop-name.invariant.1 c.given.ensures.fresh,
+      all_more _ c.loop-name.files.items _ c.loop-name.invariant.1
+          (c.metered-file.ensures.gave ∙ c.given.ensures.fresh),
     )

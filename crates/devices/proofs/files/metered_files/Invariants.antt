@@ -1,6 +1,6 @@
 use Rattle.std.proofs.Common.{◌≡◌, [], All, map, take, vec_len}
 use Rattle.devices.specs.Passed.{file_gave, file_path}
-use Rattle.devices.proofs.files.named_files.Given as goal
+use Rattle.devices.proofs.files.metered_files.Given as goal
 
 abbrev pub invariant-loop-name : goal.invariant-loop-name
 invariant-loop-name l =
