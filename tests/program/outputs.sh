@@ -73,6 +73,7 @@ input 'import 5' alike.sdp import --sdp alike.sdp --out OUT alike.pcap
 input 'import 5' a.cap import --sdp alike.sdp --out OUT alike.pcap a.cap
 input 'follow 2' alike.pcap follow --sdp alike.sdp --out OUT alike.pcap
 input 'follow 2' alike.sdp follow --sdp alike.sdp --out OUT alike.pcap
+input 'follow 2' alike.pcap follow --sdp alike.sdp --report OUT alike.pcap
 input 'export 2' sent.cap export --a 239.1.1.1:5004 --out OUT sent.cap
 "$program" receive --window 900 --state a.cap - <a.cap >out 2>err
 status=$?

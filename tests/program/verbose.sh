@@ -271,6 +271,7 @@ migrate --sdp no-such-file --out v.cap old.cap|3|device|no-such-file, octet 0; w
 migrate --sdp q.sdp --out no-folder/v.cap old.cap|3|device|no-folder/v.cap; wanted to write there: No such file or directory (os error 2)
 convert p.pic v.ppm|1|convert 1 WrongForm|--as; wanted y4m for YCbCr, ppm for RGB, or a form of both: picture or raw
 convert p.pic p.pic|1|convert 2 OutputIsInput|OUT; wanted the name of no file that is read
+follow --report p.pic p.pic|1|follow 2 OutputIsInput|--out or --report; wanted the name of no file that is read
 convert cut.pic v.y4m|1|picture 5 Truncated|cut.pic, octet 37; wanted more octets: the file ends before it is whole
 convert --from y4m p.pic v.pic|1|form 3 BadMagic|p.pic, octet 9; wanted YUV4MPEG2 or P6
 convert --from ppm empty v.pic|1|form 7 Truncated|empty, octet 0; wanted more octets: the file ends before it is whole
