@@ -1,6 +1,6 @@
 -- What stands before a picture, and what a frame is settled over, by what was tested of formats.
 use Rattle.std.proofs.Common.{◌≡◌, ◌∙◌, ℕ, Bool, true, false, List, [], ◌++◌, Option, None, Some}
-use Rattle.std.proofs.Common.{ap, append-nil, arith, drop, length, refl, sym, take}
+use Rattle.std.proofs.Common.{ap, append-nil, arith, drop, length, refl, subst, sym, take}
 use Rattle.std.proofs.lemmas.List.{drop_all, take_all}
 use Rattle.std.proofs.lemmas.Bool.{cond-false, cond-true}
 use Rattle.following.specs.Following.{Handed}
@@ -17,7 +17,7 @@ use Rattle.receiver_engines.specs.Inputs.{settled_by_fill, settled_over}
 use Rattle.run_outcome.proofs.Blaming.{failed_one}
 use Rattle.settled_forms.specs.Settled.{form_text}
 use Rattle.st_format.specs.declared.format.Format.{Format}
-use Rattle.st_format.specs.Device.{Failed}
+use Rattle.st_format.specs.Device.{Failed, GrowsPart}
 use Rattle.st_format.specs.Fields.{fields_of, same_fields}
 use Rattle.st_format.specs.Picture.{Values, value_at}
 use Rattle.st_format.specs.Raster.{Raster}
@@ -132,3 +132,26 @@ takes_frame took k m l sink p h same filling fill format held written is sunk fi
       filling = filled ∙ filling;
       fill = by ∙ fill;
     }
+
+-- ---- a frame at which it failed
+
+-- A sink found room, which made m of it; and its sink of octets took a part of the picture.
+pub fails_frame : {K A : Type 0} (took : K → List ℕ) (k m : FormSink K A) (sink : K)
+    (h : Handed) → m.sink ≡ k.sink → m.fill ≡ k.fill → m.format ≡ k.format → m.held ≡ k.held
+    → GrowsPart (took m.sink) (took sink)
+    (head_for m.format h.frame.format ++ form_text (picture_of m.fill m.held h.frame))
+    → GrowsPart (took k.sink) (took sink)
+    (head_for k.format h.frame.format ++ form_text (picture_of k.fill k.held h.frame))
+fails_frame took k m sink h same fill format held part =
+    let f : Format = h.frame.format in
+    let now : Values = picture_of m.fill m.held h.frame in
+    let picture : now ≡ picture_of k.fill k.held h.frame =
+    ap (λ (x : Option (List ℕ)). picture_of x m.held h.frame) fill
+    ∙ ap (λ (x : Option Values). picture_of k.fill x h.frame) held in
+    let text : head_for m.format f ++ form_text now
+    ≡ head_for k.format f ++ form_text (picture_of k.fill k.held h.frame) =
+    ap (λ (x : Option Format). head_for x f ++ form_text now) format
+    ∙ ap (λ (x : Values). head_for k.format f ++ form_text x) picture in
+    subst (λ (t : List ℕ). GrowsPart (took k.sink) (took sink) t) text
+    (subst (λ (x : _). GrowsPart (took x) (took sink) (head_for m.format f ++ form_text now)) same
+    part)

@@ -104,9 +104,11 @@ impl<K: ByteSink + Drop, A: Allocator + Copy> FormSink<K, A> {
 }
 
 impl<K: ByteSink + Drop, A: Allocator + Copy> PictureSink for FormSink<K, A> {
-    ghost use Rattle.frame_sinks.specs.Sinks.{TakesFrame};
+    ghost use Rattle.frame_sinks.specs.Sinks.{FailsFrame, TakesFrame};
 
     ghost takes = { λ k h l. TakesFrame K.took k h l };
+
+    ghost fails = { λ k h l. FailsFrame K.took k h l };
 
     ghost failures = { λ k. K.failures k.sink };
 

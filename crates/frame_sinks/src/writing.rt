@@ -1,10 +1,12 @@
 //! Writing a frame as a picture of a stream.
-ghost use Rattle.std.specs.Prelude.{◌≡◌, ◌++◌, ◌∷◌, [], None, Some, IfErr, IsTrue, OnOk, length};
+ghost use Rattle.std.specs.Prelude.{◌≡◌, ◌++◌, ◌∷◌, [], None, Some, IfErr, IsTrue, length};
+ghost use Rattle.std.specs.Prelude.{OnErr, OnOk};
 ghost use Rattle.frame_assembly.specs.Settled.{IsBaseOf, settled_picture};
 ghost use Rattle.frame_sinks.specs.Pictures.{form_head, head_for, is_of, picture_of};
 ghost use Rattle.picture_forms.specs.Layouts.{IsYcc, y4m_head};
 ghost use Rattle.run_outcome.specs.Fault.{Accounts, IfRefused, counts};
 ghost use Rattle.settled_forms.specs.Settled.{form_text};
+ghost use Rattle.st_format.specs.Device.{GrowsPart};
 ghost use Rattle.st_format.specs.Fields.{fields_of, same_fields};
 ghost use Rattle.st_format.specs.Picture.{IsPicture};
 ghost use Rattle.st_format.specs.Position.{sample_count};
@@ -34,6 +36,9 @@ pub(crate) fn write_next<A: Allocator, B: Allocator, K: ByteSink>(
         (IsPicture (record { format = frame.now.format; samples = samples.new })) }
     ensures written { OnOk result (K.took sink.new ≡ K.took sink.old
         ++ (head_for begun frame.now.format ++ form_text (picture_of fill held.now frame.now))) }
+    // Where it fails, a first part of that was written, and not all.
+    ensures part { OnErr result (GrowsPart (K.took sink.old) (K.took sink.new)
+        (head_for begun frame.now.format ++ form_text (picture_of fill held.now frame.now))) }
     ensures unrefused { IfErr result (λ f. IfRefused f ⊥) }
     ensures failures { Accounts result (counts (K.failures sink.old) (K.failures sink.new) ∷ []) }
 {
@@ -51,6 +56,8 @@ fn write_head<K: ByteSink>(
 ) -> Result<(), Fault>
     ensures written { OnOk result
         (K.took sink.new ≡ K.took sink.old ++ head_for begun format.now) }
+    ensures part { OnErr result
+        (GrowsPart (K.took sink.old) (K.took sink.new) (head_for begun format.now)) }
     ensures unrefused { IfErr result (λ f. IfRefused f ⊥) }
     ensures failures { Accounts result (counts (K.failures sink.old) (K.failures sink.new) ∷ []) }
 {
@@ -74,6 +81,8 @@ fn is_of(begun: Option<Format>, format: &Format) -> bool
 /// Writes what a stream of this format begins with.
 fn write_form_head<K: ByteSink>(sink: &mut K, format: &Format) -> Result<(), Fault>
     ensures written { OnOk result (K.took sink.new ≡ K.took sink.old ++ form_head format.now) }
+    ensures part { OnErr result
+        (GrowsPart (K.took sink.old) (K.took sink.new) (form_head format.now)) }
     ensures unrefused { IfErr result (λ f. IfRefused f ⊥) }
     ensures failures { Accounts result (counts (K.failures sink.old) (K.failures sink.new) ∷ []) }
 {
@@ -87,6 +96,8 @@ fn write_form_head<K: ByteSink>(sink: &mut K, format: &Format) -> Result<(), Fau
 fn write_line<K: ByteSink>(sink: &mut K, format: &Format) -> Result<(), Fault>
     requires { IsYcc format.now.sampling }
     ensures written { OnOk result (K.took sink.new ≡ K.took sink.old ++ y4m_head format.now) }
+    ensures part { OnErr result
+        (GrowsPart (K.took sink.old) (K.took sink.new) (y4m_head format.now)) }
     ensures unrefused { IfErr result (λ f. IfRefused f ⊥) }
     ensures failures { Accounts result (counts (K.failures sink.old) (K.failures sink.new) ∷ []) }
 {
@@ -109,6 +120,8 @@ fn write_frame<A: Allocator, B: Allocator, K: ByteSink>(
     ensures whole { IsPicture (record { format = frame.now.format; samples = samples.new }) }
     ensures written { OnOk result (K.took sink.new
         ≡ K.took sink.old ++ form_text (picture_of fill held.now frame.now)) }
+    ensures part { OnErr result (GrowsPart (K.took sink.old) (K.took sink.new)
+        (form_text (picture_of fill held.now frame.now))) }
     ensures unrefused { IfErr result (λ f. IfRefused f ⊥) }
     ensures failures { Accounts result (counts (K.failures sink.old) (K.failures sink.new) ∷ []) }
 {
@@ -131,6 +144,8 @@ fn write_held<A: Allocator, B: Allocator, K: ByteSink>(
     ensures whole { IsPicture (record { format = frame.now.format; samples = samples.new }) }
     ensures written { OnOk result (K.took sink.new
         ≡ K.took sink.old ++ form_text (picture_of fill (Some picture.now) frame.now)) }
+    ensures part { OnErr result (GrowsPart (K.took sink.old) (K.took sink.new)
+        (form_text (picture_of fill (Some picture.now) frame.now))) }
     ensures unrefused { IfErr result (λ f. IfRefused f ⊥) }
     ensures failures { Accounts result (counts (K.failures sink.old) (K.failures sink.new) ∷ []) }
 {
@@ -161,6 +176,8 @@ fn write_filled<A: Allocator, K: ByteSink>(
     ensures whole { IsPicture (record { format = frame.now.format; samples = samples.new }) }
     ensures written { OnOk result (K.took sink.new
         ≡ K.took sink.old ++ form_text (picture_of fill None frame.now)) }
+    ensures part { OnErr result (GrowsPart (K.took sink.old) (K.took sink.new)
+        (form_text (picture_of fill None frame.now))) }
     ensures unrefused { IfErr result (λ f. IfRefused f ⊥) }
     ensures failures { Accounts result (counts (K.failures sink.old) (K.failures sink.new) ∷ []) }
 {
@@ -181,6 +198,8 @@ fn write_over<A: Allocator, B: Allocator, K: ByteSink>(
     ensures whole { IsPicture (record { format = frame.now.format; samples = samples.new }) }
     ensures written { OnOk result (K.took sink.new
         ≡ K.took sink.old ++ form_text (settled_picture frame.now base.entry)) }
+    ensures part { OnErr result (GrowsPart (K.took sink.old) (K.took sink.new)
+        (form_text (settled_picture frame.now base.entry))) }
     ensures unrefused { IfErr result (λ f. IfRefused f ⊥) }
     ensures failures { Accounts result (counts (K.failures sink.old) (K.failures sink.new) ∷ []) }
 {

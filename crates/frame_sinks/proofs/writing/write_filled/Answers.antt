@@ -1,8 +1,9 @@
-use Rattle.std.proofs.Common.{◌≡◌, ◌∙◌, ◌++◌, OnOk, ap, subst}
+use Rattle.std.proofs.Common.{◌≡◌, ◌∙◌, ◌++◌, OnErr, OnOk, ap, subst}
 use Rattle.std.specs.List.{AllByRecursion}
 use Rattle.frame_sinks.proofs.Written.{picture_filled}
 use Rattle.settled_forms.specs.Settled.{form_text}
 use Rattle.st_format.specs.declared.format.Format.{Format}
+use Rattle.st_format.specs.Device.{GrowsPart}
 use Rattle.st_format.specs.Picture.{FitsDepth, Values}
 use Rattle.frame_sinks.proofs.writing.write_filled.Goals as goal
 
@@ -25,3 +26,11 @@ returns-clause-written g c =
     (took c.write_over.new.sink ≡ took c.args.sink.now ++ form_text v))
     (picture_filled c.args.fill c.fill_of-fill.result c.args.frame.now c.format.result
     c.fill_of-fill.ensures.is c.format.ensures.format) c.write_over.ensures.written
+
+pub returns-clause-part : goal.returns-clause-part
+returns-clause-part g c =
+    let took = g.K.ByteSink.took in
+    subst (λ (v : Values). OnErr c.write_over.result
+    (GrowsPart (took c.args.sink.now) (took c.write_over.new.sink) (form_text v)))
+    (picture_filled c.args.fill c.fill_of-fill.result c.args.frame.now c.format.result
+    c.fill_of-fill.ensures.is c.format.ensures.format) c.write_over.ensures.part

@@ -1,5 +1,7 @@
-use Rattle.std.proofs.Common.{◌∙◌, ℕ, List, Some, ap, length, sym}
-use Rattle.frame_sinks.proofs.Written.{picture_format, picture_is, samples_back, takes_frame, values}
+use Rattle.std.proofs.Common.{◌∙◌, ℕ, List, Some, ap, inl, inr, length, sym}
+use Rattle.std.proofs.lemmas.Result.{err_from_is_err_and}
+use Rattle.frame_sinks.proofs.Written.{fails_frame, picture_format, picture_is, samples_back}
+use Rattle.frame_sinks.proofs.Written.{takes_frame, values}
 use Rattle.frame_sinks.specs.Pictures.{picture_of}
 use Rattle.st_format.specs.declared.format.Format.{Format}
 use Rattle.st_format.specs.Position.{sample_count}
@@ -27,3 +29,17 @@ returns-clause-taken g c =
     (format ∙ sym (picture_format room.fill room.held c.args.frame.now)) settled)
     kept.sink kept.filling kept.fill
     (kept.format ∙ ap (λ (f : Format). Some f) format) kept.held
+
+pub returns-in_err-samples-clause-failed : goal.returns-in_err-samples-clause-failed
+returns-in_err-samples-clause-failed g c =
+    let p = err_from_is_err_and c.from_residual.result c.from_residual.ensures.1 in
+    rw (p.1) (inl (ap g.K.ByteSink.took c.take_room.ensures.sink))
+
+pub returns-in_err-write_next-clause-failed : goal.returns-in_err-write_next-clause-failed
+returns-in_err-write_next-clause-failed g c =
+    let same = c.take_room.ensures in
+    let p = err_from_is_err_and c.from_residual-in_err-write_next.result
+    c.from_residual-in_err-write_next.ensures.1 in
+    rw (p.1)
+    (inr (fails_frame g.K.ByteSink.took c.args.self.now c.take_room.new.self c.write_next.new.sink _
+    same.sink same.fill same.format same.held c.in_err-write_next.ensures.part))
