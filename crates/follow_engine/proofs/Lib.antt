@@ -3,6 +3,7 @@ pub mod Without
 pub mod Tells
 pub mod Leaving
 pub mod Turns
+pub mod ShownSome
 pub mod Restarted
 pub mod Whole
 pub mod Outcome

@@ -7,7 +7,7 @@ use Rattle.std.specs.List.{AllByRecursion, AllZip, zip}
 use Rattle.flow.specs.declared.flows.Flows.{Flows}
 use Rattle.capture_engines.specs.Taking.{AnnouncesStream, said_behind}
 use Rattle.following.specs.Follower.{opened}
-use Rattle.following.specs.Following.{Handed}
+use Rattle.following.specs.Following.{Handed, frames_in}
 use Rattle.media_file.specs.Records.{Entry}
 use Rattle.recording_engines.proofs.Same.{no_less, no_more, same_head}
 use Rattle.recording_engines.specs.Files.{IsKnown}
@@ -22,16 +22,18 @@ use Rattle.side_by_side.specs.declared.side.Side.{Side}
 use Rattle.side_by_side.specs.declared.steering.Steering.{Steering}
 use Rattle.follow_engine.specs.Events.{Event, Running, behind_all, ended, events_end, events_in}
 use Rattle.follow_engine.specs.Events.{events_of, frames_of_events, handed_by, run_end, running_from}
-use Rattle.follow_engine.specs.Followed.{FollowsWhole}
+use Rattle.follow_engine.specs.Followed.{FollowsPart, FollowsWhole}
 use Rattle.follow_engine.specs.Opened.{AreOpened, IsFirstText}
 use Rattle.follow_engine.specs.Order.{datagrams_in, strands_by}
 use Rattle.follow_engine.specs.Running.{Told, running_of, steering_of}
-use Rattle.follow_engine.specs.Shown.{TakesAll}
-use Rattle.follow_engine.specs.Sides.{EndsStream, FollowsEntries, HasBegun, SideRead, text_by}
+use Rattle.follow_engine.specs.Shown.{TakesAll, TakesSome}
+use Rattle.follow_engine.specs.Sides.{EndsStream, FollowsDatagrams, FollowsEntries, HasBegun}
+use Rattle.follow_engine.specs.Sides.{SideRead, text_by}
 use Rattle.follow_engine.specs.Telling.{event_text, events_text, totals_of, totals_text}
 use Rattle.follow_engine.specs.declared.opening.FollowAsked.{FollowAsked}
 use Rattle.follow_engine.specs.declared.running.Run.{Run}
 use Rattle.follow_engine.specs.declared.telling.FollowTotals.{FollowTotals}
+use Rattle.follow_engine.proofs.ShownSome.{before_end, end_some}
 use Rattle.follow_engine.proofs.Tells.{takes_both}
 use Rattle.follow_engine.proofs.Whole.{all_taken, first_said}
 
@@ -173,3 +175,55 @@ follows_whole gave ended takes w ssrc sdp ways first olds mids news r t old mid 
       shown = by.shown;
       told_totals = by.totals_are;
     }
+
+-- ---- a run that ended before
+
+-- of a stream of some datagrams the first frames were shown
+pub part_by : {A S K : Type 0} (gave : S → List ℕ) (ended : S → Type 0)
+    (takes fails : K → Handed → K → Type 0) (w : FollowAsked) (ssrc : Option ℕ)
+    (sdp : Option (List ℕ)) (ways : List (Result Flows Refusal)) (first : List ℕ)
+    (olds mids news : List (Side A S)) (r : Run A) (ds : List (List ℕ)) (old new : K)
+    → IsSourceText w.ssrc.now ssrc → HasBegun w ssrc (text_by sdp first) r
+    → AreOpened gave ended ways olds mids → IsFirstText first mids
+    → begun_each news ≡ begun_each mids → AllByRecursion (λ x. IsKnown gave ended x.file) news
+    → TakesSome takes fails old (frames_of_events (events_of r.is_eager (running_of r) ds)) new
+    → FollowsPart w sdp (SideRead gave ended) (zip olds news) takes fails old new
+part_by gave ended takes fails w ssrc sdp ways first olds mids news r ds old new source begun opened_so
+    is same known some =
+    let o = begun.opens.opening in
+    let from : Running = running_from (opened o w.frames 900000) in
+    record {
+      opening = o;
+      datagrams = ds;
+      no_window = begun.opens.no_window;
+      source_is = subst (λ (x : Option ℕ). IsSourceText w.ssrc.now x) (sym begun.opens.source)
+          source;
+      announced = λ octets text read said.
+          subst (λ (x : List ℕ). AnnouncesStream x o)
+          (said_text gave ended ways sdp first olds mids news octets text opened_so is same known
+          read said) begun.opens.announced;
+      shown = subst (λ (x : Running). TakesSome takes fails old
+          (frames_of_events (events_of w.is_eager x ds)) new) begun.opens.is
+          (subst (λ (b : Bool). TakesSome takes fails old
+          (frames_of_events (events_of b (running_of r) ds)) new) begun.eager some);
+    }
+
+-- it was stopped among its datagrams
+pub part_among : {A K : Type 0} (takes fails : K → Handed → K → Type 0) (r : Run A)
+    (old new : K) → (part : FollowsDatagrams takes fails r old new)
+    → TakesSome takes fails old
+    (frames_of_events (events_of r.is_eager (running_of r) part.datagrams)) new
+part_among takes fails r old new part =
+    before_end takes fails r.is_eager (running_of r) part.datagrams old new part.shown
+
+-- or behind them all
+pub part_behind : {A S K : Type 0} (gave : S → List ℕ) (ended : S → Type 0)
+    (takes fails : K → Handed → K → Type 0) (r t : Run A) (old mid new : K)
+    (took took' : List ℕ) (sides : List (Side A S))
+    → (follows : FollowsEntries gave ended takes r t old mid took took' sides)
+    → TakesSome takes fails mid (frames_in t.follower) new
+    → TakesSome takes fails old
+    (frames_of_events (events_of r.is_eager (running_of r) (datagrams_in follows.entries))) new
+part_behind gave ended takes fails r t old mid new took took' sides follows some =
+    end_some takes fails r.is_eager (running_of r) (running_of t) (datagrams_in follows.entries)
+    old mid new took took' follows.running follows.told some

@@ -272,6 +272,18 @@ octets_more [] path octets = refl
 octets_more (d ∷ rest) path octets =
     ap (λ (l : List (List ℕ)). d.1 ∷ l) (octets_more rest path octets)
 
+-- one datagram more
+pub since_more : (before now then rest : List (Path × List ℕ)) (path : Path) (octets : List ℕ)
+    → now ≡ before ++ rest → then ≡ now ++ (path, octets) ∷ []
+    → datagrams_since before then ≡ datagrams_since before now ++ octets ∷ []
+since_more before now then rest path octets came comes =
+    let more : List (Path × List ℕ) = rest ++ (path, octets) ∷ [] in
+    since_by more before then
+    (comes ∙ ap (λ (l : List (Path × List ℕ)). l ++ (path, octets) ∷ []) came
+    ∙ append_assoc before rest ((path, octets) ∷ []))
+    ∙ octets_more rest path octets
+    ∙ ap (λ (l : List (List ℕ)). l ++ octets ∷ []) (sym (since_by rest before now came))
+
 -- What came so far went into the stream, and what happened was told.
 pub record FollowedSo {K : Type 0} (takes : K → Handed → K → Type 0) (eager : Bool)
     (before now : List (Path × List ℕ)) (r r' : Running) (old new : K) (took took' : List ℕ)
@@ -321,8 +333,7 @@ so_datagram takes eager before now then r r' r'' old mid new took took' took'' p
     comes ∙ ap (λ (l : List (Path × List ℕ)). l ++ (path, octets) ∷ []) so.came
     ∙ append_assoc before so.rest ((path, octets) ∷ []) in
     let more : datagrams_since before then ≡ ds ++ octets ∷ [] =
-    since_by rest before then came ∙ octets_more so.rest path octets
-    ∙ ap (λ (l : List (List ℕ)). l ++ octets ∷ []) (sym (since_by so.rest before now so.came)) in
+    since_more before now then so.rest path octets so.came comes in
     record {
       rest = rest;
       came = came;

@@ -15,7 +15,7 @@ use Rattle.follow_engine.specs.Events.{Event, Running, events_of, frames_of_even
 use Rattle.follow_engine.specs.Events.{running_from}
 use Rattle.follow_engine.specs.Order.{datagrams_in, strands_by}
 use Rattle.follow_engine.specs.Running.{steering_of}
-use Rattle.follow_engine.specs.Shown.{TakesAll}
+use Rattle.follow_engine.specs.Shown.{TakesAll, TakesSome}
 use Rattle.follow_engine.specs.Telling.{events_text, totals_of, totals_text}
 use Rattle.follow_engine.specs.declared.opening.FollowAsked.{FollowAsked}
 use Rattle.follow_engine.specs.declared.telling.FollowTotals.{FollowTotals}
@@ -48,3 +48,17 @@ pub record FollowsWhole {S K : Type 0} (w : FollowAsked) (sdp : Option (List ℕ
       ++ totals_text (followed_run w opening entries))
   pub shown : TakesAll takes old (frames_of_events (followed_events w opening entries)) new
   pub told_totals : totals ≡ totals_of (followed_run w opening entries)
+
+-- Where it ended before that: the first of the frames were shown that leave a follower which is
+-- opened with what the SDP text says, of some datagrams.
+pub record FollowsPart {S K : Type 0} (w : FollowAsked) (sdp : Option (List ℕ))
+    (told : S → List ℕ → Type 0) (files : List S) (takes fails : K → Handed → K → Type 0)
+    (old new : K) : Type 0 where
+  pub opening : Opening
+  pub datagrams : List (List ℕ)
+  pub no_window : opening.window ≡ []
+  pub source_is : IsSourceText w.ssrc.now opening.ssrc
+  pub announced : (octets : List (List ℕ)) (text : List ℕ) → AllZip told files octets
+      → said_behind sdp octets ≡ Some text → AnnouncesStream text opening
+  pub shown : TakesSome takes fails old (frames_of_events
+      (events_of w.is_eager (running_from (opened opening w.frames 900000)) datagrams)) new

@@ -14,7 +14,7 @@ use Rattle.follow_engine.specs.Events.{behind_all, ended, events_end, events_in,
 use Rattle.follow_engine.specs.Order.{datagrams_in}
 use Rattle.follow_engine.specs.Opened.{OpensRun}
 use Rattle.follow_engine.specs.Running.{IsRun, Told, running_of}
-use Rattle.follow_engine.specs.Shown.{TakesAll}
+use Rattle.follow_engine.specs.Shown.{TakesAll, TakesSome}
 use Rattle.follow_engine.specs.Telling.{events_text, totals_of, totals_text}
 use Rattle.follow_engine.specs.declared.opening.FollowAsked.{FollowAsked}
 use Rattle.follow_engine.specs.declared.running.Run.{Run}
@@ -66,6 +66,14 @@ pub record FollowsEntries {A S K : Type 0} (gave : S → List ℕ) (ended : S �
   pub running : running_of r' ≡ behind_all r.is_eager (running_of r) (datagrams_in entries)
   pub told : Told takes old new took took' (events_in r.is_eager (running_of r)
       (datagrams_in entries))
+
+-- Where that ended before, the first of the frames were shown that left the stream, of some
+-- datagrams.
+pub record FollowsDatagrams {A K : Type 0} (takes fails : K → Handed → K → Type 0) (r : Run A)
+    (old new : K) : Type 0 where
+  pub datagrams : List (List ℕ)
+  pub shown : TakesSome takes fails old
+      (frames_of_events (events_in r.is_eager (running_of r) datagrams)) new
 
 -- All frames left that were in, and what became of the stream was told.
 pub record EndsStream {A K : Type 0} (takes : K → Handed → K → Type 0) (r : Run A) (old new : K)

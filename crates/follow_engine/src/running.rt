@@ -1,13 +1,16 @@
 //! A stream that is followed.
 ghost use Rattle.std.specs.Prelude.{◌≡◌, ◌≤◌, ◌<◌, ◌∷◌, [], Some, IfErr, IfOk, IsFalse, IsTrue};
-ghost use Rattle.std.specs.Prelude.{OnOk, length};
-ghost use Rattle.follow_engine.specs.Events.{IsAnewAt, anew_with, is_anew, late_with, noted_by};
-ghost use Rattle.follow_engine.specs.Events.{running_from, time_of, timed};
+ghost use Rattle.std.specs.Prelude.{OnErr, OnOk, length};
+ghost use Rattle.follow_engine.specs.Events.{IsAnewAt, anew_with, events_at, frames_of_events};
+ghost use Rattle.follow_engine.specs.Events.{is_anew, late_with, noted_by, running_from, time_of};
+ghost use Rattle.follow_engine.specs.Events.{timed};
 ghost use Rattle.follow_engine.specs.Running.{BeginsAnew, Finishes, IsRun, LeavesWith, TakesTurn};
 ghost use Rattle.follow_engine.specs.Running.{TellsTurn, running_of};
+ghost use Rattle.follow_engine.specs.Shown.{TakesSome};
 ghost use Rattle.following.specs.Follower.{opened};
+ghost use Rattle.following.specs.Following.{frames_in};
 ghost use Rattle.following.specs.Restarts.{is_restart};
-ghost use Rattle.following.specs.Turned.{handed_as};
+ghost use Rattle.following.specs.Turned.{handed_as, handed_in};
 ghost use Rattle.run_outcome.specs.Fault.{Accounts, IfRefused, counts};
 
 use crate::line::{FollowLine, print};
@@ -136,6 +139,8 @@ impl<A: Allocator + Copy> Run<A> {
         ensures left { OnOk result (LeavesWith P.takes (running_of self.old) (running_of self.new)
             (handed_as handed self.old.frame) pictures.old pictures.new
             (O.took output.old) (O.took output.new)) }
+        ensures part { OnErr result (TakesSome P.takes P.fails pictures.old
+            (handed_as handed self.old.frame) pictures.new) }
         ensures unrefused { IfErr result (λ f. IfRefused f ⊥) }
         ensures failures { Accounts result (counts (P.failures pictures.old)
             (P.failures pictures.new)
@@ -162,6 +167,8 @@ impl<A: Allocator + Copy> Run<A> {
         ensures left { OnOk result (LeavesWith P.takes (running_of self.old) (running_of self.new)
             (handed_as (Some timestamp) self.old.frame) pictures.old pictures.new
             (O.took output.old) (O.took output.new)) }
+        ensures part { OnErr result (TakesSome P.takes P.fails pictures.old
+            (handed_as (Some timestamp) self.old.frame) pictures.new) }
         ensures unrefused { IfErr result (λ f. IfRefused f ⊥) }
         ensures failures { Accounts result (counts (P.failures pictures.old)
             (P.failures pictures.new)
@@ -191,6 +198,8 @@ impl<A: Allocator + Copy> Run<A> {
         ensures eager { self.new.is_eager ≡ self.old.is_eager }
         ensures finished { OnOk result (Finishes P.takes self.old self.new pictures.old pictures.new
             (O.took output.old) (O.took output.new)) }
+        ensures part { OnErr result (TakesSome P.takes P.fails pictures.old
+            (frames_in self.old.follower) pictures.new) }
         ensures unrefused { IfErr result (λ f. IfRefused f ⊥) }
         ensures failures { Accounts result (counts (P.failures pictures.old)
             (P.failures pictures.new)
@@ -214,6 +223,8 @@ impl<A: Allocator + Copy> Run<A> {
         ensures eager { self.new.is_eager ≡ self.old.is_eager }
         ensures begun { OnOk result (BeginsAnew P.takes timestamp self.old self.new
             pictures.old pictures.new (O.took output.old) (O.took output.new)) }
+        ensures part { OnErr result (TakesSome P.takes P.fails pictures.old
+            (frames_in self.old.follower) pictures.new) }
         ensures unrefused { IfErr result (λ f. IfRefused f ⊥) }
         ensures failures { Accounts result (counts (P.failures pictures.old)
             (P.failures pictures.new)
@@ -239,6 +250,8 @@ impl<A: Allocator + Copy> Run<A> {
         ensures turned { OnOk result (TellsTurn P.takes self.old.is_eager (running_of self.old)
             (running_of self.new) octets.now pictures.old pictures.new
             (O.took output.old) (O.took output.new)) }
+        ensures part { OnErr result (TakesSome P.takes P.fails pictures.old
+            (handed_in self.old.is_eager self.old.follower octets.now) pictures.new) }
         ensures anew { IfOk result (λ at. IsAnewAt (is_anew (running_of self.old) octets.now)
             (time_of octets.now) at) }
         ensures unrefused { IfErr result (λ f. IfRefused f ⊥) }
@@ -266,6 +279,8 @@ impl<A: Allocator + Copy> Run<A> {
         ensures took { OnOk result (TakesTurn P.takes self.old.is_eager (running_of self.old)
             (running_of self.new) octets.now pictures.old pictures.new
             (O.took output.old) (O.took output.new)) }
+        ensures part { OnErr result (TakesSome P.takes P.fails pictures.old (frames_of_events
+            (events_at self.old.is_eager (running_of self.old) octets.now)) pictures.new) }
         ensures unrefused { IfErr result (λ f. IfRefused f ⊥) }
         ensures failures { Accounts result (counts (P.failures pictures.old)
             (P.failures pictures.new)

@@ -1,7 +1,8 @@
 //! Showing a frame that leaves, and telling it.
-ghost use Rattle.std.specs.Prelude.{◌∷◌, [], IfErr, OnOk};
+ghost use Rattle.std.specs.Prelude.{◌∷◌, [], IfErr, OnErr, OnOk};
 ghost use Rattle.follow_engine.specs.Events.{Left};
 ghost use Rattle.follow_engine.specs.Running.{Told};
+ghost use Rattle.follow_engine.specs.Shown.{TakesSome};
 ghost use Rattle.run_outcome.specs.Fault.{Accounts, IfRefused, counts};
 
 use crate::line::{FollowLine, print};
@@ -23,6 +24,8 @@ pub(crate) fn show_frame<A: Allocator, P: PictureSink, O: ByteSink>(
     ensures told { OnOk result (Told P.takes pictures.old pictures.new
         (O.took output.old) (O.took output.new)
         (Left (record { timestamp = timestamp; frame = frame.now }) late ∷ [])) }
+    ensures part { OnErr result (TakesSome P.takes P.fails pictures.old
+        (record { timestamp = timestamp; frame = frame.now } ∷ []) pictures.new) }
     ensures unrefused { IfErr result (λ f. IfRefused f ⊥) }
     ensures failures { Accounts result (counts (P.failures pictures.old)
         (P.failures pictures.new)

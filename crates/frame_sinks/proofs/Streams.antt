@@ -1,22 +1,26 @@
 -- What is written of frames, one after the other, is the stream of their pictures.
 use Rattle.std.proofs.Common.{◌≡◌, ◌∙◌, ℕ, true, List, [], ◌∷◌, ◌++◌, Option, None, Some}
-use Rattle.std.proofs.Common.{ap, append-nil, append_assoc, refl, subst, sym}
+use Rattle.std.proofs.Common.{◌+◌, ap, append-nil, append_assoc, inl, inr, length, refl, subst, sym}
+use Rattle.std.proofs.Common.{take}
+use Rattle.std.proofs.Math.Seq.{take-append-add}
 use Rattle.std.proofs.lemmas.Bool.{cond-true}
 use Rattle.std.specs.List.{AllByRecursion, flat_map}
-use Rattle.follow_engine.specs.Shown.{TakesAll}
+use Rattle.follow_engine.specs.Shown.{TakesAll, TakesSome}
 use Rattle.following.specs.Following.{Handed}
 use Rattle.frame_sinks.specs.Pictures.{form_head, form_stream, head_as, head_for, held_by}
 use Rattle.frame_sinks.specs.Pictures.{picture_of, pictures_of}
-use Rattle.frame_sinks.specs.Sinks.{TakesFrame}
+use Rattle.frame_sinks.specs.Sinks.{FailsFrame, GrowsSome, TakesFrame}
 use Rattle.frame_sinks.specs.declared.filling.Filling.{Filling}
 use Rattle.frame_sinks.specs.declared.form_sink.FormSink.{FormSink}
 use Rattle.frame_sinks.proofs.Written.{picture_format}
+use Rattle.media_file.proofs.Written.{part_first, took_both}
 use Rattle.picture_forms.specs.Layouts.{IsRgb, IsYcc, frame_text, pixmap_text, y4m_head, y4m_text}
 use Rattle.settled_forms.specs.Settled.{form_by, form_text}
 use Rattle.st_format.proofs.SameFields.{fields_self}
 use Rattle.st_format.specs.declared.format.Format.{Format}
 use Rattle.st_format.specs.declared.sampling.Sampling.{Sampling}
 use Rattle.st_format.specs.declared.sampling.Sampling.TheVariants.{Ycc422, Ycc444, Rgb}
+use Rattle.st_format.specs.Device.{GrowsPart}
 use Rattle.st_format.specs.Fields.{fields_of, same_fields}
 use Rattle.st_format.specs.Picture.{Values}
 
@@ -53,6 +57,62 @@ all_written took k l (h ∷ hs) is =
     ∙ ap (λ (t : List ℕ). took k.sink ++ (text ++ t)) (behind_one took k m h hs is.1)
     ∙ ap (λ (f : Format). took k.sink ++ ((head_for k.format f ++ form_text p)
     ++ rest_of hs (Some f) k.filling k.fill held)) (sym (picture_format k.fill k.held h.frame))
+
+-- ---- where that ends before
+
+-- the stream of the pictures of a frame, and of others behind it
+stream_parts : {K A : Type 0} (k : FormSink K A) (h : Handed) (hs : List Handed)
+    → (head_for k.format h.frame.format ++ form_text (picture_of k.fill k.held h.frame))
+    ++ rest_of hs (Some h.frame.format) k.filling k.fill
+    (held_by k.filling (picture_of k.fill k.held h.frame))
+    ≡ rest_of (h ∷ hs) k.format k.filling k.fill k.held
+stream_parts k h hs =
+    let p : Values = picture_of k.fill k.held h.frame in
+    ap (λ (f : Format). (head_for k.format f ++ form_text p)
+    ++ rest_of hs (Some f) k.filling k.fill (held_by k.filling p))
+    (sym (picture_format k.fill k.held h.frame))
+
+none_grown : (old new octets : List ℕ) → new ≡ old → GrowsSome old new octets
+none_grown old new octets same = record { count = 0; grown = same ∙ sym (append-nil old) }
+
+part_grown : (old new xs ys : List ℕ) → GrowsPart old new xs → GrowsSome old new (xs ++ ys)
+part_grown old new xs ys part =
+    let more = part_first old new xs ys part in
+    record { count = more.count; grown = more.grown }
+
+then_grown : (old mid new xs ys : List ℕ) → mid ≡ old ++ xs → GrowsSome mid new ys
+    → GrowsSome old new (xs ++ ys)
+then_grown old mid new xs ys first more = record {
+  count = length xs + more.count;
+  grown = took_both old mid new xs (take more.count ys) first more.grown
+      ∙ ap (λ (l : List ℕ). old ++ l) (sym (take-append-add xs ys more.count));
+}
+
+pub some_written : {K A : Type 0} (took : K → List ℕ) (k l : FormSink K A) (hs : List Handed)
+    → TakesSome (TakesFrame took) (FailsFrame took) k hs l
+    → GrowsSome (took k.sink) (took l.sink)
+    (form_stream k.format (pictures_of k.filling k.fill k.held hs))
+some_written took k l [] is = none_grown _ _ _ (ap (λ (m : FormSink _ _). took m.sink) is)
+some_written took k l (h ∷ hs) (inl is) =
+    none_grown _ _ _ (ap (λ (m : FormSink _ _). took m.sink) is)
+some_written took k l (h ∷ hs) (inr (inl (inl is))) = none_grown _ _ _ is
+some_written took k l (h ∷ hs) (inr (inl (inr part))) =
+    let p : Values = picture_of k.fill k.held h.frame in
+    let text : List ℕ = head_for k.format h.frame.format ++ form_text p in
+    let rest : List ℕ =
+    rest_of hs (Some h.frame.format) k.filling k.fill (held_by k.filling p) in
+    subst (λ (t : List ℕ). GrowsSome (took k.sink) (took l.sink) t) (stream_parts k h hs)
+    (part_grown (took k.sink) (took l.sink) text rest part)
+some_written took k l (h ∷ hs) (inr (inr more)) =
+    let m : FormSink _ _ = more.0 in
+    let p : Values = picture_of k.fill k.held h.frame in
+    let text : List ℕ = head_for k.format h.frame.format ++ form_text p in
+    let rest : List ℕ =
+    rest_of hs (Some h.frame.format) k.filling k.fill (held_by k.filling p) in
+    subst (λ (t : List ℕ). GrowsSome (took k.sink) (took l.sink) t) (stream_parts k h hs)
+    (then_grown (took k.sink) (took m.sink) (took l.sink) text rest more.1.written
+    (subst (λ (t : List ℕ). GrowsSome (took m.sink) (took l.sink) t)
+    (behind_one took k m h hs more.1) (some_written took m l hs more.2)))
 
 -- ---- pictures of one format
 

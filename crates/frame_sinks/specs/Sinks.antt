@@ -1,5 +1,5 @@
 -- What a sink of pictures does with a frame.
-use Rattle.std.specs.Prelude.{◌≡◌, ◌⊎◌, ℕ, List, ◌++◌, Some}
+use Rattle.std.specs.Prelude.{◌≡◌, ◌⊎◌, ℕ, List, ◌++◌, Some, take}
 use Rattle.following.specs.Following.{Handed}
 use Rattle.frame_sinks.specs.Pictures.{head_for, held_by, picture_of}
 use Rattle.frame_sinks.specs.declared.form_sink.FormSink.{FormSink}
@@ -25,3 +25,8 @@ FailsFrame took k h l =
     (took l.sink ≡ took k.sink)
     ⊎ GrowsPart (took k.sink) (took l.sink)
     (head_for k.format h.frame.format ++ form_text (picture_of k.fill k.held h.frame))
+
+-- A first part of these octets came behind others: none of them, some, or all (own).
+pub record GrowsSome (old new octets : List ℕ) : Type 0 where
+  pub count : ℕ
+  pub grown : new ≡ old ++ take count octets

@@ -2,15 +2,16 @@
 ghost use Rattle.std.specs.Prelude.{◌≡◌, ◌++◌, ◌∷◌, ℕ, List, None, Option, Result};
 ghost use Rattle.std.specs.List.{AllByRecursion, flat_map};
 ghost use Rattle.flow.specs.declared.flows.Flows.{Flows};
-ghost use Rattle.follow_engine.specs.Events.{frames_of_events};
-ghost use Rattle.follow_engine.specs.Followed.{FollowsWhole, followed_events};
-ghost use Rattle.follow_engine.specs.Shown.{TakesAll};
+ghost use Rattle.follow_engine.specs.Events.{events_of, frames_of_events, running_from};
+ghost use Rattle.follow_engine.specs.Followed.{FollowsPart, FollowsWhole, followed_events};
+ghost use Rattle.follow_engine.specs.Shown.{TakesAll, TakesSome};
 ghost use Rattle.follow_engine.specs.Sides.{SideRead};
 ghost use Rattle.follow_engine.specs.declared.opening.FollowAsked.{FollowAsked};
 ghost use Rattle.follow_engine.specs.declared.telling.FollowTotals.{FollowTotals};
+ghost use Rattle.following.specs.Follower.{opened};
 ghost use Rattle.following.specs.Following.{Handed};
 ghost use Rattle.frame_sinks.specs.Pictures.{form_stream, pictures_of};
-ghost use Rattle.frame_sinks.specs.Sinks.{TakesFrame};
+ghost use Rattle.frame_sinks.specs.Sinks.{FailsFrame, GrowsSome, TakesFrame};
 ghost use Rattle.frame_sinks.specs.declared.form_sink.FormSink.{FormSink};
 ghost use Rattle.picture_forms.specs.Layouts.{IsRgb, IsYcc, pixmap_text, y4m_text};
 ghost use Rattle.run_outcome.specs.declared.refusal.Refusal.{Refusal};
@@ -39,6 +40,25 @@ pub fn follows<K: ByteSink, A: Allocator, B: Allocator, S: ByteSource>()
         printed printed' totals) → K.took l.sink ≡ K.took k.sink
         ++ form_stream k.format (pictures_of k.filling k.fill k.held
         (frames_of_events (followed_events w is.opening is.entries))) }
+{}
+
+/// Where that ends before, as a device failed or a file was at fault, it is a first part of that
+/// stream.
+pub fn written_part<K: ByteSink, A: Allocator>()
+    ensures { (k l : FormSink K A) (hs : List Handed) → TakesSome (TakesFrame K.took)
+        (FailsFrame K.took) k hs l → GrowsSome (K.took k.sink) (K.took l.sink)
+        (form_stream k.format (pictures_of k.filling k.fill k.held hs)) }
+{}
+
+/// So where files are followed, and the run ends before: it is a first part of the stream of the
+/// pictures of all frames that leave a follower of their first records.
+pub fn follows_part<K: ByteSink, A: Allocator, B: Allocator, S: ByteSource>()
+    ensures { (w : FollowAsked) (sdp : Option (List ℕ)) (files : List (Side B S × Side B S))
+        (k l : FormSink K A) → (is : FollowsPart w sdp (SideRead S.gave S.ended) files
+        (TakesFrame K.took) (FailsFrame K.took) k l) → GrowsSome (K.took k.sink) (K.took l.sink)
+        (form_stream k.format (pictures_of k.filling k.fill k.held (frames_of_events
+        (events_of w.is_eager (running_from (opened is.opening w.frames 900000))
+        is.datagrams)))) }
 {}
 
 /// A stream of pictures of one format is a YUV4MPEG2 file of them where they are YCbCr, and where

@@ -1,6 +1,8 @@
 use Rattle.std.proofs.lemmas.Result.{err_from_is_err_and}
 use Rattle.follow_engine.proofs.Beginnings.{ends_stream}
+use Rattle.following.specs.Following.{frames_in}
 use Rattle.follow_engine.proofs.Blamed.{blames_later}
+use Rattle.follow_engine.proofs.ShownSome.{told_some}
 use Rattle.follow_engine.proofs.files.end_stream.Goals as goal
 
 pub returns-in_err-totals-clause-failures : goal.returns-in_err-totals-clause-failures
@@ -22,3 +24,19 @@ returns-clause-ended g c =
     c.finish.new.pictures (took c.args.output.now) (took c.finish.new.output)
     (took c.tell_totals.new.output) c.in_ok-totals.totals c.in_ok-finish.ensures.finished
     c.in_ok-totals.ensures.printed c.in_ok-totals.ensures.totals
+
+pub returns-in_err-finish-clause-part : goal.returns-in_err-finish-clause-part
+returns-in_err-finish-clause-part g c =
+    let p = err_from_is_err_and c.from_residual.result c.from_residual.ensures.1 in
+    rw (p.1) (c.in_err-finish.ensures.part)
+
+pub returns-in_err-totals-clause-part : goal.returns-in_err-totals-clause-part
+returns-in_err-totals-clause-part g c =
+    let took = g.O.ByteSink.took in
+    let was = c.args.run.now in
+    let p = err_from_is_err_and c.from_residual-in_err-totals.result
+    c.from_residual-in_err-totals.ensures.1 in
+    rw (p.1)
+    (told_some g.P.PictureSink.takes g.P.PictureSink.fails c.args.pictures.now
+    c.finish.new.pictures (took c.args.output.now) (took c.finish.new.output) was.late
+    (frames_in was.follower) c.in_ok-finish.ensures.finished.told)

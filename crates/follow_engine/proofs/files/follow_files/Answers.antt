@@ -1,12 +1,13 @@
-use Rattle.std.proofs.Common.{◌∙◌, inl, inr}
+use Rattle.std.proofs.Common.{◌∙◌, inl, inr, refl}
 use Rattle.std.proofs.lemmas.Result.{err_from_is_err_and}
 use Rattle.std.specs.Option.{option_copied}
 use Rattle.std.specs.Prelude.{take}
 use Rattle.run_outcome.proofs.Refusals.{none_refused, of_refusal_map}
 use Rattle.side_by_side.specs.Sides.{failures_each}
+use Rattle.follow_engine.specs.Order.{datagrams_in}
 use Rattle.follow_engine.proofs.Beginnings.{opened_begun}
 use Rattle.follow_engine.proofs.Blamed.{blames_end, blames_files, blames_from, blames_none}
-use Rattle.follow_engine.proofs.Outcome.{follows_whole}
+use Rattle.follow_engine.proofs.Outcome.{follows_whole, part_among, part_behind, part_by}
 use Rattle.follow_engine.proofs.Stopped.{first_by, stops_files}
 use Rattle.follow_engine.proofs.files.follow_files.Goals as goal
 
@@ -128,3 +129,66 @@ returns-clause-followed g c =
     (took c.follow_opened.new.output) (took c.end_stream.new.output) c.in_ok-totals.totals
     c.in_ok-ssrc.ensures.source c.in_ok-run.ensures.begun c.in_ok-count.ensures.opened
     c.in_ok-count.ensures.first begun.begun begun.known begun.followed c.in_ok-totals.ensures.ended
+
+pub returns-in_err-ssrc-clause-part : goal.returns-in_err-ssrc-clause-part
+returns-in_err-ssrc-clause-part g c =
+    let p = err_from_is_err_and c.from_residual.result c.from_residual.ensures.1 in
+    rw (p.1) (inl refl)
+
+pub returns-in_err-given-clause-part : goal.returns-in_err-given-clause-part
+returns-in_err-given-clause-part g c =
+    let p = err_from_is_err_and c.from_residual-in_err-given.result
+    c.from_residual-in_err-given.ensures.1 in
+    rw (p.1) (inl refl)
+
+pub returns-in_err-count-clause-part : goal.returns-in_err-count-clause-part
+returns-in_err-count-clause-part g c =
+    let p = err_from_is_err_and c.from_residual-in_err-count.result
+    c.from_residual-in_err-count.ensures.1 in
+    rw (p.1) (inl refl)
+
+pub returns-in_err-run-clause-part : goal.returns-in_err-run-clause-part
+returns-in_err-run-clause-part g c =
+    let p = err_from_is_err_and c.from_residual-in_err-run.result
+    c.from_residual-in_err-run.ensures.1 in
+    rw (p.1) (inl refl)
+
+pub returns-in_err-follow_opened-clause-part : goal.returns-in_err-follow_opened-clause-part
+returns-in_err-follow_opened-clause-part g c =
+    let takes = g.P.PictureSink.takes in
+    let fails = g.P.PictureSink.fails in
+    let begun = c.follow_opened.ensures in
+    let part = c.in_err-follow_opened.ensures.part in
+    let p = err_from_is_err_and c.from_residual-in_err-follow_opened.result
+    c.from_residual-in_err-follow_opened.ensures.1 in
+    rw (p.1)
+    (inr (part_by g.S.ByteSource.gave g.S.ByteSource.ended takes fails c.args.asked
+    c.in_ok-ssrc.ssrc (option_copied c.args.sdp) c.args.ways.now
+    (take c.in_ok-count.count c.open_files.new.text) c.args.sides.now.items
+    c.open_files.new.sides.items c.follow_opened.new.sides.items c.in_ok-run.run' part.datagrams
+    c.args.pictures.now c.follow_opened.new.pictures c.in_ok-ssrc.ensures.source
+    c.in_ok-run.ensures.begun c.in_ok-count.ensures.opened c.in_ok-count.ensures.first begun.begun
+    begun.known
+    (part_among takes fails c.in_ok-run.run' c.args.pictures.now c.follow_opened.new.pictures
+    part)))
+
+pub returns-in_err-totals-clause-part : goal.returns-in_err-totals-clause-part
+returns-in_err-totals-clause-part g c =
+    let takes = g.P.PictureSink.takes in
+    let fails = g.P.PictureSink.fails in
+    let took = g.O.ByteSink.took in
+    let begun = c.in_ok-follow_opened.ensures in
+    let p = err_from_is_err_and c.from_residual-in_err-totals.result
+    c.from_residual-in_err-totals.ensures.1 in
+    rw (p.1)
+    (inr (part_by g.S.ByteSource.gave g.S.ByteSource.ended takes fails c.args.asked
+    c.in_ok-ssrc.ssrc (option_copied c.args.sdp) c.args.ways.now
+    (take c.in_ok-count.count c.open_files.new.text) c.args.sides.now.items
+    c.open_files.new.sides.items c.follow_opened.new.sides.items c.in_ok-run.run'
+    (datagrams_in begun.followed.entries) c.args.pictures.now c.end_stream.new.pictures
+    c.in_ok-ssrc.ensures.source c.in_ok-run.ensures.begun c.in_ok-count.ensures.opened
+    c.in_ok-count.ensures.first begun.begun begun.known
+    (part_behind g.S.ByteSource.gave g.S.ByteSource.ended takes fails c.in_ok-run.run'
+    c.follow_opened.new.run c.args.pictures.now c.follow_opened.new.pictures
+    c.end_stream.new.pictures (took c.args.output.now) (took c.follow_opened.new.output)
+    c.follow_opened.new.sides.items begun.followed c.in_err-totals.ensures.part)))

@@ -3,6 +3,8 @@ use Rattle.std.specs.List.{AllByRecursion}
 use Rattle.std.specs.Prelude.{IfErr}
 use Rattle.recording_engines.specs.Files.{IsKnown}
 use Rattle.run_outcome.proofs.Printed.{on_ok}
+use Rattle.std.proofs.lemmas.Result.{on_err_weaker}
+use Rattle.path_receiver.specs.Took.{datagrams_since}
 use Rattle.run_outcome.specs.Fault.{Accounts, counts}
 use Rattle.run_outcome.specs.Refusing.{OfRefusal}
 use Rattle.side_by_side.specs.Sides.{Sides, begun_each, failures_each}
@@ -84,3 +86,10 @@ returns-clause-failures g c =
     (subst (λ (ss : List (Side _ _)). Accounts c.follow_sides-followed.result
     (counts (failures_each failed ss) (failures_each failed c.follow_sides-followed.new.source.sides)
     ∷ pictures ∷ output ∷ [])) same c.follow_sides-followed.ensures.failures)
+
+pub returns-clause-part : goal.returns-clause-part
+returns-clause-part g c =
+    on_err_weaker c.follow_sides-followed.result (λ part. record {
+      datagrams = datagrams_since c.new-source.result.came c.follow_sides-followed.new.source.came;
+      shown = part;
+    }) c.follow_sides-followed.ensures.part

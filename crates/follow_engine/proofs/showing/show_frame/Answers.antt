@@ -1,12 +1,14 @@
-use Rattle.std.proofs.Common.{◌≡◌, ◌++◌, ◌∷◌, []}
+use Rattle.std.proofs.Common.{◌≡◌, ◌++◌, ◌∷◌, [], inl, inr, refl}
 use Rattle.std.proofs.lemmas.Result.{err_from_is_err_and}
 use Rattle.run_outcome.proofs.Printed.{are_counts, on_ok}
 use Rattle.following.specs.Following.{Handed}
 use Rattle.follow_engine.specs.Events.{Left}
 use Rattle.follow_engine.specs.Line.{ended_line}
 use Rattle.follow_engine.specs.Running.{Told}
+use Rattle.follow_engine.specs.Shown.{TakesSome}
 use Rattle.follow_engine.specs.declared.line.FollowLine.TheVariants as line
 use Rattle.follow_engine.proofs.Blamed.{accounts_output, blames_pictures}
+use Rattle.follow_engine.proofs.ShownSome.{at_err}
 use Rattle.follow_engine.proofs.Tells.{told_left}
 use Rattle.follow_engine.proofs.showing.show_frame.Goals as goal
 
@@ -41,3 +43,15 @@ returns-in_err-show-clause-failures g c =
     rw (p.1, p.2)
     (blames_pictures c.in_err-show.field-0.0 (shown c.args.pictures.now) (shown c.show.new.self)
     (told c.args.output.now) c.in_err-show.ensures.failures)
+
+pub returns-in_err-show-clause-part : goal.returns-in_err-show-clause-part
+returns-in_err-show-clause-part g c =
+    let p = err_from_is_err_and c.from_residual.result c.from_residual.ensures.1 in
+    rw (p.1) (inr (inl c.in_err-show.ensures.failed))
+
+pub returns-clause-part : goal.returns-clause-part
+returns-clause-part g c =
+    let h : Handed = record { timestamp = c.args.timestamp; frame = c.args.frame.now } in
+    at_err c.print.result
+    (TakesSome g.P.PictureSink.takes g.P.PictureSink.fails c.args.pictures.now (h ∷ [])
+    c.show.new.self) (inr (inr (c.show.new.self, c.in_ok-show.ensures.taken, refl)))

@@ -4,8 +4,11 @@ use Rattle.run_outcome.proofs.Refusals.{none_refused}
 use Rattle.st_format.specs.Turns.{IsEnd, arrived}
 use Rattle.st_format.specs.declared.device.Turn.{Turn}
 use Rattle.side_by_side.specs.Sides.{AllOver, failures_each}
+use Rattle.follow_engine.specs.Events.{events_at, frames_of_events}
 use Rattle.follow_engine.specs.Running.{TakesTurn, running_of}
+use Rattle.follow_engine.specs.Shown.{TakesSome}
 use Rattle.follow_engine.proofs.Blamed.{blames_end, fails_by}
+use Rattle.follow_engine.proofs.ShownSome.{so_all, so_some}
 use Rattle.follow_engine.proofs.Stopped.{stops_at}
 use Rattle.follow_engine.proofs.Turns.{so_begun, so_datagram, so_quiet}
 use Rattle.follow_engine.proofs.taking.follow_sides.Goals as goal
@@ -158,3 +161,44 @@ pub returns-clause-failures : goal.returns-clause-failures
 returns-clause-failures g c =
     let i = c.loop.invariant in
     rw c.of_capture.ensures (i.source_failures, (i.picture_failures, i.output_failures))
+
+-- what was shown before
+pub returns-in_err-take-in-Ok-Datagram-clause-part : goal.returns-in_err-take-in-Ok-Datagram-clause-part
+returns-in_err-take-in-Ok-Datagram-clause-part g c =
+    let w = c.in-Ok-Datagram in
+    let i = c.loop.invariant in
+    let takes = g.P.PictureSink.takes in
+    let fails = g.P.PictureSink.fails in
+    let took = g.O.ByteSink.took in
+    let run = c.args.run.now in
+    let octets = take w.count c.next.new.buf in
+    let p = err_from_is_err_and c.from_residual.result c.from_residual.ensures.1 in
+    let arrives =
+    subst (λ (t : Turn). c.next.new.self.came ≡ c.loop.source.came ++ arrived t c.next.new.buf)
+    w.field-0-is w.ensures.came in
+    rw (p.1)
+    (so_some takes fails run.is_eager c.args.source.now.came c.loop.source.came
+    c.next.new.self.came (running_of run) (running_of c.loop.run) c.args.pictures.now
+    c.loop.pictures c.take.new.pictures (took c.args.output.now) (took c.loop.output) w.field-0-0
+    octets i.so arrives
+    (subst (λ (b : Bool). TakesSome takes fails c.loop.pictures
+    (frames_of_events (events_at b (running_of c.loop.run) octets)) c.take.new.pictures) i.eager
+    c.in_err-take-in-Ok-Datagram.ensures.part))
+
+pub returns-in-Err-clause-part : goal.returns-in-Err-clause-part
+returns-in-Err-clause-part g c =
+    let took = g.O.ByteSink.took in
+    let run = c.args.run.now in
+    so_all g.P.PictureSink.takes g.P.PictureSink.fails run.is_eager c.args.source.now.came
+    c.loop.source.came c.next.new.self.came (running_of run) (running_of c.loop.run)
+    c.args.pictures.now c.loop.pictures (took c.args.output.now) (took c.loop.output)
+    c.loop.invariant.so c.in-Err.ensures.kept
+
+pub returns-clause-part : goal.returns-clause-part
+returns-clause-part g c =
+    let took = g.O.ByteSink.took in
+    let run = c.args.run.now in
+    so_all g.P.PictureSink.takes g.P.PictureSink.fails run.is_eager c.args.source.now.came
+    c.loop.source.came c.loop.source.came (running_of run) (running_of c.loop.run)
+    c.args.pictures.now c.loop.pictures (took c.args.output.now) (took c.loop.output)
+    c.loop.invariant.so refl

@@ -1,12 +1,16 @@
 use Rattle.std.proofs.Common.{◌≡◌, ◌++◌, ◌∙◌, ap, refl, sym}
+use Rattle.std.proofs.lemmas.Result.{err_from_is_err_and}
 use Rattle.run_outcome.proofs.Printed.{on_ok}
 use Rattle.following.specs.Follower.{Following}
+use Rattle.following.specs.Following.{frames_in}
 use Rattle.follow_engine.specs.Line.{ended_line}
 use Rattle.follow_engine.specs.Running.{BeginsAnew, steering_of}
+use Rattle.follow_engine.specs.Shown.{TakesSome}
 use Rattle.follow_engine.specs.declared.line.FollowLine.TheVariants as line
 use Rattle.follow_engine.specs.declared.running.Run.{Run}
 use Rattle.follow_engine.proofs.Blamed.{accounts_later}
 use Rattle.follow_engine.proofs.Leaving.{begins_anew}
+use Rattle.follow_engine.proofs.ShownSome.{at_err, told_some}
 use Rattle.follow_engine.proofs.Tells.{told_anew}
 use Rattle.follow_engine.proofs.running.Run.begin_anew.Goals as goal
 
@@ -46,3 +50,20 @@ returns-clause-failures g c =
     accounts_later c.print.result (shown c.args.pictures.now) (shown c.finish.new.pictures)
     (told c.args.output.now) (told c.finish.new.output) (told c.print.new.output) so.0 so.1
     c.print.ensures.failures
+
+pub returns-in_err-finish-clause-part : goal.returns-in_err-finish-clause-part
+returns-in_err-finish-clause-part g c =
+    let p = err_from_is_err_and c.from_residual.result c.from_residual.ensures.1 in
+    rw (p.1) (c.in_err-finish.ensures.part)
+
+pub returns-clause-part : goal.returns-clause-part
+returns-clause-part g c =
+    let took = g.O.ByteSink.took in
+    let takes = g.P.PictureSink.takes in
+    let fails = g.P.PictureSink.fails in
+    let was = c.args.self.now in
+    let frames = frames_in was.follower in
+    at_err c.print.result
+    (TakesSome takes fails c.args.pictures.now frames c.finish.new.pictures)
+    (told_some takes fails c.args.pictures.now c.finish.new.pictures (took c.args.output.now)
+    (took c.finish.new.output) was.late frames c.in_ok-finish.ensures.finished.told)

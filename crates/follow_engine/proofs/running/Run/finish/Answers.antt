@@ -9,6 +9,7 @@ use Rattle.st_format.specs.Raster.{Raster}
 use Rattle.follow_engine.specs.Running.{running_of}
 use Rattle.follow_engine.proofs.Blamed.{blames_both}
 use Rattle.follow_engine.proofs.Leaving.{left_all, left_more, left_none, oldest_frames}
+use Rattle.follow_engine.proofs.ShownSome.{left_some}
 use Rattle.follow_engine.proofs.Turns.{run_oldest}
 use Rattle.follow_engine.proofs.running.Run.finish.Goals as goal
 
@@ -99,3 +100,17 @@ returns-clause-finished g c =
       running = all.0;
       told = all.1;
     }
+
+pub returns-in_err-leave-clause-part : goal.returns-in_err-leave-clause-part
+returns-in_err-leave-clause-part g c =
+    let l = c.loop-self in
+    let out = c.hand_out-handed in
+    let hs = handed_as out.result out.new.frame in
+    let took = g.O.ByteSink.took in
+    let p = err_from_is_err_and c.from_residual.result c.from_residual.ensures.1 in
+    rw (p.1)
+    (left_some g.P.PictureSink.takes g.P.PictureSink.fails (running_of c.args.self.now)
+    (running_of l.self) c.args.pictures.now l.pictures c.leave.new.pictures
+    (took c.args.output.now) (took l.output) hs out.new.follower l.invariant.left
+    (oldest_frames l.self.follower out.new.follower hs out.ensures.state out.ensures.handed)
+    c.in_err-leave.ensures.part)

@@ -1,7 +1,9 @@
+use Rattle.std.proofs.lemmas.Result.{err_from_is_err_and, on_err_weaker}
 use Rattle.run_outcome.proofs.Printed.{on_ok}
 use Rattle.follow_engine.specs.Events.{is_anew, time_of}
 use Rattle.follow_engine.specs.Running.{BeginsAnew, IsRun, TakesTurn, running_of}
 use Rattle.follow_engine.proofs.Blamed.{accounts_both}
+use Rattle.follow_engine.proofs.ShownSome.{anew_some, turn_some}
 use Rattle.follow_engine.proofs.Turns.{not_anew, some_anew, turn_anew, turn_plain}
 use Rattle.follow_engine.proofs.running.Run.take.Goals as goal
 
@@ -53,3 +55,25 @@ returns-in-None-clause-took g c =
     (took c.turn.new.output)
     (not_anew (running_of was) octets (rw c.in-None.is at c.in_ok-anew.ensures.anew))
     c.in_ok-anew.ensures.turned
+
+pub returns-in_err-anew-clause-part : goal.returns-in_err-anew-clause-part
+returns-in_err-anew-clause-part g c =
+    let was = c.args.self.now in
+    let p = err_from_is_err_and c.from_residual.result c.from_residual.ensures.1 in
+    rw (p.1)
+    (turn_some g.P.PictureSink.takes g.P.PictureSink.fails was.is_eager (running_of was)
+    c.args.octets.now c.args.pictures.now c.turn.new.pictures c.in_err-anew.ensures.part)
+
+pub returns-in-Some-clause-part : goal.returns-in-Some-clause-part
+returns-in-Some-clause-part g c =
+    let took = g.O.ByteSink.took in
+    let was = c.args.self.now in
+    let octets = c.args.octets.now in
+    let turned = c.in_ok-anew.ensures.turned in
+    let said = some_anew (is_anew (running_of was) octets) (time_of octets) c.in-Some.timestamp
+    (rw c.in-Some.is at c.in_ok-anew.ensures.anew) in
+    on_err_weaker c.begin_anew.result
+    (λ part. anew_some g.P.PictureSink.takes g.P.PictureSink.fails was.is_eager (running_of was)
+    (running_of c.turn.new.self) octets c.args.pictures.now c.turn.new.pictures
+    c.begin_anew.new.pictures (took c.args.output.now) (took c.turn.new.output) said.0
+    turned.running turned.told part) c.begin_anew.ensures.part

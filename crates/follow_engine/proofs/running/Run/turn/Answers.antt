@@ -1,10 +1,13 @@
-use Rattle.std.proofs.Common.{◌∙◌, ap, subst, sym}
+use Rattle.std.proofs.Common.{◌∙◌, List, ap, subst, sym}
+use Rattle.std.proofs.lemmas.Result.{err_from_is_err_and}
 use Rattle.following.specs.Follower.{Following, IsFollower}
+use Rattle.following.specs.Following.{Handed}
 use Rattle.following.specs.Turned.{handed_as}
 use Rattle.following.specs.declared.restarts.Restarts.{Restarts}
 use Rattle.st_format.specs.Raster.{Raster}
 use Rattle.follow_engine.specs.Events.{Running}
 use Rattle.follow_engine.specs.Running.{running_of}
+use Rattle.follow_engine.specs.Shown.{TakesSome}
 use Rattle.follow_engine.proofs.Turns.{anew_told, run_turned, turn_told}
 use Rattle.follow_engine.proofs.running.Run.turn.Goals as goal
 
@@ -44,3 +47,13 @@ returns-clause-anew g c =
     let was = c.args.self.now in
     anew_told (running_of was) c.args.octets.now was.restarts.bound c.take_turn-turn.result.answer
     c.note-anew.result c.requires.bound c.take_turn-turn.ensures.answer c.note-anew.ensures.anew
+
+pub returns-in_err-leave-clause-part : goal.returns-in_err-leave-clause-part
+returns-in_err-leave-clause-part g c =
+    let turn = c.take_turn-turn in
+    let p = err_from_is_err_and c.from_residual.result c.from_residual.ensures.1 in
+    rw (p.1)
+    (subst (λ (hs : List Handed). TakesSome g.P.PictureSink.takes g.P.PictureSink.fails
+    c.args.pictures.now hs c.leave.new.pictures)
+    (ap (λ (r : Raster). handed_as turn.result.handed r) c.note-anew.ensures.frame
+    ∙ turn.ensures.handed) c.in_err-leave.ensures.part)
