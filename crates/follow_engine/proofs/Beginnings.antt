@@ -13,19 +13,20 @@ use Rattle.recording_reader.specs.FileReader.{fault_of}
 use Rattle.recording_reader.specs.declared.way.Standing.{Standing as Stand}
 use Rattle.run_outcome.specs.declared.refusal.Refusal.{Refusal}
 use Rattle.side_by_side.specs.Side.{IsUnfailedFile, begun_at}
-use Rattle.side_by_side.specs.Sides.{AllUnfailed, HasGivenAll, IsBegun, IsFreshFile, Sides}
-use Rattle.side_by_side.specs.Sides.{begun_each, strands_of}
-use Rattle.side_by_side.specs.Strands.{GoesWhole}
+use Rattle.side_by_side.specs.Sides.{AllUnfailed, HasGiven, HasGivenAll, IsBegun, IsFreshFile}
+use Rattle.side_by_side.specs.Sides.{Sides, begun_each, strands_of}
+use Rattle.side_by_side.specs.Strands.{GoesSoFar, GoesWhole}
 use Rattle.side_by_side.specs.declared.side.Side.{Side}
 use Rattle.side_by_side.specs.declared.steering.Steering.{Steering}
 use Rattle.st_format.specs.declared.path.Path.{Path}
 use Rattle.follow_engine.specs.Events.{behind_all, ended, events_end, events_in}
-use Rattle.follow_engine.specs.Events.{Running, without}
+use Rattle.follow_engine.specs.Events.{Running, frames_of_events, without}
 use Rattle.follow_engine.specs.Opened.{AreOpened}
 use Rattle.follow_engine.specs.Order.{datagrams_in}
 use Rattle.follow_engine.specs.Running.{Finishes, Told, running_of}
-use Rattle.follow_engine.specs.Sides.{EndsStream, FollowsEntries, FollowsSides, HasBegun}
-use Rattle.follow_engine.specs.Sides.{HasBegunIn, text_by}
+use Rattle.follow_engine.specs.Shown.{TakesSome}
+use Rattle.follow_engine.specs.Sides.{EndsStream, FollowsEntries, FollowsFirst, FollowsSides}
+use Rattle.follow_engine.specs.Sides.{HasBegun, HasBegunIn, text_by}
 use Rattle.follow_engine.specs.Telling.{events_text, totals_of, totals_text}
 use Rattle.follow_engine.specs.declared.opening.FollowAsked.{FollowAsked}
 use Rattle.follow_engine.specs.declared.running.Run.{Run}
@@ -107,6 +108,29 @@ follows_entries gave ended takes source source' r r' old new took took' sides no
       told =
           subst (λ (l : List (List ℕ)).
           Told takes old new took took' (events_in r.is_eager (running_of r) l)) ds follows.told;
+    })
+
+-- the records of files so far, where that ended before
+pub follows_first : {A S K : Type 0} (gave : S → List ℕ) (ended : S → Type 0)
+    (takes fails : K → Handed → K → Type 0) (source source' : Sides A S) (r : Run A)
+    (old new : K) (sides : List (Side A S)) → source.came ≡ []
+    → source'.steering ≡ r.steering → source'.sides ≡ sides
+    → TakesSome takes fails old (frames_of_events (events_in r.is_eager (running_of r)
+    (datagrams_since source.came source'.came))) new → HasGiven gave ended source'
+    → FollowsFirst gave ended takes fails r old new sides
+follows_first gave ended takes fails source source' r old new sides none steering is some given =
+    let ds : datagrams_since source.came source'.came ≡ datagrams_in given.entries =
+    ap (λ (l : List (Path × List ℕ)). datagrams_since l source'.came) none
+    ∙ datagrams_from source'.came given.entries given.came_is in
+    subst (λ (l : List (Side _ _)). FollowsFirst gave ended takes fails r old new l) is
+    (record {
+      entries = given.entries;
+      goes = λ octets read.
+          subst (λ (st : Steering). GoesSoFar st (strands_of source'.sides octets) given.entries)
+          steering (given.goes octets read);
+      shown =
+          subst (λ (l : List (List ℕ)). TakesSome takes fails old
+          (frames_of_events (events_in r.is_eager (running_of r) l)) new) ds some;
     })
 
 -- ---- the end

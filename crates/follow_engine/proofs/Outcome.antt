@@ -1,6 +1,6 @@
 -- What became of a stream that was followed to its end.
 use Rattle.std.proofs.Common.{◌≡◌, ℕ, Bool, List, [], ◌∷◌, ◌++◌, Option, None, Some, Result, sym}
-use Rattle.std.proofs.Common.{ap, subst, ◌∙◌, append_assoc}
+use Rattle.std.proofs.Common.{ap, inl, refl, subst, ◌∙◌, append_assoc}
 use Rattle.std.proofs.lemmas.Grind.{flat_map-append}
 use Rattle.std.proofs.lemmas.List.Elements.{filter_map-append}
 use Rattle.std.specs.List.{AllByRecursion, AllZip, zip}
@@ -16,8 +16,8 @@ use Rattle.recording_reader.specs.Files.{text_of_file}
 use Rattle.run_outcome.specs.Sources.{IsSourceText}
 use Rattle.run_outcome.specs.declared.refusal.Refusal.{Refusal}
 use Rattle.side_by_side.specs.Side.{begun_at}
-use Rattle.side_by_side.specs.Sides.{begun_each, strands_of}
-use Rattle.side_by_side.specs.Strands.{GoesWhole}
+use Rattle.side_by_side.specs.Sides.{SideGave, begun_each, strands_of}
+use Rattle.side_by_side.specs.Strands.{GoesSoFar, GoesWhole, IsReadOf}
 use Rattle.side_by_side.specs.declared.side.Side.{Side}
 use Rattle.side_by_side.specs.declared.steering.Steering.{Steering}
 use Rattle.follow_engine.specs.Events.{Event, Running, behind_all, ended, events_end, events_in}
@@ -27,7 +27,7 @@ use Rattle.follow_engine.specs.Opened.{AreOpened, IsFirstText}
 use Rattle.follow_engine.specs.Order.{datagrams_in, strands_by}
 use Rattle.follow_engine.specs.Running.{Told, running_of, steering_of}
 use Rattle.follow_engine.specs.Shown.{TakesAll, TakesSome}
-use Rattle.follow_engine.specs.Sides.{EndsStream, FollowsDatagrams, FollowsEntries, HasBegun}
+use Rattle.follow_engine.specs.Sides.{EndsStream, FollowsEntries, FollowsFirst, HasBegun}
 use Rattle.follow_engine.specs.Sides.{SideRead, text_by}
 use Rattle.follow_engine.specs.Telling.{event_text, events_text, totals_of, totals_text}
 use Rattle.follow_engine.specs.declared.opening.FollowAsked.{FollowAsked}
@@ -178,23 +178,46 @@ follows_whole gave ended takes w ssrc sdp ways first olds mids news r t old mid 
 
 -- ---- a run that ended before
 
--- of a stream of some datagrams the first frames were shown
+-- what was read of files that were read to their ends is all of them
+all_read : (ss : List Strand) → AllZip IsReadOf ss ss
+all_read [] = tt
+all_read (s ∷ ss) = (inl refl, all_read ss)
+
+whole_so_far : (st : Steering) (ss : List Strand) (es : List Entry) → GoesWhole st ss es
+    → GoesSoFar st ss es
+whole_so_far st ss es goes = record {
+  read = ss;
+  left = goes.left;
+  are = all_read ss;
+  goes = goes.goes;
+}
+
+so_far_goes : (st st' : Steering) (ss ss' : List Strand) (es : List Entry) → st ≡ st' → ss ≡ ss'
+    → GoesSoFar st ss es → GoesSoFar st' ss' es
+so_far_goes st st' ss ss' es steering strands goes =
+    subst (λ (s : Steering). GoesSoFar s ss' es) steering
+    (subst (λ (l : List Strand). GoesSoFar st l es) strands goes)
+
+-- of the stream of records that went the first frames were shown
 pub part_by : {A S K : Type 0} (gave : S → List ℕ) (ended : S → Type 0)
     (takes fails : K → Handed → K → Type 0) (w : FollowAsked) (ssrc : Option ℕ)
     (sdp : Option (List ℕ)) (ways : List (Result Flows Refusal)) (first : List ℕ)
-    (olds mids news : List (Side A S)) (r : Run A) (ds : List (List ℕ)) (old new : K)
+    (olds mids news : List (Side A S)) (r : Run A) (es : List Entry) (old new : K)
     → IsSourceText w.ssrc.now ssrc → HasBegun w ssrc (text_by sdp first) r
     → AreOpened gave ended ways olds mids → IsFirstText first mids
     → begun_each news ≡ begun_each mids → AllByRecursion (λ x. IsKnown gave ended x.file) news
-    → TakesSome takes fails old (frames_of_events (events_of r.is_eager (running_of r) ds)) new
-    → FollowsPart w sdp (SideRead gave ended) (zip olds news) takes fails old new
-part_by gave ended takes fails w ssrc sdp ways first olds mids news r ds old new source begun opened_so
-    is same known some =
+    → ((octets : List (List ℕ)) → AllZip (SideGave gave ended) news octets
+    → GoesSoFar r.steering (strands_of news octets) es)
+    → TakesSome takes fails old
+    (frames_of_events (events_of r.is_eager (running_of r) (datagrams_in es))) new
+    → FollowsPart w sdp ways (SideRead gave ended) (zip olds news) takes fails old new
+part_by gave ended takes fails w ssrc sdp ways first olds mids news r es old new source begun opened_so
+    is same known goes some =
     let o = begun.opens.opening in
-    let from : Running = running_from (opened o w.frames 900000) in
+    let ds : List (List ℕ) = datagrams_in es in
     record {
       opening = o;
-      datagrams = ds;
+      entries = es;
       no_window = begun.opens.no_window;
       source_is = subst (λ (x : Option ℕ). IsSourceText w.ssrc.now x) (sym begun.opens.source)
           source;
@@ -202,21 +225,37 @@ part_by gave ended takes fails w ssrc sdp ways first olds mids news r ds old new
           subst (λ (x : List ℕ). AnnouncesStream x o)
           (said_text gave ended ways sdp first olds mids news octets text opened_so is same known
           read said) begun.opens.announced;
+      goes = λ octets read.
+          let taken = all_taken gave ended ways olds mids news octets opened_so same read in
+          so_far_goes r.steering (steering_of o) (strands_of news octets) (strands_by ways octets) es
+          (begun.run.steering
+          ∙ ap (λ (x : Running). steering_of x.follower.opening) begun.opens.is) taken.strands
+          (goes octets taken.given);
       shown = subst (λ (x : Running). TakesSome takes fails old
           (frames_of_events (events_of w.is_eager x ds)) new) begun.opens.is
           (subst (λ (b : Bool). TakesSome takes fails old
           (frames_of_events (events_of b (running_of r) ds)) new) begun.eager some);
     }
 
--- it was stopped among its datagrams
-pub part_among : {A K : Type 0} (takes fails : K → Handed → K → Type 0) (r : Run A)
-    (old new : K) → (part : FollowsDatagrams takes fails r old new)
+-- it was stopped among its records
+pub part_among : {A S K : Type 0} (gave : S → List ℕ) (ended : S → Type 0)
+    (takes fails : K → Handed → K → Type 0) (r : Run A) (old new : K) (sides : List (Side A S))
+    → (part : FollowsFirst gave ended takes fails r old new sides)
     → TakesSome takes fails old
-    (frames_of_events (events_of r.is_eager (running_of r) part.datagrams)) new
-part_among takes fails r old new part =
-    before_end takes fails r.is_eager (running_of r) part.datagrams old new part.shown
+    (frames_of_events (events_of r.is_eager (running_of r) (datagrams_in part.entries))) new
+part_among gave ended takes fails r old new sides part =
+    before_end takes fails r.is_eager (running_of r) (datagrams_in part.entries) old new part.shown
 
 -- or behind them all
+pub goes_so_far : {A S K : Type 0} (gave : S → List ℕ) (ended : S → Type 0)
+    (takes : K → Handed → K → Type 0) (r t : Run A) (old mid : K) (took took' : List ℕ)
+    (sides : List (Side A S))
+    → (follows : FollowsEntries gave ended takes r t old mid took took' sides)
+    → (octets : List (List ℕ)) → AllZip (SideGave gave ended) sides octets
+    → GoesSoFar r.steering (strands_of sides octets) follows.entries
+goes_so_far gave ended takes r t old mid took took' sides follows octets read =
+    whole_so_far r.steering (strands_of sides octets) follows.entries (follows.goes octets read)
+
 pub part_behind : {A S K : Type 0} (gave : S → List ℕ) (ended : S → Type 0)
     (takes fails : K → Handed → K → Type 0) (r t : Run A) (old mid new : K)
     (took took' : List ℕ) (sides : List (Side A S))

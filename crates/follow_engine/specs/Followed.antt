@@ -9,7 +9,7 @@ use Rattle.path_receiver.specs.Opening.{Opening}
 use Rattle.run_outcome.specs.Sources.{IsSourceText}
 use Rattle.run_outcome.specs.declared.refusal.Refusal.{Refusal}
 use Rattle.capture_engines.specs.Taking.{AnnouncesStream, said_behind}
-use Rattle.side_by_side.specs.Strands.{GoesWhole}
+use Rattle.side_by_side.specs.Strands.{GoesSoFar, GoesWhole}
 use Rattle.following.specs.Following.{Handed}
 use Rattle.follow_engine.specs.Events.{Event, Running, events_of, frames_of_events, run_end}
 use Rattle.follow_engine.specs.Events.{running_from}
@@ -50,15 +50,17 @@ pub record FollowsWhole {S K : Type 0} (w : FollowAsked) (sdp : Option (List ℕ
   pub told_totals : totals ≡ totals_of (followed_run w opening entries)
 
 -- Where it ended before that: the first of the frames were shown that leave a follower which is
--- opened with what the SDP text says, of some datagrams.
+-- opened with what the SDP text says, of the records of the files that went so far.
 pub record FollowsPart {S K : Type 0} (w : FollowAsked) (sdp : Option (List ℕ))
-    (told : S → List ℕ → Type 0) (files : List S) (takes fails : K → Handed → K → Type 0)
-    (old new : K) : Type 0 where
+    (ways : List (Result Flows Refusal)) (told : S → List ℕ → Type 0) (files : List S)
+    (takes fails : K → Handed → K → Type 0) (old new : K) : Type 0 where
   pub opening : Opening
-  pub datagrams : List (List ℕ)
+  pub entries : List Entry
   pub no_window : opening.window ≡ []
   pub source_is : IsSourceText w.ssrc.now opening.ssrc
   pub announced : (octets : List (List ℕ)) (text : List ℕ) → AllZip told files octets
       → said_behind sdp octets ≡ Some text → AnnouncesStream text opening
-  pub shown : TakesSome takes fails old (frames_of_events
-      (events_of w.is_eager (running_from (opened opening w.frames 900000)) datagrams)) new
+  pub goes : (octets : List (List ℕ)) → AllZip told files octets
+      → GoesSoFar (steering_of opening) (strands_by ways octets) entries
+  pub shown : TakesSome takes fails old
+      (frames_of_events (followed_events w opening entries)) new

@@ -6,7 +6,7 @@ use Rattle.media_file.specs.Records.{Entry}
 use Rattle.recording_engines.specs.Files.{ended_by, gave_by}
 use Rattle.path_receiver.specs.Took.{datagrams_since}
 use Rattle.side_by_side.specs.Sides.{AllOver, SideGave, Sides, strands_of}
-use Rattle.side_by_side.specs.Strands.{GoesWhole}
+use Rattle.side_by_side.specs.Strands.{GoesSoFar, GoesWhole}
 use Rattle.side_by_side.specs.declared.side.Side.{Side}
 use Rattle.st_format.specs.History.{IsRead}
 use Rattle.following.specs.Following.{Handed}
@@ -67,13 +67,16 @@ pub record FollowsEntries {A S K : Type 0} (gave : S → List ℕ) (ended : S �
   pub told : Told takes old new took took' (events_in r.is_eager (running_of r)
       (datagrams_in entries))
 
--- Where that ended before, the first of the frames were shown that left the stream, of some
--- datagrams.
-pub record FollowsDatagrams {A K : Type 0} (takes fails : K → Handed → K → Type 0) (r : Run A)
-    (old new : K) : Type 0 where
-  pub datagrams : List (List ℕ)
+-- Where that ended before, the first of the frames were shown that leave the stream, of the records
+-- that went so far.
+pub record FollowsFirst {A S K : Type 0} (gave : S → List ℕ) (ended : S → Type 0)
+    (takes fails : K → Handed → K → Type 0) (r : Run A) (old new : K) (sides : List (Side A S))
+    : Type 0 where
+  pub entries : List Entry
+  pub goes : (octets : List (List ℕ)) → AllZip (SideGave gave ended) sides octets
+      → GoesSoFar r.steering (strands_of sides octets) entries
   pub shown : TakesSome takes fails old
-      (frames_of_events (events_in r.is_eager (running_of r) datagrams)) new
+      (frames_of_events (events_in r.is_eager (running_of r) (datagrams_in entries))) new
 
 -- All frames left that were in, and what became of the stream was told.
 pub record EndsStream {A K : Type 0} (takes : K → Handed → K → Type 0) (r : Run A) (old new : K)

@@ -9,7 +9,7 @@ ghost use Rattle.follow_engine.specs.Refused.{IsFirstRefusal, IsFollowRefusal, I
 ghost use Rattle.follow_engine.specs.Refused.{StopsFollowing};
 ghost use Rattle.follow_engine.specs.Running.{IsRun};
 ghost use Rattle.follow_engine.specs.Shown.{TakesSome};
-ghost use Rattle.follow_engine.specs.Sides.{EndsStream, FollowsDatagrams, FollowsEntries};
+ghost use Rattle.follow_engine.specs.Sides.{EndsStream, FollowsEntries, FollowsFirst};
 ghost use Rattle.follow_engine.specs.Sides.{HasBegun, HasBegunIn, SideRead, text_by};
 ghost use Rattle.following.specs.Following.{frames_in};
 ghost use Rattle.path_receiver.specs.Opening.{IsWindowSize};
@@ -74,7 +74,7 @@ where
         pictures.old pictures.new (O.took output.old) (O.took output.new) t) }
     // Else nothing was shown, or the first of the frames that left.
     ensures part { OnErr result ((pictures.new ≡ pictures.old)
-        ⊎ FollowsPart asked.entry (option_copied sdp.entry) (SideRead S.gave S.ended)
+        ⊎ FollowsPart asked.entry (option_copied sdp.entry) ways.now (SideRead S.gave S.ended)
         (zip sides.old.items sides.new.items) P.takes P.fails pictures.old pictures.new) }
     ensures refusal { IfErr result (λ f. OfRefusal f (IsFollowRefusal asked.entry.frames
         asked.entry.ssrc.now (option_copied sdp.entry) ways.now
@@ -224,8 +224,8 @@ fn follow_opened<A: Allocator + Copy, S: ByteSource + Drop, P: PictureSink, O: B
     ensures run { OnOk result (IsRun run.new) }
     ensures followed { OnOk result (FollowsEntries S.gave S.ended P.takes run.old run.new
         pictures.old pictures.new (O.took output.old) (O.took output.new) sides.new.items) }
-    ensures part { OnErr result
-        (FollowsDatagrams P.takes P.fails run.old pictures.old pictures.new) }
+    ensures part { OnErr result (FollowsFirst S.gave S.ended P.takes P.fails run.old
+        pictures.old pictures.new sides.new.items) }
     ensures stopped { IfErr result (λ f. OfRefusal f (StopsFollowing sides.new.items)) }
     ensures failures { Accounts result (counts (failures_each S.failures sides.old.items)
         (failures_each S.failures sides.new.items)

@@ -2,13 +2,12 @@
 ghost use Rattle.std.specs.Prelude.{◌≡◌, ◌++◌, ◌∷◌, ℕ, List, None, Option, Result};
 ghost use Rattle.std.specs.List.{AllByRecursion, flat_map};
 ghost use Rattle.flow.specs.declared.flows.Flows.{Flows};
-ghost use Rattle.follow_engine.specs.Events.{events_of, frames_of_events, running_from};
+ghost use Rattle.follow_engine.specs.Events.{frames_of_events};
 ghost use Rattle.follow_engine.specs.Followed.{FollowsPart, FollowsWhole, followed_events};
 ghost use Rattle.follow_engine.specs.Shown.{TakesAll, TakesSome};
 ghost use Rattle.follow_engine.specs.Sides.{SideRead};
 ghost use Rattle.follow_engine.specs.declared.opening.FollowAsked.{FollowAsked};
 ghost use Rattle.follow_engine.specs.declared.telling.FollowTotals.{FollowTotals};
-ghost use Rattle.following.specs.Follower.{opened};
 ghost use Rattle.following.specs.Following.{Handed};
 ghost use Rattle.frame_sinks.specs.Pictures.{form_stream, pictures_of};
 ghost use Rattle.frame_sinks.specs.Sinks.{FailsFrame, GrowsSome, TakesFrame};
@@ -51,14 +50,14 @@ pub fn written_part<K: ByteSink, A: Allocator>()
 {}
 
 /// So where files are followed, and the run ends before: it is a first part of the stream of the
-/// pictures of all frames that leave a follower of their first records.
+/// pictures of all frames that leave a follower of the records that went so far.
 pub fn follows_part<K: ByteSink, A: Allocator, B: Allocator, S: ByteSource>()
-    ensures { (w : FollowAsked) (sdp : Option (List ℕ)) (files : List (Side B S × Side B S))
-        (k l : FormSink K A) → (is : FollowsPart w sdp (SideRead S.gave S.ended) files
-        (TakesFrame K.took) (FailsFrame K.took) k l) → GrowsSome (K.took k.sink) (K.took l.sink)
-        (form_stream k.format (pictures_of k.filling k.fill k.held (frames_of_events
-        (events_of w.is_eager (running_from (opened is.opening w.frames 900000))
-        is.datagrams)))) }
+    ensures { (w : FollowAsked) (sdp : Option (List ℕ)) (ways : List (Result Flows Refusal))
+        (files : List (Side B S × Side B S)) (k l : FormSink K A) →
+        (is : FollowsPart w sdp ways (SideRead S.gave S.ended) files (TakesFrame K.took)
+        (FailsFrame K.took) k l) → GrowsSome (K.took k.sink) (K.took l.sink)
+        (form_stream k.format (pictures_of k.filling k.fill k.held
+        (frames_of_events (followed_events w is.opening is.entries)))) }
 {}
 
 /// A stream of pictures of one format is a YUV4MPEG2 file of them where they are YCbCr, and where

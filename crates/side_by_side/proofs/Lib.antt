@@ -6,3 +6,4 @@ pub mod Told
 pub mod Sound
 pub mod Oldest
 pub mod Whole
+pub mod SoFar

@@ -25,7 +25,7 @@ use Rattle.side_by_side.specs.Going.{IsReadBy}
 use Rattle.side_by_side.specs.InOrder.{gone_of}
 use Rattle.side_by_side.specs.Side.{Begun, IsGiven, IsSoundSide, IsUnfailed, begun_at, standing_of}
 use Rattle.side_by_side.specs.Steps.{AllGoOn, HasGone, Over, Standing, nothing}
-use Rattle.side_by_side.specs.Strands.{GoesWhole}
+use Rattle.side_by_side.specs.Strands.{GoesSoFar, GoesWhole}
 use Rattle.side_by_side.specs.declared.going.Going.TheVariants.{Unread}
 use Rattle.side_by_side.specs.declared.side.Side.{Side}
 use Rattle.side_by_side.specs.declared.steering.Steering.{Steering}
@@ -218,3 +218,12 @@ pub record HasGivenAll {A S : Type 0} (gave : S → List ℕ) (ended : S → Typ
   pub came_is : s.came ≡ datagrams_of entries
   pub goes : (octets : List (List ℕ)) → AllZip (SideGave gave ended) s.sides octets
       → GoesWhole s.steering (strands_of s.sides octets) entries
+
+-- The datagrams that it gave are those of records of what was read of the files, in the order in
+-- which these go, as far as they went.
+pub record HasGiven {A S : Type 0} (gave : S → List ℕ) (ended : S → Type 0) (s : Sides A S)
+    : Type 0 where
+  pub entries : List Entry
+  pub came_is : s.came ≡ datagrams_of entries
+  pub goes : (octets : List (List ℕ)) → AllZip (SideGave gave ended) s.sides octets
+      → GoesSoFar s.steering (strands_of s.sides octets) entries

@@ -1,9 +1,10 @@
 -- Records of files in the order in which they go side by side (own).
-use Rattle.std.specs.Prelude.{◌≡◌, ℕ, zero, suc, ⊤, List, [], ◌∷◌, map, Option, None, Some}
-use Rattle.std.specs.List.{AllByRecursion}
+use Rattle.std.specs.Prelude.{◌≡◌, ◌⊎◌, ℕ, zero, suc, ⊤, List, [], ◌∷◌, map, Option, None, Some}
+use Rattle.std.specs.List.{AllByRecursion, AllZip}
 use Rattle.media_file.specs.Records.{Entry}
 use Rattle.recording_engines.specs.Imported.{AreOver}
 use Rattle.recording_engines.specs.Joining.{Strand}
+use Rattle.recording_reader.specs.Files.{AreFirst}
 use Rattle.recording_reader.specs.declared.fault.ReadingFault.{ReadingFault}
 use Rattle.side_by_side.specs.Going.{first_place, going_by}
 use Rattle.side_by_side.specs.Steering.{stamp_of}
@@ -59,3 +60,16 @@ pub record GoesWhole (s : Steering) (strands : List Strand) (entries : List Entr
   pub left : List Strand
   pub goes : Goes s strands entries left
   pub over : AreOver left
+
+-- what was read of a file: all of it; or its first records, up to a fault
+abbrev pub IsReadOf : Strand → Strand → Type 0
+IsReadOf read all =
+    (read ≡ all)
+    ⊎ ((fault : ReadingFault) × (read.fault ≡ Some fault) × AreFirst read.entries all.entries)
+
+-- Records of files go in this order so far, of what was read of each.
+pub record GoesSoFar (s : Steering) (strands : List Strand) (entries : List Entry) : Type 0 where
+  pub read : List Strand
+  pub left : List Strand
+  pub are : AllZip IsReadOf read strands
+  pub goes : Goes s read entries left

@@ -4,8 +4,8 @@ ghost use Rattle.std.specs.Prelude.{MatchResult, [], length};
 ghost use Rattle.std.specs.List.{AllByRecursion};
 ghost use Rattle.recording_engines.specs.Files.{IsKnown};
 ghost use Rattle.side_by_side.specs.Side.{AccountsFor};
-ghost use Rattle.side_by_side.specs.Sides.{AllOver, AllUnfailed, FailsBy, HasGivenAll, IsBegun};
-ghost use Rattle.side_by_side.specs.Sides.{IsSideBySide, IsStopped, StopsSides, TellsSides};
+ghost use Rattle.side_by_side.specs.Sides.{AllOver, AllUnfailed, FailsBy, HasGiven, HasGivenAll};
+ghost use Rattle.side_by_side.specs.Sides.{IsBegun, IsSideBySide, IsStopped, StopsSides, TellsSides};
 ghost use Rattle.side_by_side.specs.Sides.{begun_each, failures_each, last_fault_of};
 ghost use Rattle.st_format.specs.Device.{CountsFaults};
 ghost use Rattle.st_format.specs.Turns.{CountsTurn, IsEnd, IsWithin, TakesTurn, arrived};
@@ -94,12 +94,13 @@ impl<A: Allocator, S: ByteSource> SideBySide<A, S> {
         let _failures = &self.failures;
     }
 
-    /// What is known of the octets of each file, by where its reader stands; and where each is at
-    /// its end, that all of its records were given. A caller's proof learns it from here; nothing
-    /// is done.
+    /// What is known of the octets of each file, by where its reader stands; which of its records
+    /// were given; and where each is at its end, that all of them were. A caller's proof learns it
+    /// from here; nothing is done.
     #[inline(always)]
     pub fn history(&self)
         ensures known { AllByRecursion (λ s. IsKnown S.gave S.ended s.file) self.now.sides }
+        ensures so_far { HasGiven S.gave S.ended self.now }
         ensures all { AllOver self.now.sides → HasGivenAll S.gave S.ended self.now }
     {
         know_all(&self.sides);

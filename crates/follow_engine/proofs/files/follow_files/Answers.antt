@@ -4,10 +4,10 @@ use Rattle.std.specs.Option.{option_copied}
 use Rattle.std.specs.Prelude.{take}
 use Rattle.run_outcome.proofs.Refusals.{none_refused, of_refusal_map}
 use Rattle.side_by_side.specs.Sides.{failures_each}
-use Rattle.follow_engine.specs.Order.{datagrams_in}
 use Rattle.follow_engine.proofs.Beginnings.{opened_begun}
 use Rattle.follow_engine.proofs.Blamed.{blames_end, blames_files, blames_from, blames_none}
-use Rattle.follow_engine.proofs.Outcome.{follows_whole, part_among, part_behind, part_by}
+use Rattle.follow_engine.proofs.Outcome.{follows_whole, goes_so_far, part_among, part_behind}
+use Rattle.follow_engine.proofs.Outcome.{part_by}
 use Rattle.follow_engine.proofs.Stopped.{first_by, stops_files}
 use Rattle.follow_engine.proofs.files.follow_files.Goals as goal
 
@@ -165,12 +165,12 @@ returns-in_err-follow_opened-clause-part g c =
     (inr (part_by g.S.ByteSource.gave g.S.ByteSource.ended takes fails c.args.asked
     c.in_ok-ssrc.ssrc (option_copied c.args.sdp) c.args.ways.now
     (take c.in_ok-count.count c.open_files.new.text) c.args.sides.now.items
-    c.open_files.new.sides.items c.follow_opened.new.sides.items c.in_ok-run.run' part.datagrams
+    c.open_files.new.sides.items c.follow_opened.new.sides.items c.in_ok-run.run' part.entries
     c.args.pictures.now c.follow_opened.new.pictures c.in_ok-ssrc.ensures.source
     c.in_ok-run.ensures.begun c.in_ok-count.ensures.opened c.in_ok-count.ensures.first begun.begun
-    begun.known
-    (part_among takes fails c.in_ok-run.run' c.args.pictures.now c.follow_opened.new.pictures
-    part)))
+    begun.known part.goes
+    (part_among g.S.ByteSource.gave g.S.ByteSource.ended takes fails c.in_ok-run.run'
+    c.args.pictures.now c.follow_opened.new.pictures c.follow_opened.new.sides.items part)))
 
 pub returns-in_err-totals-clause-part : goal.returns-in_err-totals-clause-part
 returns-in_err-totals-clause-part g c =
@@ -185,9 +185,13 @@ returns-in_err-totals-clause-part g c =
     c.in_ok-ssrc.ssrc (option_copied c.args.sdp) c.args.ways.now
     (take c.in_ok-count.count c.open_files.new.text) c.args.sides.now.items
     c.open_files.new.sides.items c.follow_opened.new.sides.items c.in_ok-run.run'
-    (datagrams_in begun.followed.entries) c.args.pictures.now c.end_stream.new.pictures
+    begun.followed.entries c.args.pictures.now c.end_stream.new.pictures
     c.in_ok-ssrc.ensures.source c.in_ok-run.ensures.begun c.in_ok-count.ensures.opened
     c.in_ok-count.ensures.first begun.begun begun.known
+    (goes_so_far g.S.ByteSource.gave g.S.ByteSource.ended takes c.in_ok-run.run'
+    c.follow_opened.new.run c.args.pictures.now c.follow_opened.new.pictures
+    (took c.args.output.now) (took c.follow_opened.new.output) c.follow_opened.new.sides.items
+    begun.followed)
     (part_behind g.S.ByteSource.gave g.S.ByteSource.ended takes fails c.in_ok-run.run'
     c.follow_opened.new.run c.args.pictures.now c.follow_opened.new.pictures
     c.end_stream.new.pictures (took c.args.output.now) (took c.follow_opened.new.output)

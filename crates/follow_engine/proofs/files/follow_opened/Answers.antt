@@ -4,14 +4,14 @@ use Rattle.std.specs.Prelude.{IfErr}
 use Rattle.recording_engines.specs.Files.{IsKnown}
 use Rattle.run_outcome.proofs.Printed.{on_ok}
 use Rattle.std.proofs.lemmas.Result.{on_err_weaker}
-use Rattle.path_receiver.specs.Took.{datagrams_since}
 use Rattle.run_outcome.specs.Fault.{Accounts, counts}
 use Rattle.run_outcome.specs.Refusing.{OfRefusal}
 use Rattle.side_by_side.specs.Sides.{Sides, begun_each, failures_each}
 use Rattle.side_by_side.specs.declared.side.Side.{Side}
 use Rattle.follow_engine.specs.Refused.{StopsFollowing}
 use Rattle.follow_engine.specs.Sides.{FollowsEntries, FollowsSides}
-use Rattle.follow_engine.proofs.Beginnings.{begun_unfailed, follows_entries, len_same}
+use Rattle.follow_engine.proofs.Beginnings.{begun_unfailed, follows_entries, follows_first}
+use Rattle.follow_engine.proofs.Beginnings.{len_same}
 use Rattle.follow_engine.proofs.files.follow_opened.Goals as goal
 
 pub new-source-requires : goal.new-source-requires
@@ -89,7 +89,15 @@ returns-clause-failures g c =
 
 pub returns-clause-part : goal.returns-clause-part
 returns-clause-part g c =
-    on_err_weaker c.follow_sides-followed.result (λ part. record {
-      datagrams = datagrams_since c.new-source.result.came c.follow_sides-followed.new.source.came;
-      shown = part;
-    }) c.follow_sides-followed.ensures.part
+    let takes = g.P.PictureSink.takes in
+    let fails = g.P.PictureSink.fails in
+    let from = c.new-source.result in
+    let to = c.follow_sides-followed.new.source in
+    on_err_weaker c.follow_sides-followed.result
+    (λ part. follows_first g.S.ByteSource.gave g.S.ByteSource.ended takes fails from to
+    c.args.run.now c.args.pictures.now c.follow_sides-followed.new.pictures
+    c.into_sides.result.items
+    (ap (λ (s : Sides _ _). s.came) c.new-source.ensures)
+    (c.follow_sides-followed.ensures.steering
+    ∙ ap (λ (s : Sides _ _). s.steering) c.new-source.ensures) (sym c.into_sides.ensures.sides)
+    part c.history.ensures.so_far) c.follow_sides-followed.ensures.part

@@ -2,7 +2,8 @@ use Rattle.std.proofs.Common.{◌∙◌, List, ap, subst}
 use Rattle.std.specs.List.{AllByRecursion}
 use Rattle.recording_engines.specs.Files.{IsKnown}
 use Rattle.side_by_side.specs.declared.side.Side.{Side}
-use Rattle.side_by_side.specs.Sides.{AllOver, HasGivenAll, Sides}
+use Rattle.side_by_side.specs.Sides.{AllOver, HasGiven, HasGivenAll, Sides}
+use Rattle.side_by_side.proofs.SoFar.{given_so_far}
 use Rattle.side_by_side.proofs.Sound.{seen}
 use Rattle.side_by_side.proofs.Whole.{given_all}
 use Rattle.side_by_side.proofs.sides.SideBySide.history.Goals as goal
@@ -22,3 +23,13 @@ returns-clause-all g c =
     (λ over. given_all gave ended
     (seen was.steering was.sides.items was.delivered was.failures was.fault) c.self.invariant
     (rw c.deref.ensures.value at c.know_all.ensures) over)
+
+pub returns-clause-so_far : goal.returns-clause-so_far
+returns-clause-so_far g c =
+    let gave = g.S.ByteSource.gave in
+    let ended = g.S.ByteSource.ended in
+    let was = c.self.inside in
+    subst (λ (s : Sides _ _). HasGiven gave ended s) c.self.view_is
+    (given_so_far gave ended
+    (seen was.steering was.sides.items was.delivered was.failures was.fault) c.self.invariant
+    (rw c.deref.ensures.value at c.know_all.ensures))
