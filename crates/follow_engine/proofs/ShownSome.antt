@@ -1,6 +1,6 @@
 -- The first of some frames that a sink took, where it or what shows them failed.
 use Rattle.std.proofs.Common.{◌≡◌, ◌∙◌, ℕ, Bool, true, cond, inl, inr, List, [], ◌∷◌, ◌++◌}
-use Rattle.std.proofs.Common.{Option, Result, Ok, Err, OnErr, append_assoc, append-nil, ap, refl}
+use Rattle.std.proofs.Common.{Result, Ok, Err, OnErr, append-nil, ap, refl}
 use Rattle.std.proofs.Common.{subst, sym}
 use Rattle.std.proofs.lemmas.List.Elements.{filter_map-append}
 use Rattle.following.specs.Follower.{Following}
@@ -8,7 +8,7 @@ use Rattle.following.specs.Following.{Handed, frames_in}
 use Rattle.following.specs.Turned.{answer_in, handed_in}
 use Rattle.path_receiver.specs.Took.{datagrams_since}
 use Rattle.st_format.specs.declared.path.Path.{Path}
-use Rattle.follow_engine.specs.Events.{Anew, Event, Running, behind_all, ended, events_at}
+use Rattle.follow_engine.specs.Events.{Anew, Event, Running, behind_all, events_at}
 use Rattle.follow_engine.specs.Events.{events_end, events_in, events_of, frames_of_events}
 use Rattle.follow_engine.specs.Events.{handed_by, is_anew, late_with, leaving, time_of}
 use Rattle.follow_engine.specs.Events.{time_or_zero, turn_left, turn_taken}

@@ -12,14 +12,13 @@ use Rattle.recording_engines.specs.Strands.{fault_of_file, strand_in}
 use Rattle.recording_engines.specs.declared.file.ImportFile.{ImportFile}
 use Rattle.recording_engines.specs.declared.file.ImportFile.TheVariants.{Closed, Open, Taken}
 use Rattle.recording_reader.specs.FileReader.{IsKnownBy}
-use Rattle.recording_reader.specs.Files.{AreFirst, records_of_file}
 use Rattle.recording_reader.specs.declared.fault.ReadingFault.{ReadingFault}
 use Rattle.recording_reader.specs.declared.way.Standing.{Standing as Stand}
 use Rattle.recording_reader.specs.declared.way.Standing.TheVariants.{Reads, Ended, Failed}
 use Rattle.side_by_side.specs.Side.{ahead_by, ahead_of_hand, standing_by}
 use Rattle.side_by_side.specs.Sides.{FileGave, HasGiven, IsSideBySide, SideGave, Sides}
 use Rattle.side_by_side.specs.Sides.{standings, strand_of, strands_of}
-use Rattle.side_by_side.specs.Steps.{Ahead, Standing, lefts, nothing, whole, whole_by, wholes}
+use Rattle.side_by_side.specs.Steps.{Standing, lefts, nothing, whole, whole_by, wholes}
 use Rattle.side_by_side.specs.Strands.{IsReadOf}
 use Rattle.side_by_side.specs.declared.going.Going.{Going}
 use Rattle.side_by_side.specs.declared.going.Going.TheVariants.{Unread, AtOnce, By, Never}
