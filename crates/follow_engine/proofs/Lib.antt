@@ -1,6 +1,7 @@
 pub mod Parts
 pub mod Without
 pub mod Tells
+pub mod LineTexts
 pub mod Leaving
 pub mod Turns
 pub mod ShownSome

@@ -11,6 +11,7 @@ mod running;
 mod showing;
 mod taking;
 mod telling;
+mod text;
 
 pub use files::follow_files;
 pub use opening::{FollowAsked, check_words};

@@ -1,18 +1,15 @@
 //! Lines of output.
-ghost use Rattle.std.specs.Prelude.{◌≡◌, ◌++◌, ◌∷◌, [], IfErr, IfSome, OnOk};
+ghost use Rattle.std.specs.Prelude.{◌≡◌, ◌++◌, ◌∷◌, [], codes, IfErr, OnOk, length};
+ghost use Rattle.std.specs.Fmt.{decimal};
 ghost use Rattle.follow_engine.specs.Line.{ended_line};
+ghost use Rattle.follow_engine.specs.declared.line.FollowLine.TheVariants.{Left, Totals};
 ghost use Rattle.run_outcome.specs.Fault.{Accounts, IfRefused, counts};
 
 use crate::telling::FollowTotals;
-use arrayvec::ArrayString;
+use crate::text::Text;
 use frame_assembly::Counts;
 use run_outcome::Fault;
 use st_format::{ByteSink, write_whole};
-use std::fmt::{self, Display, Write};
-
-/// Room for any line, in octets. That each fits is not proved: one that didn't would be told as
-/// want of memory.
-const LINE: usize = 160;
 
 /// What a run says. A timestamp is in 90 kHz ticks.
 #[derive(Clone, Copy)]
@@ -30,53 +27,78 @@ pub(crate) enum FollowLine {
     WantsMore,
 }
 
-impl Display for FollowLine {
-    ghost use Rattle.std.specs.Prelude.{Some};
-    ghost use Rattle.follow_engine.specs.Line.{line_text};
-
-    ghost output = { λ line. Some (line_text line) };
-
-    fn fmt<W: fmt::Write>(&self, f: &mut fmt::Formatter<W>) -> fmt::Result {
-        match self {
-            FollowLine::Left(timestamp, counts, late) => write!(
-                f,
-                "frame {timestamp} present {} missing {} contested {} late {late}",
-                counts.present, counts.missing, counts.contested
-            ),
-            FollowLine::Anew(timestamp) => write!(f, "anew {timestamp}"),
-            FollowLine::Totals(totals) => write!(
-                f,
-                "frames {} kept {} late {} far {} refused {}",
-                totals.frames, totals.kept, totals.late, totals.far, totals.refused
-            ),
-            FollowLine::Wants(frames) => write!(f, "late wants window {frames}"),
-            FollowLine::WantsMore => f.write_str("late wants more than window 16"),
-        }
+/// The text of a line, and its end: each line has room.
+fn text_of(line: FollowLine) -> Text
+    ensures { result ≡ ended_line line }
+{
+    match line {
+        FollowLine::Left(timestamp, counts, late) => left_text(timestamp, counts, late),
+        FollowLine::Anew(timestamp) => numbered_text(b"anew ", u64::from(timestamp)),
+        FollowLine::Totals(totals) => totals_text(totals),
+        FollowLine::Wants(frames) => numbered_text(b"late wants window ", frames as u64),
+        FollowLine::WantsMore => more_text(),
     }
 }
 
-/// The text of a value and an end of line behind it; none where that has no room.
-fn line_of<D: Display + Drop>(value: D) -> Option<ArrayString<LINE>>
-    ensures { IfSome result (λ line. IfSome (D.output value)
-        (λ octets. line.bytes ≡ octets ++ 10 ∷ [])) }
+/// That of a frame that left.
+fn left_text(timestamp: u32, counts: Counts, late: u64) -> Text
+    ensures { result ≡ ended_line (Left timestamp counts late) }
 {
-    let mut line = ArrayString::<LINE>::new();
-    match line.writeln(value) {
-        Ok(()) => Some(line),
-        Err(_) => None,
-    }
+    let mut text = Text::new();
+    text.add_number(b"frame ", u64::from(timestamp));
+    text.add_number(b" present ", counts.present as u64);
+    text.add_number(b" missing ", counts.missing as u64);
+    text.add_number(b" contested ", counts.contested as u64);
+    text.add_number(b" late ", late);
+    text.add(b"\n");
+    text
+}
+
+/// That of the totals.
+fn totals_text(totals: FollowTotals) -> Text
+    ensures { result ≡ ended_line (Totals totals) }
+{
+    let mut text = Text::new();
+    text.add_number(b"frames ", totals.frames);
+    text.add_number(b" kept ", totals.kept);
+    text.add_number(b" late ", totals.late);
+    text.add_number(b" far ", totals.far);
+    text.add_number(b" refused ", totals.refused);
+    text.add(b"\n");
+    text
+}
+
+/// That of words and a number.
+fn numbered_text(words: &[u8], number: u64) -> Text
+    requires { length words.now ≤ 18 }
+    ensures { result ≡ (words.now ++ decimal number) ++ 10 ∷ [] }
+{
+    let mut text = Text::new();
+    text.add_number(words, number);
+    text.add(b"\n");
+    text
+}
+
+/// That of a window that no number of frames would do for.
+fn more_text() -> Text
+    ensures { result ≡ codes "late wants more than window 16" ++ 10 ∷ [] }
+{
+    let mut text = Text::new();
+    text.add(b"late wants more than window 16");
+    text.add(b"\n");
+    text
 }
 
 /// Prints a line and its end by one call, so that lines of several runs into one pipe stay whole.
 pub(crate) fn print<O: ByteSink>(line: FollowLine, output: &mut O) -> Result<(), Fault>
     ensures printed { OnOk result (O.took output.new ≡ O.took output.old ++ ended_line line) }
+    // No memory is wanted: each line has room.
+    ensures device { IfErr result (λ f. f ≡ Fault.Device) }
     ensures unrefused { IfErr result (λ f. IfRefused f ⊥) }
     ensures failures { Accounts result (counts (O.failures output.old) (O.failures output.new)
         ∷ []) }
 {
-    let Some(text) = line_of(line) else {
-        return Err(Fault::Memory);
-    };
-    write_whole(output, text.as_bytes())?;
+    let text = text_of(line);
+    write_whole(output, text.octets())?;
     Ok(())
 }
