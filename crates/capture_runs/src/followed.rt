@@ -192,8 +192,8 @@ fn closed_sides<'a>(
 }
 
 /// Looks at the words, and at the places of the files that are written, reads the SDP where one is
-/// named, and finds by which flows each of so many files is taken that is a recording. No such file is
-/// looked at yet. It answers the values of the fill, where its text is given.
+/// named, and finds by which flows each of so many files is taken that is a recording. No such file
+/// is looked at yet. It answers the values of the fill, where its text is given.
 fn open<'a>(
     rt: &'a HostRuntime,
     asked: FollowAsked<'_>,

@@ -51,8 +51,8 @@ pub struct ReceiveCommand<'a> {
 }
 
 impl<'a> ReceiveCommand<'a> {
-    /// The command of these words, of which nothing is done yet but that the SDP is read. A meter is
-    /// told how much is read.
+    /// The command of these words, of which nothing is done yet but that the SDP is read. A meter
+    /// is told how much is read.
     pub fn new(rt: &'a HostRuntime, words: &'a ReceiveWords<'a>, meter: &Meter) -> Self
         ensures { ⟦<ReceiveCommand<'a> as Command>⟧.is_new result }
     {
