@@ -1,3 +1,4 @@
 pub mod Held
 pub mod Passed
 pub mod Written
+pub mod Filed

@@ -4,6 +4,9 @@
 //! failed, and a meter how far the reading of files is.
 #![tactic(auto)]
 
+#[cfg(test)]
+mod directories;
+mod directory_output;
 mod discard;
 mod draft;
 #[cfg(test)]
@@ -11,6 +14,7 @@ mod failing;
 mod file_output;
 mod file_sink;
 mod file_source;
+mod filed;
 mod files;
 mod history;
 mod identity;
@@ -26,10 +30,12 @@ mod place;
 mod standing;
 mod stream;
 
+pub use directory_output::{DirectoryOutput, NextFile};
 pub use discard::Discard;
 pub use file_output::{FileOutput, Rest};
 pub use file_sink::FileSink;
 pub use file_source::FileSource;
+pub use filed::Filed;
 pub use files::{
     any_is, given_files, last_begun, metered_files, named_file, named_files, one_is, reading_begun,
     reading_of,
