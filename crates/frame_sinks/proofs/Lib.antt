@@ -1,3 +1,4 @@
 pub mod Written
 pub mod Streams
 pub mod Shown
+pub mod Filed

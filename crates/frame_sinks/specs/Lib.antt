@@ -1,3 +1,4 @@
 pub mod Fills
 pub mod Pictures
 pub mod Sinks
+pub mod Files

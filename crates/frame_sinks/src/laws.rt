@@ -9,9 +9,11 @@ ghost use Rattle.follow_engine.specs.Sides.{SideRead};
 ghost use Rattle.follow_engine.specs.declared.opening.FollowAsked.{FollowAsked};
 ghost use Rattle.follow_engine.specs.declared.telling.FollowTotals.{FollowTotals};
 ghost use Rattle.following.specs.Following.{Handed};
+ghost use Rattle.frame_sinks.specs.Files.{TakesFile, files_for};
 ghost use Rattle.frame_sinks.specs.Pictures.{form_stream, pictures_of};
 ghost use Rattle.frame_sinks.specs.Sinks.{TakesBoth, TakesFrame, TakesLines, frames_report};
 ghost use Rattle.frame_sinks.specs.declared.both.BothSinks.{BothSinks};
+ghost use Rattle.frame_sinks.specs.declared.files_sink.FilesSink.{FilesSink};
 ghost use Rattle.frame_sinks.specs.declared.form_sink.FormSink.{FormSink};
 ghost use Rattle.frame_sinks.specs.declared.report_sink.ReportSink.{ReportSink};
 ghost use Rattle.picture_forms.specs.Layouts.{IsRgb, IsYcc, pixmap_text, y4m_text};
@@ -20,6 +22,7 @@ ghost use Rattle.side_by_side.specs.declared.side.Side.{Side};
 ghost use Rattle.st_format.specs.declared.format.Format.{Format};
 ghost use Rattle.st_format.specs.Picture.{Values};
 
+use crate::files_sink::PictureFiles;
 use follow_engine::PictureSink;
 use st_format::{ByteSink, ByteSource};
 use std::alloc::Allocator;
@@ -60,6 +63,14 @@ pub fn one_format()
 pub fn reported<K: ByteSink>()
     ensures { (k l : ReportSink K) (hs : List Handed) → TakesAll (TakesLines K.took) k hs l
         → K.took l.sink ≡ K.took k.sink ++ frames_report hs }
+{}
+
+/// The files that have their names of frames that a sink takes one after the other are those of the
+/// frames' pictures, octet for octet, each by the name of its timestamp.
+pub fn filed<F: PictureFiles + Drop, A: Allocator>()
+    ensures { (k l : FilesSink F A) (hs : List Handed) → TakesAll (TakesFile F.files) k hs l
+        → F.files l.files ≡ F.files k.files
+        ++ files_for hs (pictures_of k.settling.filling k.settling.fill k.settling.held hs) }
 {}
 
 /// Frames that two sinks take as one are those that each of them takes.

@@ -142,7 +142,7 @@ fn write_held<A: Allocator, B: Allocator, K: ByteSink>(
 }
 
 /// Whether a picture has the format of a frame.
-fn has_format<A: Allocator, B: Allocator>(picture: &Picture<B>, frame: &Frame<A>) -> bool
+pub(crate) fn has_format<A: Allocator, B: Allocator>(picture: &Picture<B>, frame: &Frame<A>) -> bool
     ensures is { result ≡ same_fields (fields_of picture.now.format) (fields_of frame.now.format) }
     ensures same { IsTrue result → picture.now.format ≡ frame.now.format }
 {

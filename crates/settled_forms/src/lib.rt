@@ -3,4 +3,4 @@
 
 mod settled;
 
-pub use settled::write_settled;
+pub use settled::{settle_all, write_settled};

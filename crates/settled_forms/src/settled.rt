@@ -48,8 +48,13 @@ pub fn write_settled<A: Allocator, B: Allocator, K: ByteSink>(
     write_form(sink, &format, samples)
 }
 
-/// Settles all samples of a frame.
-fn settle_all<A: Allocator, B: Allocator>(frame: &Frame<A>, base: Base<'_, B>, samples: &mut [u16])
+/// Settles all samples of a frame into `samples`, which has just the room. A base is one as for
+/// [`Frame::settle`](frame_assembly::Frame::settle).
+pub fn settle_all<A: Allocator, B: Allocator>(
+    frame: &Frame<A>,
+    base: Base<'_, B>,
+    samples: &mut [u16],
+)
     requires base { IsBaseOf base frame.now.format }
     requires room { length samples.old ≡ sample_count frame.now.format }
     ensures settled { samples.new ≡ (settled_picture frame.now base.entry).samples }
