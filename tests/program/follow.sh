@@ -240,6 +240,56 @@ pictured 'with a report' y4m 16 2 '10 80 80' 0 "$recordings/late-a.txt"
 lacks 'with pictures' "$whole
 $lost"
 
+# Each picture as a file of its own: the head of a picture's file and GStreamer's picture.
+# filed NAME FIRST: whether the folder filed has just GStreamer's two pictures, of timestamps from this one on.
+filed() {
+    stamp=$2
+    for part in 1 1153; do
+        {
+            octets '5332305049433031 0008 0020 0012 00000019 00000001'
+            tail -c +$part "$recordings/two-cards.raw" | head -c 1152
+        } >want.pic
+        alike "follow: $1, the picture of $stamp" filed/$stamp.pic want.pic
+        stamp=$((stamp + 3600))
+    done
+    rm -f filed/$2.pic filed/$(($2 + 3600)).pic
+    rmdir filed || fail "follow: $1, the pictures" "more files than two: $(ls filed)"
+}
+both='frame 900 present 1152 missing 0 contested 0 late 0
+frame 4500 present 1152 missing 0 contested 0 late 0
+frames 2 kept 16 late 0 far 0 refused 0'
+mkdir filed
+follows 'pictures as files' "$both" --sdp "$recordings/two-cards.sdp" --pictures filed "$recordings/two-cards.pcapng"
+filed 'pictures as files' 900
+# One that has the name is replaced, whichever fill there is where nothing is missing; and all three at once.
+mkdir filed
+printf 'nothing' >filed/900.pic
+follows 'all that is written' "$both" --sdp "$recordings/two-cards.sdp" --fill 1,2,3 --pictures filed/ --report lacks.txt \
+    --out pictures.out "$recordings/two-cards.pcapng"
+filed 'all that is written' 900
+lacks 'all that is written' 'frame 900 present 1152 missing 0 contested 0
+frame 4500 present 1152 missing 0 contested 0'
+rm -f pictures.out
+# Where something is missing, the picture is what convert makes of the stream's: of path A alone, filled and held.
+for words in '--fill 9,8,7' '--hold'; do
+    mkdir filed
+    # shellcheck disable=SC2086
+    run follow --sdp "$recordings/late.sdp" $words --pictures filed --out pictures.y4m "$recordings/late-a.pcap"
+    place=0
+    for stamp in 900 4500 8100 11700; do
+        run convert --nth $place pictures.y4m want.pic
+        alike "follow: path A alone $words, the picture of $stamp" filed/$stamp.pic want.pic
+        place=$((place + 1))
+    done
+    rm -r filed pictures.y4m
+done
+run follow --sdp "$recordings/late.sdp" --pictures missing "$recordings/late-a.pcap"
+says 'follow: pictures into no folder' 3 '' 'st2110: device'
+run follow --verbose --sdp "$recordings/late.sdp" --pictures missing "$recordings/late-a.pcap"
+says 'follow: verbose: pictures into no folder' 3 '' 'st2110: device
+  at missing; wanted to write there: No such file or directory (os error 2)'
+none 'follow: no folder is made' missing
+
 # Refusals, in their order: the words, the SDP, the files before their records, and their records. Where a record is at fault
 # the frames are not told that were still in.
 refuses_follow() {
@@ -323,6 +373,30 @@ done
 rm -f followed.y4m
 follows 'what was sent, exchanged' "$frames" --out followed.y4m lossy-b.cap lossy-a.cap
 alike 'follow: what was sent, exchanged, the file' followed.y4m sent.y4m
+# Each picture as a file of its own is the one that was sent; and so of forty, each three times the same.
+mkdir filed
+follows 'what was sent, as files' "$frames" --pictures filed lossy-a.cap lossy-b.cap
+alike 'follow: what was sent, as files, the first' filed/900.pic sent1.pic
+alike 'follow: what was sent, as files, the second' filed/2400.pic sent2.pic
+alike 'follow: what was sent, as files, the last' filed/3900.pic sent3.pic
+rm -r filed
+mkdir filed
+forty=
+while [ ${#forty} -lt 440 ]; do forty="$forty sent$((${#forty} / 11 % 3 + 1)).pic"; done
+# shellcheck disable=SC2086
+run send --out forty.cap --sdp q.sdp --base 900 $forty
+run follow --pictures filed forty.cap
+i=0
+for sent in $forty; do
+    cmp -s "filed/$((900 + 1500 * i)).pic" "$sent" || break
+    i=$((i + 1))
+done
+if [ $i = 40 ] && [ "$(find filed -type f | wc -l)" = 40 ]; then
+    pass 'follow: forty pictures as files'
+else
+    fail 'follow: forty pictures as files' "$i are those that were sent, of $(find filed -type f | wc -l): $(head -c 200 err)"
+fi
+rm -r filed
 # By A alone it isn't: of the packets 0 to 11 it lacks 1, 4, 7 and 10.
 rm -f followed.y4m
 follows 'what was sent, by A alone' 'frame 900 present 12 missing 4 contested 0 late 0

@@ -4,13 +4,16 @@ use Rattle.std.proofs.Common.{Result, Ok, Err}
 use Rattle.std.specs.Prelude.{IfOk, MatchResult}
 use Rattle.std.proofs.Common.{ap, append-nil, append_assoc, refl, subst, sym}
 use Rattle.capture_runs.specs.Followed.{FollowsFiles, IsListed}
-use Rattle.capture_runs.specs.Outputs.{AreSinksOver, FollowSinks, IsReportOver, SameOutputs}
-use Rattle.capture_runs.specs.Outputs.{TakesReport, outputs_under, report_failures, report_under}
+use Rattle.capture_runs.specs.Outputs.{AreSinksOver, FollowSinks, IsFilesOver, IsReportOver}
+use Rattle.capture_runs.specs.Outputs.{SameOutputs, TakesAllOver, TakesFiles, TakesReport}
+use Rattle.capture_runs.specs.Outputs.{directory_under, files_failures, files_under, outputs_under}
+use Rattle.capture_runs.specs.Outputs.{pictures_failures, report_failures, report_under}
 use Rattle.capture_runs.specs.Outputs.{sinks_failures, written_failures}
 use Rattle.capture_runs.specs.Pictured.{IsSinkOver, SameFile, TakesPictures, failures_under}
 use Rattle.capture_runs.specs.Pictured.{file_under, octets_under}
 use Rattle.capture_runs.specs.Replayed.{replayed_ended, replayed_gave}
 use Rattle.capture_runs.specs.declared.outputs.FollowOutputs.{FollowOutputs}
+use Rattle.capture_runs.specs.declared.picture_directory.PictureDirectory.{PictureDirectory}
 use Rattle.capture_runs.specs.declared.unplaced.UnplacedOutput.{UnplacedOutput}
 use Rattle.capture_runs.specs.declared.replayed.Replayed.{Replayed}
 use Rattle.devices.specs.Passed.{file_took, writing_failures}
@@ -24,11 +27,14 @@ use Rattle.follow_engine.specs.Sides.{SideRead}
 use Rattle.follow_engine.specs.declared.opening.FollowAsked.{FollowAsked}
 use Rattle.follow_engine.specs.declared.telling.FollowTotals.{FollowTotals}
 use Rattle.following.specs.Following.{Handed}
+use Rattle.frame_sinks.specs.Files.{TakesFile, files_for}
 use Rattle.frame_sinks.specs.Pictures.{form_stream, pictures_of}
 use Rattle.frame_sinks.specs.Sinks.{TakesBoth, TakesFrame, TakesLines, frames_report}
+use Rattle.frame_sinks.specs.declared.files_sink.FilesSink.{FilesSink}
 use Rattle.frame_sinks.specs.declared.filling.Filling.{Filling}
 use Rattle.frame_sinks.specs.declared.form_sink.FormSink.{FormSink}
 use Rattle.frame_sinks.specs.declared.report_sink.ReportSink.{ReportSink}
+use Rattle.frame_sinks.proofs.Filed.{all_filed}
 use Rattle.frame_sinks.proofs.Shown.{all_both, all_lines}
 use Rattle.frame_sinks.proofs.Streams.{all_written}
 use Rattle.run_outcome.specs.Fault.{Accounts, counts, failures_in}
@@ -127,6 +133,35 @@ took_report (Some f) (Some k) l hs is all =
     subst (λ (x : Option (ReportSink UnplacedOutput)). TakesReport hs (Some f) (report_under x))
     (sym r.1) (report_wrote f k r.0 hs is r.2)
 
+files_wrote : {A : Type 0} (filling : Filling) (fill : Option (List ℕ)) (d : PictureDirectory)
+    (k m : FilesSink PictureDirectory A) (hs : List Handed)
+    → IsFilesOver filling fill (Some d) (Some k) → TakesAll (TakesFile files_under) k hs m
+    → files_under m.files
+    ≡ files_under d ++ files_for hs (pictures_of filling fill None hs)
+files_wrote filling fill d k m hs is all =
+    let s = k.settling in
+    all_filed files_under k m hs all
+    ∙ ap (λ (x : PictureDirectory). files_under x
+    ++ files_for hs (pictures_of s.filling s.fill s.held hs)) is.0
+    ∙ ap (λ (x : Filling). files_under d ++ files_for hs (pictures_of x s.fill s.held hs)) is.1
+    ∙ ap (λ (x : Option (List ℕ)). files_under d
+    ++ files_for hs (pictures_of filling x s.held hs)) is.2
+    ∙ ap (λ (x : Option Values). files_under d ++ files_for hs (pictures_of filling fill x hs)) is.3
+
+took_files : {A : Type 0} (filling : Filling) (fill : Option (List ℕ))
+    (pictures : Option PictureDirectory) (k l : Option (FilesSink PictureDirectory A))
+    (hs : List Handed) → IsFilesOver filling fill pictures k
+    → TakesAll (TakesIn (TakesFile files_under)) k hs l
+    → TakesFiles filling fill hs pictures (directory_under l)
+took_files filling fill None k l hs is all =
+    ap directory_under (none_stays (TakesFile files_under) k l hs is all)
+took_files filling fill (Some d) None l hs is all = absurd is
+took_files filling fill (Some d) (Some k) l hs is all =
+    let r = some_took (TakesFile files_under) k l hs all in
+    subst (λ (x : Option (FilesSink PictureDirectory _)).
+    TakesFiles filling fill hs (Some d) (directory_under x)) (sym r.1)
+    (files_wrote filling fill d k r.0 hs is r.2)
+
 -- ---- frames that are listed
 
 listed : (hs frames : List Handed) → TakesAll IsListed frames hs (frames ++ hs)
@@ -143,15 +178,17 @@ pub follows_files : {A B : Type 0} (w : FollowAsked) (sdp : Option (List ℕ))
     (filling : Filling) (fill : Option (List ℕ)) (o : FollowOutputs)
     (k l : FollowSinks A) (took took' : List ℕ) (totals : FollowTotals)
     → AreSinksOver filling fill o k
-    → FollowsWhole w sdp ways (SideRead replayed_gave replayed_ended) files
-    (TakesBoth (TakesIn (TakesFrame octets_under)) (TakesIn (TakesLines octets_under))) k l
+    → FollowsWhole w sdp ways (SideRead replayed_gave replayed_ended) files TakesAllOver k l
     took took' totals
     → FollowsFiles w sdp ways files filling fill o (outputs_under l) took took'
 follows_files w sdp ways files filling fill o k l took took' totals over is =
     let frames : List Handed = frames_of_events (followed_events w is.opening is.entries) in
     let both =
-    all_both (TakesIn (TakesFrame octets_under)) (TakesIn (TakesLines octets_under)) k l frames
-    is.shown in
+    all_both (TakesIn (TakesFrame octets_under)) (TakesBoth (TakesIn (TakesLines octets_under))
+    (TakesIn (TakesFile files_under))) k l frames is.shown in
+    let others =
+    all_both (TakesIn (TakesLines octets_under)) (TakesIn (TakesFile files_under)) k.second l.second
+    frames both.1 in
     record {
       frames = frames;
       totals = totals;
@@ -168,7 +205,10 @@ follows_files w sdp ways files filling fill o k l took took' totals over is =
             told_totals = is.told_totals;
           };
       written = took_pictures filling fill o.out k.first l.first frames over.0 both.0;
-      reported = took_report o.report k.second l.second frames over.1 both.1;
+      reported =
+          took_report o.report k.second.first l.second.first frames over.1 others.0;
+      filed =
+          took_files filling fill o.pictures k.second.second l.second.second frames over.2 others.1;
     }
 
 -- the same by other names of the text and of the ways
@@ -177,18 +217,15 @@ pub follows_same : {A B : Type 0} (w : FollowAsked) (sdp sdp' : Option (List ℕ
     (files : List (Side B Replayed × Side B Replayed))
     (k l : FollowSinks A) (took took' : List ℕ) (totals : FollowTotals)
     → sdp ≡ sdp' → ways ≡ ways'
-    → FollowsWhole w sdp ways (SideRead replayed_gave replayed_ended) files
-    (TakesBoth (TakesIn (TakesFrame octets_under)) (TakesIn (TakesLines octets_under))) k l
+    → FollowsWhole w sdp ways (SideRead replayed_gave replayed_ended) files TakesAllOver k l
     took took' totals
-    → FollowsWhole w sdp' ways' (SideRead replayed_gave replayed_ended) files
-    (TakesBoth (TakesIn (TakesFrame octets_under)) (TakesIn (TakesLines octets_under))) k l
+    → FollowsWhole w sdp' ways' (SideRead replayed_gave replayed_ended) files TakesAllOver k l
     took took' totals
 follows_same w sdp sdp' ways ways' files k l took took' totals text way is =
-    let takes = TakesBoth (TakesIn (TakesFrame octets_under)) (TakesIn (TakesLines octets_under)) in
     subst (λ (x : Option (List ℕ)). FollowsWhole w x ways'
-    (SideRead replayed_gave replayed_ended) files takes k l took took' totals) text
+    (SideRead replayed_gave replayed_ended) files TakesAllOver k l took took' totals) text
     (subst (λ (x : List (Result Flows Refusal)). FollowsWhole w sdp x
-    (SideRead replayed_gave replayed_ended) files takes k l took took' totals) way is)
+    (SideRead replayed_gave replayed_ended) files TakesAllOver k l took took' totals) way is)
 
 -- ---- how often it failed
 
@@ -216,18 +253,42 @@ report_after : (l : Option (ReportSink UnplacedOutput))
 report_after None = refl
 report_after (Some l) = refl
 
+files_before : {A : Type 0} (filling : Filling) (fill : Option (List ℕ))
+    (pictures : Option PictureDirectory) (k : Option (FilesSink PictureDirectory A))
+    → IsFilesOver filling fill pictures k
+    → failures_in files_failures k ≡ failures_in pictures_failures pictures
+files_before filling fill None k is = ap (λ (x : Option _). failures_in files_failures x) is
+files_before filling fill (Some d) None is = absurd is
+files_before filling fill (Some d) (Some k) is = ap pictures_failures is.0
+
+files_after : {A : Type 0} (l : Option (FilesSink PictureDirectory A))
+    → failures_in files_failures l ≡ failures_in pictures_failures (directory_under l)
+files_after None = refl
+files_after (Some l) = refl
+
+sum_is : (a a' b b' c c' : ℕ) → a ≡ a' → b ≡ b' → c ≡ c' → a + (b + c) ≡ a' + (b' + c')
+sum_is a a' b b' c c' first second third =
+    ap (λ (n : ℕ). n + (b + c)) first ∙ ap (λ (n : ℕ). a' + (n + c)) second
+    ∙ ap (λ (n : ℕ). a' + (b' + n)) third
+
 pub sinks_before : {A : Type 0} (filling : Filling) (fill : Option (List ℕ)) (o : FollowOutputs)
     (k : FollowSinks A) → AreSinksOver filling fill o k → sinks_failures k ≡ written_failures o
 sinks_before filling fill o k is =
-    ap (λ (n : ℕ). n + failures_in report_failures k.second)
-    (failed_before filling fill o.out k.first is.0)
-    ∙ ap (λ (n : ℕ). failures_in writing_failures o.out + n) (report_before o.report k.second is.1)
+    sum_is (failures_in failures_under k.first) (failures_in writing_failures o.out)
+    (failures_in report_failures k.second.first) (failures_in writing_failures o.report)
+    (failures_in files_failures k.second.second) (failures_in pictures_failures o.pictures)
+    (failed_before filling fill o.out k.first is.0) (report_before o.report k.second.first is.1)
+    (files_before filling fill o.pictures k.second.second is.2)
 
 pub sinks_after : {A : Type 0} (l : FollowSinks A)
     → sinks_failures l ≡ written_failures (outputs_under l)
 sinks_after l =
-    ap (λ (n : ℕ). n + failures_in report_failures l.second) (failed_after l.first)
-    ∙ ap (λ (n : ℕ). failures_in writing_failures (file_under l.first) + n) (report_after l.second)
+    sum_is (failures_in failures_under l.first) (failures_in writing_failures (file_under l.first))
+    (failures_in report_failures l.second.first)
+    (failures_in writing_failures (report_under l.second.first))
+    (failures_in files_failures l.second.second)
+    (failures_in pictures_failures (directory_under l.second.second)) (failed_after l.first)
+    (report_after l.second.first) (files_after l.second.second)
 
 -- the same of what a run came to
 pub accounts_file : {V : Type 0} (r : Result V Fault) (a a' b b' m m' c c' : ℕ) → b ≡ m → b' ≡ m'
@@ -265,10 +326,11 @@ settled_failures (Some f) (Some g) same = same.1
 settled_written : (mid new : FollowOutputs) → SameOutputs mid new
     → written_failures new ≡ written_failures mid
 settled_written mid new same =
-    ap (λ (n : ℕ). n + failures_in writing_failures new.report)
-    (settled_failures mid.out new.out same.0)
-    ∙ ap (λ (n : ℕ). failures_in writing_failures mid.out + n)
-    (settled_failures mid.report new.report same.1)
+    sum_is (failures_in writing_failures new.out) (failures_in writing_failures mid.out)
+    (failures_in writing_failures new.report) (failures_in writing_failures mid.report)
+    (failures_in pictures_failures new.pictures) (failures_in pictures_failures mid.pictures)
+    (settled_failures mid.out new.out same.0) (settled_failures mid.report new.report same.1)
+    (ap (failures_in pictures_failures) same.2)
 
 settled_follows : {A : Type 0} (w : FollowAsked) (sdp : Option (List ℕ))
     (ways : List (Result Flows Refusal)) (files : List (Side A Replayed × Side A Replayed))
@@ -281,6 +343,9 @@ settled_follows w sdp ways files filling fill out mid new took took' is same = r
   follows = is.follows;
   written = settled_pictures filling fill is.frames out.out mid.out new.out is.written same.0;
   reported = settled_report is.frames out.report mid.report new.report is.reported same.1;
+  filed =
+      subst (λ (x : Option PictureDirectory). TakesFiles filling fill is.frames out.pictures x)
+      (sym same.2) is.filed;
 }
 
 -- ---- a run that is refused before it begins

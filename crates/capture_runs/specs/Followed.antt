@@ -1,7 +1,7 @@
 -- What `follow` opens on this machine, and refuses before it reads files (own).
 use Rattle.std.specs.Prelude.{◌≡◌, ◌⊎◌, ℕ, Bool, List, [], ◌∷◌, ◌++◌, IsTrue, Option, Result}
 use Rattle.std.specs.List.{AllByRecursion}
-use Rattle.capture_runs.specs.Outputs.{TakesReport}
+use Rattle.capture_runs.specs.Outputs.{TakesFiles, TakesReport}
 use Rattle.capture_runs.specs.Pictured.{IsFillRefusal, TakesPictures}
 use Rattle.capture_runs.specs.Refused.{IsFlowRefusal, IsTooLong}
 use Rattle.capture_runs.specs.Replayed.{replayed_ended, replayed_gave}
@@ -41,8 +41,8 @@ abbrev pub IsListed : List Handed → Handed → List Handed → Type 0
 IsListed frames h more = more ≡ frames ++ h ∷ []
 
 -- The stream of these files was followed, and told; and of all frames that left it the pictures
--- were written, one behind the other, where there is a file for them, and what they lack, where
--- there is one for that.
+-- were written, one behind the other, where there is a file for them, what they lack, where there
+-- is one for that, and each picture as a file of its own, where there is a directory for these.
 pub record FollowsFiles {A : Type 0} (w : FollowAsked) (sdp : Option (List ℕ))
     (ways : List (Result Flows Refusal)) (files : List (Side A Replayed × Side A Replayed))
     (filling : Filling) (fill : Option (List ℕ)) (outputs outputs' : FollowOutputs)
@@ -53,3 +53,4 @@ pub record FollowsFiles {A : Type 0} (w : FollowAsked) (sdp : Option (List ℕ))
       frames took took' totals
   pub written : TakesPictures filling fill frames outputs.out outputs'.out
   pub reported : TakesReport frames outputs.report outputs'.report
+  pub filed : TakesFiles filling fill frames outputs.pictures outputs'.pictures

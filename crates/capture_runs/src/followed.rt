@@ -5,17 +5,15 @@ ghost use Rattle.std.specs.Option.{option_copied};
 ghost use Rattle.capture_runs.specs.Followed.{AreNewSides, FollowsFiles, IsFollowOpening};
 ghost use Rattle.capture_runs.specs.Opened.{AreUnread, said_text};
 ghost use Rattle.capture_runs.specs.Outputs.{AreApart, AreInPlace, AreLeft, AreUnplaced};
-ghost use Rattle.capture_runs.specs.Outputs.{AreUnwritten, SameOutputs, sinks_failures};
-ghost use Rattle.capture_runs.specs.Outputs.{written_failures};
-ghost use Rattle.capture_runs.specs.Pictured.{IsFillGiven, octets_under};
+ghost use Rattle.capture_runs.specs.Outputs.{AreUnwritten, SameOutputs, TakesAllOver};
+ghost use Rattle.capture_runs.specs.Outputs.{sinks_failures, written_failures};
+ghost use Rattle.capture_runs.specs.Pictured.{IsFillGiven};
 ghost use Rattle.capture_runs.specs.Replayed.{replayed_ended, replayed_failures, replayed_gave};
 ghost use Rattle.devices.specs.Passed.{output_failures, output_took};
 ghost use Rattle.follow_engine.specs.Followed.{FollowsWhole};
 ghost use Rattle.follow_engine.specs.Refused.{IsFollowRefusal};
-ghost use Rattle.follow_engine.specs.Shown.{TakesIn};
 ghost use Rattle.follow_engine.specs.Sides.{SideRead};
 ghost use Rattle.follow_engine.specs.declared.telling.FollowTotals.{FollowTotals};
-ghost use Rattle.frame_sinks.specs.Sinks.{TakesBoth, TakesFrame, TakesLines};
 ghost use Rattle.recording_engines.specs.Ways.{AreWaysBy};
 ghost use Rattle.run_outcome.specs.Fault.{Accounts, counts};
 ghost use Rattle.run_outcome.specs.Refusing.{OfRefusal};
@@ -269,8 +267,7 @@ fn follow(
     requires { AreNewSides sides.old.items }
     ensures followed { OnOk result ((totals : FollowTotals) × FollowsWhole asked.entry
         (said_text files.old.said) files.old.ways.items (SideRead replayed_gave replayed_ended)
-        (zip sides.old.items sides.new.items)
-        (TakesBoth (TakesIn (TakesFrame octets_under)) (TakesIn (TakesLines octets_under)))
+        (zip sides.old.items sides.new.items) TakesAllOver
         sinks.old sinks.new (output_took output.old) (output_took output.new) totals) }
     ensures refusal { IfErr result (λ f. OfRefusal f (IsFollowRefusal asked.entry.frames
         asked.entry.ssrc.now (said_text files.old.said) files.old.ways.items
@@ -324,7 +321,8 @@ impl<'a> Command for FollowCommand<'a> {
     // What is printed is a line for each frame that leaves a follower, of all records of the
     // captures and recordings that were read as they go side by side, of recordings by their flows;
     // and the totals of it. What is written, where files are named for it, is the stream of the
-    // pictures of these frames, filled or held as the words say, and what a report has of them.
+    // pictures of these frames, filled or held as the words say, what a report has of them, and
+    // each picture as a file of its own.
     ghost does = { λ old new. IfOk old.opened (λ values. FollowsFiles old.asked
         (said_text old.files.said) old.files.ways.items (zip old.sides.items new.sides.items)
         old.filling values old.outputs new.outputs

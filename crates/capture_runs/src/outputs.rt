@@ -1,26 +1,31 @@
-//! The files that `follow` writes, where they are named: the pictures' stream and the report.
+//! The files that `follow` writes, where they are named: the pictures' stream, the report, and
+//! pictures as files of their own.
 ghost use Rattle.std.specs.Prelude.{◌≡◌, IfErr, IfSome, IsFalse, IsTrue, OnOk};
 ghost use Rattle.capture_runs.specs.Outputs.{AreApart, AreInPlace, AreLeft, AreSinksOver};
-ghost use Rattle.capture_runs.specs.Outputs.{AreUnplaced, AreUnwritten, IsReportOver};
-ghost use Rattle.capture_runs.specs.Outputs.{SameOutputs, outputs_under, report_under};
+ghost use Rattle.capture_runs.specs.Outputs.{AreUnplaced, AreUnwritten, IsFilesOver};
+ghost use Rattle.capture_runs.specs.Outputs.{IsReportOver, SameOutputs, directory_under};
+ghost use Rattle.capture_runs.specs.Outputs.{outputs_under, report_under};
 ghost use Rattle.devices.specs.Passed.{IsUnplaced};
 ghost use Rattle.run_outcome.specs.Refusing.{OfRefusal};
 ghost use Rattle.run_outcome.specs.declared.refusal.Refusal.TheVariants.{OutputIsInput};
 ghost use Rattle.run_outcome.specs.declared.refusal.Writer.TheVariants.{Follow};
 
 use crate::opening::is_read;
+use crate::picture_directory::{
+    PictureDirectory, directory_writing, find_directory, named_directory,
+};
 use crate::pictured::{file_of, find_place, named_output, settle, sink_over, writing};
 use crate::unplaced::UnplacedOutput;
 use command_line::FollowWords;
 use devices::{FileOutput, Writing};
-use frame_sinks::{BothSinks, Filling, FormSink, ReportSink};
+use frame_sinks::{BothSinks, FilesSink, Filling, FormSink, ReportSink};
 use run_outcome::Fault;
 use std::mem;
 
-/// A sink of frames over each file that is written.
+/// A sink of frames over each file that is written, and over the directory.
 pub(crate) type FollowSinks<'a> = BothSinks<
     Option<FormSink<UnplacedOutput<'a>>>,
-    Option<ReportSink<UnplacedOutput<'a>>>,
+    BothSinks<Option<ReportSink<UnplacedOutput<'a>>>, Option<FilesSink<PictureDirectory<'a>>>>,
 >;
 
 /// The files that `follow` writes, those of them that are named.
@@ -30,6 +35,8 @@ pub struct FollowOutputs<'a> {
     pub out: Option<FileOutput<'a>>,
     /// What each frame lacks.
     pub report: Option<FileOutput<'a>>,
+    /// Each picture as a file of its own.
+    pub pictures: Option<PictureDirectory<'a>>,
 }
 
 impl<'a> FollowOutputs<'a> {
@@ -41,6 +48,7 @@ impl<'a> FollowOutputs<'a> {
         FollowOutputs {
             out: named_output(rt, words.out),
             report: named_output(rt, words.report),
+            pictures: named_directory(rt, words.pictures),
         }
     }
 
@@ -51,6 +59,7 @@ impl<'a> FollowOutputs<'a> {
         FollowOutputs {
             out: mem::replace(&mut self.out, None),
             report: mem::replace(&mut self.report, None),
+            pictures: mem::replace(&mut self.pictures, None),
         }
     }
 
@@ -68,7 +77,9 @@ impl<'a> FollowOutputs<'a> {
             (λ r. (r ≡ OutputIsInput Follow) × IsTrue is_input)) }
     {
         find_place(&mut self.out, is_input)?;
-        find_place(&mut self.report, is_input)
+        find_place(&mut self.report, is_input)?;
+        find_directory(&mut self.pictures)?;
+        Ok(())
     }
 
     /// Ends their writing, and tells whether that went well: the report's first, and where it could
@@ -90,10 +101,18 @@ impl<'a> FollowOutputs<'a> {
 
     /// How the writing went of the one that failed, or else of the first one.
     pub(crate) fn writing(&self) -> Option<Writing<'_>> {
-        match writing(&self.report) {
-            Some(report) if report.has_failed => Some(report),
-            report => writing(&self.out).or(report),
-        }
+        let report = writing(&self.report);
+        let pictures = directory_writing(&self.pictures);
+        let failed = failed_of(report).or(failed_of(pictures));
+        failed.or(writing(&self.out)).or(report).or(pictures)
+    }
+}
+
+/// A writing that failed, where it did.
+fn failed_of(writing: Option<Writing<'_>>) -> Option<Writing<'_>> {
+    match writing {
+        Some(writing) if writing.has_failed => Some(writing),
+        _ => None,
     }
 }
 
@@ -117,7 +136,10 @@ pub(crate) fn sinks_over<'a>(
 {
     BothSinks {
         first: sink_over(rt, filling, fill, outputs.out),
-        second: report_over(outputs.report),
+        second: BothSinks {
+            first: report_over(outputs.report),
+            second: files_over(rt, filling, fill, outputs.pictures),
+        },
     }
 }
 
@@ -134,6 +156,21 @@ fn report_over<'a>(report: Option<FileOutput<'a>>) -> Option<ReportSink<Unplaced
     }
 }
 
+/// A sink of pictures over the directory, where there is one.
+fn files_over<'a>(
+    rt: &HostRuntime,
+    filling: Filling,
+    fill: Option<[u16; 3]>,
+    pictures: Option<PictureDirectory<'a>>,
+) -> Option<FilesSink<PictureDirectory<'a>>>
+    ensures { IsFilesOver filling fill pictures.entry result }
+{
+    match pictures {
+        Some(pictures) => Some(FilesSink::new(rt.alloc(), filling, fill, pictures)),
+        None => None,
+    }
+}
+
 /// The files below sinks.
 pub(crate) fn outputs_of<'a>(sinks: FollowSinks<'a>) -> FollowOutputs<'a>
     ensures files { result ≡ outputs_under sinks.entry }
@@ -141,7 +178,8 @@ pub(crate) fn outputs_of<'a>(sinks: FollowSinks<'a>) -> FollowOutputs<'a>
 {
     FollowOutputs {
         out: file_of(sinks.first),
-        report: report_of(sinks.second),
+        report: report_of(sinks.second.first),
+        pictures: pictures_of(sinks.second.second),
     }
 }
 
@@ -163,4 +201,14 @@ fn file_reported<'a>(report: ReportSink<UnplacedOutput<'a>>) -> FileOutput<'a>
 {
     let below = report.sink;
     below.file
+}
+
+/// The directory below a sink of pictures, where there is one.
+fn pictures_of<'a>(sink: Option<FilesSink<PictureDirectory<'a>>>) -> Option<PictureDirectory<'a>>
+    ensures { result ≡ directory_under sink.entry }
+{
+    match sink {
+        Some(sink) => Some(sink.into_files()),
+        None => None,
+    }
 }

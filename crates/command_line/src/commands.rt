@@ -399,6 +399,12 @@ const FOLLOWED: &[Word] = &[
             pixmaps; - is standard output, and the lines then go to standard error",
     },
     Word {
+        name: "pictures",
+        usage: Usage::Optional("DIR"),
+        help: "The directory where each frame is written as a picture's file, by the name of its \
+            timestamp",
+    },
+    Word {
         name: "report",
         usage: Usage::Optional("FILE"),
         help: "Where it is written what is missing and contested of each frame, as report tells it \

@@ -262,6 +262,8 @@ pub struct FollowWords<'a> {
     pub is_eager: bool,
     /// The file of the pictures, where they are written.
     pub out: Option<&'a str>,
+    /// The directory of the pictures' files, where each is written by itself.
+    pub pictures: Option<&'a str>,
     /// The file of what each frame lacks, where that is written.
     pub report: Option<&'a str>,
     /// The text of the fill, where one is given.
@@ -521,6 +523,7 @@ fn follow_words<'a>(alloc: Global, given: &ArgMatches<'a>) -> Result<FollowWords
         ssrc: word(given, "ssrc"),
         is_eager: given.get_flag("eager"),
         out: given.get_str("out"),
+        pictures: given.get_str("pictures"),
         report: given.get_str("report"),
         fill: given.get_str("fill"),
         is_held: given.get_flag("hold"),

@@ -2,17 +2,15 @@ use Rattle.std.proofs.Common.{◌∙◌, ap, subst, sym}
 use Rattle.std.specs.List.{zip}
 use Rattle.capture_runs.specs.Followed.{FollowsFiles}
 use Rattle.capture_runs.specs.Opened.{said_text}
-use Rattle.capture_runs.specs.Outputs.{AreSinksOver, sinks_failures, written_failures}
-use Rattle.capture_runs.specs.Pictured.{octets_under}
+use Rattle.capture_runs.specs.Outputs.{AreSinksOver, TakesAllOver, sinks_failures}
+use Rattle.capture_runs.specs.Outputs.{written_failures}
 use Rattle.capture_runs.specs.Replayed.{replayed_ended, replayed_failures, replayed_gave}
 use Rattle.capture_runs.specs.declared.outputs.FollowOutputs.{FollowOutputs}
 use Rattle.capture_runs.proofs.FileUnder.{accounts_file, follows_files, sinks_after, sinks_before}
 use Rattle.devices.specs.Passed.{output_failures, output_took}
 use Rattle.follow_engine.specs.Followed.{FollowsWhole}
-use Rattle.follow_engine.specs.Shown.{TakesIn}
 use Rattle.follow_engine.specs.Sides.{SideRead}
 use Rattle.follow_engine.specs.declared.telling.FollowTotals.{FollowTotals}
-use Rattle.frame_sinks.specs.Sinks.{TakesBoth, TakesFrame, TakesLines}
 use Rattle.run_outcome.proofs.Printed.{on_ok}
 use Rattle.side_by_side.specs.Sides.{failures_each}
 use Rattle.capture_runs.proofs.followed.follow_into.Goals as goal
@@ -35,8 +33,7 @@ returns-clause-followed c =
     c.take-taken.ensures c.sinks_over-sinks.ensures in
     on_ok c.follow-followed.result
     ((totals : FollowTotals) × FollowsWhole w said ways (SideRead replayed_gave replayed_ended)
-    files (TakesBoth (TakesIn (TakesFrame octets_under)) (TakesIn (TakesLines octets_under))) k l
-    took took' totals)
+    files TakesAllOver k l took took' totals)
     (FollowsFiles w said ways files c.args.filling c.args.fill c.args.outputs.now
     c.outputs_of.result took took')
     (λ is. subst (λ (o : FollowOutputs). FollowsFiles w said ways files c.args.filling c.args.fill
