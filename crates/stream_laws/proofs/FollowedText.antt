@@ -8,7 +8,10 @@ use Rattle.capture_engines.specs.declared.sender.Sending.{Sending}
 use Rattle.capture_runs.specs.Followed.{FollowsFiles, IsListed}
 use Rattle.capture_runs.specs.Outputs.{outputs_of}
 use Rattle.capture_runs.specs.Replayed.{replayed_ended, replayed_gave}
+use Rattle.capture_runs.specs.declared.outputs.FollowOutputs.{FollowOutputs}
+use Rattle.capture_runs.specs.declared.picture_directory.PictureDirectory.{PictureDirectory}
 use Rattle.capture_runs.specs.declared.replayed.Replayed.{Replayed}
+use Rattle.devices.specs.Filed.{filed_files}
 use Rattle.devices.specs.Passed.{file_took}
 use Rattle.devices.specs.declared.file_output.FileOutput.{FileOutput}
 use Rattle.flow.specs.declared.flows.Flows.{Flows}
@@ -24,6 +27,7 @@ use Rattle.follow_engine.specs.declared.telling.FollowTotals.{FollowTotals}
 use Rattle.following.specs.Follower.{opened}
 use Rattle.following.specs.Following.{Handed}
 use Rattle.following.specs.Pictures.{BroughtAll, pictures_from}
+use Rattle.frame_sinks.specs.Files.{files_for}
 use Rattle.frame_sinks.specs.Pictures.{form_stream, held_by, picture_of, pictures_of}
 use Rattle.frame_sinks.specs.Sinks.{TakesFrame}
 use Rattle.frame_sinks.specs.declared.filling.Filling.{Filling}
@@ -187,10 +191,9 @@ all_listed (h ∷ hs) old new is =
 
 module _ {A : Type 0} (w : FollowAsked) (sdp : Option (List ℕ))
     (ways : List (Result Flows Refusal)) (files : List (Side A Replayed × Side A Replayed))
-    (filling : Filling) (fill : Option (List ℕ)) (out out' : FileOutput)
-    (report report' : Option FileOutput) (printed printed' : List ℕ)
-    (is : FollowsFiles w sdp ways files filling fill (outputs_of (Some out) report)
-    (outputs_of (Some out') report') printed printed')
+    (filling : Filling) (fill : Option (List ℕ)) (outputs outputs' : FollowOutputs)
+    (printed printed' : List ℕ)
+    (is : FollowsFiles w sdp ways files filling fill outputs outputs' printed printed')
   where
     abbrev Told : Side A Replayed × Side A Replayed → List ℕ → Type 0
     Told = SideRead replayed_gave replayed_ended
@@ -210,27 +213,70 @@ module _ {A : Type 0} (w : FollowAsked) (sdp : Option (List ℕ))
         ∙ sent_frames Told IsListed w sdp ways files [] is.frames printed printed' is.totals
         is.follows wanted text format ps capture sent bring awaits time
 
+module _ {A : Type 0} (w : FollowAsked) (sdp : Option (List ℕ))
+    (ways : List (Result Flows Refusal)) (files : List (Side A Replayed × Side A Replayed))
+    (filling : Filling) (fill : Option (List ℕ)) (out out' : FileOutput)
+    (report report' : Option FileOutput) (directory directory' : Option PictureDirectory)
+    (printed printed' : List ℕ)
+    (is : FollowsFiles w sdp ways files filling fill (outputs_of (Some out) report directory)
+    (outputs_of (Some out') report' directory') printed printed')
+  where
+    abbrev before : FollowOutputs
+    before = outputs_of (Some out) report directory
+
+    abbrev behind : FollowOutputs
+    behind = outputs_of (Some out') report' directory'
+
     pub file_ycc : (wanted : Sending) (text : List ℕ) (format : Format) (p : Values)
         (ps : List Values) (capture : List ℕ)
         (sent : IsSentFile wanted text format (p ∷ ps) capture)
-        → BringDatagrams Told ways files sent.datagrams
-        → AwaitsPictures o (run_sender format wanted) (p ∷ ps)
-        → IsInTime w o wanted.base is.follows.entries → IsYcc format.sampling
+        → BringDatagrams (SideRead replayed_gave replayed_ended) ways files sent.datagrams
+        → AwaitsPictures is.follows.opening (run_sender format wanted) (p ∷ ps)
+        → IsInTime w is.follows.opening wanted.base is.follows.entries → IsYcc format.sampling
         → file_took out' ≡ file_took out ++ y4m_text format (p ∷ ps)
     file_ycc wanted text format p ps capture sent bring awaits time ycc =
         is.written
         ∙ ap (λ (t : List ℕ). file_took out ++ t)
         (ycc_text wanted text format capture filling fill None is.frames p ps sent awaits.whole
-        (file_frames wanted text format (p ∷ ps) capture sent bring awaits time) ycc)
+        (file_frames w sdp ways files filling fill before behind printed printed' is wanted text
+        format (p ∷ ps) capture sent bring awaits time) ycc)
 
     pub file_rgb : (wanted : Sending) (text : List ℕ) (format : Format) (ps : List Values)
         (capture : List ℕ) (sent : IsSentFile wanted text format ps capture)
-        → BringDatagrams Told ways files sent.datagrams
-        → AwaitsPictures o (run_sender format wanted) ps
-        → IsInTime w o wanted.base is.follows.entries → IsRgb format.sampling
+        → BringDatagrams (SideRead replayed_gave replayed_ended) ways files sent.datagrams
+        → AwaitsPictures is.follows.opening (run_sender format wanted) ps
+        → IsInTime w is.follows.opening wanted.base is.follows.entries → IsRgb format.sampling
         → file_took out' ≡ file_took out ++ flat_map pixmap_text ps
     file_rgb wanted text format ps capture sent bring awaits time rgb =
         is.written
         ∙ ap (λ (t : List ℕ). file_took out ++ t)
         (rgb_text wanted text format capture filling fill None is.frames ps sent awaits.whole
-        (file_frames wanted text format ps capture sent bring awaits time) rgb)
+        (file_frames w sdp ways files filling fill before behind printed printed' is wanted text
+        format ps capture sent bring awaits time) rgb)
+
+-- ---- into the command's directory
+
+module _ {A : Type 0} (w : FollowAsked) (sdp : Option (List ℕ))
+    (ways : List (Result Flows Refusal)) (files : List (Side A Replayed × Side A Replayed))
+    (filling : Filling) (fill : Option (List ℕ)) (out out' report report' : Option FileOutput)
+    (directory directory' : PictureDirectory) (printed printed' : List ℕ)
+    (is : FollowsFiles w sdp ways files filling fill (outputs_of out report (Some directory))
+    (outputs_of out' report' (Some directory')) printed printed')
+  where
+    pub picture_files : (wanted : Sending) (text : List ℕ) (format : Format) (ps : List Values)
+        (capture : List ℕ) (sent : IsSentFile wanted text format ps capture)
+        → BringDatagrams (SideRead replayed_gave replayed_ended) ways files sent.datagrams
+        → AwaitsPictures is.follows.opening (run_sender format wanted) ps
+        → IsInTime w is.follows.opening wanted.base is.follows.entries
+        → filed_files directory'.directory ≡ filed_files directory.directory
+        ++ files_for (pictures_from (run_sender format wanted) 0 ps) ps
+    picture_files wanted text format ps capture sent bring awaits time =
+        let s : Sender = run_sender format wanted in
+        let kept : List (List ℕ × List ℕ) = filed_files directory.directory in
+        is.filed
+        ∙ ap (λ (hs : List Handed). kept ++ files_for hs (pictures_of filling fill None hs))
+        (file_frames w sdp ways files filling fill (outputs_of out report (Some directory))
+        (outputs_of out' report' (Some directory')) printed printed' is wanted text format ps
+        capture sent bring awaits time)
+        ∙ ap (λ (qs : List Values). kept ++ files_for (pictures_from s 0 ps) qs)
+        (pictures_whole filling fill None s 0 ps awaits.whole)

@@ -11,7 +11,8 @@
 //!   missing: `sender_stream`; and settled these are the pictures, by whatever fill:
 //!   `whole_pictures`.
 //! - So what was sent and followed is the pictures' file, octet for octet: `sent_and_followed`, and
-//!   as a file of the command `sent_and_followed_file`.
+//!   as a file of the command `sent_and_followed_file`; or each picture's own file:
+//!   `sent_and_followed_pictures`.
 ghost use Rattle.std.specs.Prelude.{◌≡◌, ◌∷◌, ◌++◌, ℕ, List, None, Option, Result, Some};
 ghost use Rattle.std.specs.List.{flat_map};
 ghost use Rattle.capture_engines.specs.Files.{files_datagrams};
@@ -20,7 +21,9 @@ ghost use Rattle.capture_engines.specs.declared.sender.Sending.{Sending};
 ghost use Rattle.capture_runs.specs.Followed.{FollowsFiles};
 ghost use Rattle.capture_runs.specs.Outputs.{outputs_of};
 ghost use Rattle.capture_runs.specs.Replayed.{replayed_ended, replayed_gave};
+ghost use Rattle.capture_runs.specs.declared.picture_directory.PictureDirectory.{PictureDirectory};
 ghost use Rattle.capture_runs.specs.declared.replayed.Replayed.{Replayed};
+ghost use Rattle.devices.specs.Filed.{filed_files};
 ghost use Rattle.devices.specs.Passed.{file_took};
 ghost use Rattle.devices.specs.declared.file_output.FileOutput.{FileOutput};
 ghost use Rattle.flow.specs.declared.flows.Flows.{Flows};
@@ -35,6 +38,7 @@ ghost use Rattle.follow_engine.specs.declared.telling.FollowTotals.{FollowTotals
 ghost use Rattle.following.specs.Follower.{opened};
 ghost use Rattle.following.specs.Following.{Handed};
 ghost use Rattle.following.specs.Pictures.{BroughtAll, pictures_from};
+ghost use Rattle.frame_sinks.specs.Files.{files_for};
 ghost use Rattle.frame_sinks.specs.Pictures.{pictures_of};
 ghost use Rattle.frame_sinks.specs.Sinks.{TakesFrame};
 ghost use Rattle.frame_sinks.specs.declared.filling.Filling.{Filling};
@@ -169,10 +173,10 @@ pub fn sent_and_followed_file<B: Allocator>()
         (ways : List (Result Flows Refusal))
         (files : List (Side B Replayed × Side B Replayed)) (filling : Filling)
         (fill : Option (List ℕ)) (out out' : FileOutput) (report report' : Option FileOutput)
-        (printed printed' : List ℕ)
+        (directory directory' : Option PictureDirectory) (printed printed' : List ℕ)
         (sent : IsSentFile wanted text format (first ∷ others) capture)
-        (is : FollowsFiles w sdp ways files filling fill (outputs_of (Some out) report)
-        (outputs_of (Some out') report') printed printed') →
+        (is : FollowsFiles w sdp ways files filling fill (outputs_of (Some out) report directory)
+        (outputs_of (Some out') report' directory') printed printed') →
         BringDatagrams (SideRead replayed_gave replayed_ended) ways files sent.datagrams →
         AwaitsPictures is.follows.opening (run_sender format wanted) (first ∷ others) →
         IsInTime w is.follows.opening wanted.base is.follows.entries →
@@ -183,13 +187,33 @@ pub fn sent_and_followed_file<B: Allocator>()
         (ways : List (Result Flows Refusal))
         (files : List (Side B Replayed × Side B Replayed)) (filling : Filling)
         (fill : Option (List ℕ)) (out out' : FileOutput) (report report' : Option FileOutput)
-        (printed printed' : List ℕ)
+        (directory directory' : Option PictureDirectory) (printed printed' : List ℕ)
         (sent : IsSentFile wanted text format pictures capture)
-        (is : FollowsFiles w sdp ways files filling fill (outputs_of (Some out) report)
-        (outputs_of (Some out') report') printed printed') →
+        (is : FollowsFiles w sdp ways files filling fill (outputs_of (Some out) report directory)
+        (outputs_of (Some out') report' directory') printed printed') →
         BringDatagrams (SideRead replayed_gave replayed_ended) ways files sent.datagrams →
         AwaitsPictures is.follows.opening (run_sender format wanted) pictures →
         IsInTime w is.follows.opening wanted.base is.follows.entries →
         IsRgb format.sampling →
         file_took out' ≡ file_took out ++ flat_map pixmap_text pictures }
+{}
+
+/// And of its pictures as files: the files that took their names are those of the pictures that
+/// `send` was given, of any sampling, each octet for octet, by its timestamp.
+pub fn sent_and_followed_pictures<B: Allocator>()
+    ensures { (wanted : Sending) (text : List ℕ) (format : Format) (pictures : List Values)
+        (capture : List ℕ) (w : FollowAsked) (sdp : Option (List ℕ))
+        (ways : List (Result Flows Refusal))
+        (files : List (Side B Replayed × Side B Replayed)) (filling : Filling)
+        (fill : Option (List ℕ)) (out out' report report' : Option FileOutput)
+        (directory directory' : PictureDirectory) (printed printed' : List ℕ)
+        (sent : IsSentFile wanted text format pictures capture)
+        (is : FollowsFiles w sdp ways files filling fill
+        (outputs_of out report (Some directory)) (outputs_of out' report' (Some directory'))
+        printed printed') →
+        BringDatagrams (SideRead replayed_gave replayed_ended) ways files sent.datagrams →
+        AwaitsPictures is.follows.opening (run_sender format wanted) pictures →
+        IsInTime w is.follows.opening wanted.base is.follows.entries →
+        filed_files directory'.directory ≡ filed_files directory.directory
+        ++ files_for (pictures_from (run_sender format wanted) 0 pictures) pictures }
 {}
