@@ -22,3 +22,5 @@ pub mod NoTraceRefusals
 pub mod NoSendRefusals
 pub mod NoInspectRefusals
 pub mod NoMigrateRefusals
+pub mod NoConvertRefusals
+pub mod NoPictureRefusals

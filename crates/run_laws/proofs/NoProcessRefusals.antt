@@ -45,7 +45,7 @@ use Rattle.run_laws.proofs.Receiving.{was_read}
 -- ---- the frames of files
 
 -- a file is that of one receiver, refusals aside
-one_receiver : (octets : List ℕ) (r s : State) → IsReceiverFile octets r → IsReceiverFile octets s
+pub one_receiver : (octets : List ℕ) (r s : State) → IsReceiverFile octets r → IsReceiverFile octets s
     → IsAgain r s
 one_receiver octets r s a b =
     let kept : kept_of s ≡ kept_of r =
@@ -59,10 +59,10 @@ one_receiver octets r s a b =
     }
 
 -- a receiver's frame of a timestamp, where its window has it
-abbrev frame_for : ℕ → State → Option Raster
+abbrev pub frame_for : ℕ → State → Option Raster
 frame_for ts r = frame_at r.opening.window r.frames ts
 
-same_frame : (ts : ℕ) (r s : State) → IsAgain r s → frame_for ts s ≡ frame_for ts r
+pub same_frame : (ts : ℕ) (r s : State) → IsAgain r s → frame_for ts s ≡ frame_for ts r
 same_frame ts r s again =
     ap (λ (o : Opening). frame_at o.window s.frames ts) again.opening
     ∙ ap (λ (qs : List Raster). frame_at r.opening.window qs ts) again.frames
@@ -80,7 +80,7 @@ frame_by t ts w r q rest true same e later = inl (eqb-true ts t same)
 frame_by t ts w r q rest false same e later = inr (later e)
 
 -- where there is a frame of a timestamp, the window has it
-frame_inside : (ts : ℕ) (w : List ℕ) (rs : List Raster) (q : Raster) → frame_at w rs ts ≡ Some q
+pub frame_inside : (ts : ℕ) (w : List ℕ) (rs : List Raster) (q : Raster) → frame_at w rs ts ≡ Some q
     → IsMember ts w
 frame_inside ts [] rs q e = absurd (no_frame q e)
 frame_inside ts (t ∷ w) [] q e = absurd (no_frame q e)
@@ -91,13 +91,13 @@ frame_inside ts (t ∷ w) (r ∷ rs) q e =
 abbrev Found : Type 0
 Found = Option Raster
 
-abbrev found : Raster → Found
+abbrev pub found : Raster → Found
 found q = Some q
 
 abbrev first_of : List Found → Found
 first_of fs = get_or fs 0 None
 
-same_raster : (q p : Raster) → found q ≡ found p → q ≡ p
+pub same_raster : (q p : Raster) → found q ≡ found p → q ≡ p
 same_raster q p h = cc
 
 -- Lists of frames that are the same where they are found are the same.
@@ -184,7 +184,7 @@ module _ {S : Type 0} (gave : S → List ℕ) (ended : S → Type 0) where
       ∙ ap (λ (fs : List Found). frame_for ts r ∷ fs) (same_frames ts ss rs qs a.1 b.1)
 
   -- and a held picture's file is that of a picture of one format
-  same_held_for : (hold : Option (S × S)) (held other : Option Values) (qs : List Raster)
+  pub same_held_for : (hold : Option (S × S)) (held other : Option Values) (qs : List Raster)
       → SaysHeld (WasRead gave ended) hold held → SaysHeld (WasRead gave ended) hold other
       → IsHeldFor held qs → IsHeldFor other qs
   same_held_for None None None qs a b is = tt

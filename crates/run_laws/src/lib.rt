@@ -18,6 +18,7 @@ pub use sent::{
     sent_and_received, sent_file, written_again,
 };
 pub use unrefused::{
-    export_unrefused, loop_unrefused, merge_unrefused, process_unrefused, rehearse_unrefused,
-    report_unrefused, sdp_unrefused, trace_unrefused,
+    convert_unrefused, export_unrefused, inspect_unrefused, loop_unrefused, merge_unrefused,
+    migrate_unrefused, picture_unrefused, process_unrefused, rehearse_unrefused, report_unrefused,
+    sdp_unrefused, send_unrefused, trace_unrefused,
 };

@@ -30,6 +30,11 @@ ghost use Rattle.script_engines.specs.Described.{Describes, IsUndescribed};
 ghost use Rattle.script_engines.specs.Reading.{DoesScript, IsRefusedFor};
 ghost use Rattle.script_engines.specs.Rehearsed.{IsRefusedScript, Rehearses};
 ghost use Rattle.script_engines.specs.Traced.{IsUntraced, Traces};
+ghost use Rattle.convert_engine.specs.Converting.{Converts, IsConvertRefusal};
+ghost use Rattle.convert_engine.specs.declared.converting.Conversion.{Conversion};
+ghost use Rattle.picture_engine.specs.Refused.{IsShowRefusal};
+ghost use Rattle.picture_engine.specs.Shown.{ShowsFrame};
+ghost use Rattle.picture_engine.specs.declared.asked.PictureAsked.{PictureAsked};
 ghost use Rattle.export_engine.specs.ExportRefused.{IsExportRefusal};
 ghost use Rattle.export_engine.specs.Exported.{PrintsExported};
 ghost use Rattle.inspect_engine.specs.Told.{IsInspectRefusal, Tells};
@@ -134,4 +139,24 @@ pub fn migrate_unrefused<D: ByteSource, S: ByteSource>()
         → SaysCaptureText (IsRead (D.gave sdp) (D.gave sdp_later) (D.ended sdp_later))
         → IsMigrateRefusal (IsRead (D.gave sdp) (D.gave sdp_later) (D.ended sdp_later))
         (IsRead (S.gave source) (S.gave later) (S.ended later)) r → ⊥ }
+{}
+
+/// The same of a run of `convert` (`converted` there).
+pub fn convert_unrefused<S: ByteSource>()
+    ensures { (asked : Conversion) (source later : S) (old new : List ℕ) (r : Refusal)
+        → Converts asked (IsRead (S.gave source) (S.gave later) (S.ended later)) old new
+        → AreOctets (since (S.gave source) (S.gave later))
+        → IsConvertRefusal asked (IsRead (S.gave source) (S.gave later) (S.ended later)) r → ⊥ }
+{}
+
+/// The same of a run of `picture` (`shown` there).
+pub fn picture_unrefused<S: ByteSource>()
+    ensures { (asked : PictureAsked) (state later : S) (hold : Option (S × S)) (old new : List ℕ)
+        (r : Refusal)
+        → ShowsFrame (IsRead (S.gave state) (S.gave later) (S.ended later))
+        (WasRead S.gave S.ended) hold asked old new
+        → AreOctets (since (S.gave state) (S.gave later))
+        → ((s : S × S) → hold ≡ Some s → AreOctets (read_of S.gave s))
+        → IsShowRefusal (IsRead (S.gave state) (S.gave later) (S.ended later))
+        (WasRead S.gave S.ended) hold asked r → ⊥ }
 {}
