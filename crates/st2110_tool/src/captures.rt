@@ -16,6 +16,7 @@ ghost use Rattle.capture_engines.specs.Taking.{Receives};
 ghost use Rattle.capture_engines.specs.Migrating.{LeavesAt, LeavesOff, PrintsMigrated, passed};
 ghost use Rattle.capture_engines.specs.MigrateRefused.{IsMigrateRefusal};
 ghost use Rattle.run_outcome.specs.Text.{GivesText};
+ghost use Rattle.run_outcome.specs.TextRefusals.{SaysCaptureText};
 ghost use Rattle.capture_engines.specs.Looped.{IsLoopRefusal};
 ghost use Rattle.capture_engines.specs.Looping.{Loops};
 
@@ -166,6 +167,9 @@ where
         (GivesText 65535 (D.gave sdp.old) (D.gave sdp.new) (D.ended sdp.new))
         (S.gave source.old) (S.gave source.new) (S.ended source.new)
         (K.took sink.old) (K.took sink.new) (O.took output.old) (O.took output.new) }
+    // The text describes a video.
+    ensures described { result ≡ 0 → SaysCaptureText
+        (IsRead (D.gave sdp.old) (D.gave sdp.new) (D.ended sdp.new)) }
     // What is told is the first refusal that speaks against the text and the capture, and the
     // capture was written up to it.
     ensures told { result ≡ 1

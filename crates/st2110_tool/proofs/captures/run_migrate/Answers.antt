@@ -70,3 +70,8 @@ returns-clause-told g c =
     (g.F.ByteSink.took c.args.faults.now) (g.F.ByteSink.took c.end.new.faults)
     (c.end.ensures.told one)
     (refused_left Is run.result Said over old new run.ensures.refusal run.ensures.left)
+
+pub returns-clause-described : goal.returns-clause-described
+returns-clause-described g c =
+    let run = c.migrate-outcome in
+    λ is. on_done run.result _ (c.end.ensures.done is) run.ensures.described

@@ -1,0 +1,239 @@
+//! The engines of recordings, each with its status.
+ghost use Rattle.std.specs.Prelude.{◌≡◌, ◌≢◌, ◌⊎◌, ◌∷◌, ◌++◌, [], false, IfErr, None, OnOk, length};
+ghost use Rattle.std.specs.Prelude.{List, sum_by};
+ghost use Rattle.std.specs.List.{zip};
+ghost use Rattle.std.specs.Option.{option_copied};
+ghost use Rattle.export_engine.specs.ExportRefused.{IsExportRefusal};
+ghost use Rattle.export_engine.specs.Exported.{PrintsExported};
+ghost use Rattle.inspect_engine.specs.Told.{IsInspectRefusal, Tells};
+ghost use Rattle.recording_engines.specs.Files.{AllClosed, ended_by, failures_by, gave_by};
+ghost use Rattle.recording_engines.specs.Imported.{Imports, IsImportRefusal};
+ghost use Rattle.recording_engines.specs.declared.importing.ImportCounts.{ImportCounts as Sums};
+ghost use Rattle.run_outcome.specs.Fault.{Accounts, IfRefused, StatusBlames, counts};
+ghost use Rattle.run_outcome.specs.Moments.{WasRead};
+ghost use Rattle.run_outcome.specs.Refusing.{OfRefusal, TellsRefusal};
+ghost use Rattle.run_outcome.specs.Telling.{memory_line};
+ghost use Rattle.run_outcome.specs.Text.{GivesText};
+ghost use Rattle.st_format.specs.History.{IsRead};
+ghost use Rattle.stream_inspection.specs.Told.{IsStreamsRefusal, Tells as TellsStreams};
+
+use capture_engines::Seen;
+use export_engine::{Exporting, export};
+use flow::Flows;
+use inspect_engine::{Form, inspect};
+use recording_engines::{FlowWords, ImportFile, import};
+use run_outcome::{Fault, Refusal, end};
+use st_format::{ByteSink, ByteSource};
+use std::alloc::Allocator;
+use stream_inspection::{Form as StreamForm, Wanted as StreamWanted, inspect_streams};
+
+/// Makes a capture of captures and of recordings of other tools, and prints `recorded A N B M left
+/// out K` to `output`; as `import` of `recording_engines`, whose words tell what is written.
+///
+/// The status is 0; or 1 where the SDP, a word for a flow, the flows or a file is refused, or where
+/// there are more than 16,777,216 records, and then nothing is printed; 3 where a device failed,
+/// and 4 where the allocator refused memory. `faults` is told of it by one line.
+pub fn run_import<A, D, S, K, O, F>(
+    alloc: A,
+    wanted: FlowWords<'_>,
+    sdp: &mut D,
+    files: &mut [ImportFile<A, S>],
+    capture: &mut K,
+    output: &mut O,
+    faults: &mut F,
+) -> u8
+where
+    A: Allocator + Copy,
+    D: ByteSource,
+    S: ByteSource + Drop,
+    K: ByteSink,
+    O: ByteSink,
+    F: ByteSink,
+    requires { AllClosed files.old }
+    ensures range { (result ≡ 0) ⊎ (result ≡ 1) ⊎ (result ≡ 3) ⊎ (result ≡ 4) }
+    ensures failures { StatusBlames result (counts (D.failures sdp.old) (D.failures sdp.new)
+        ∷ counts (sum_by (failures_by S.failures) files.old)
+        (sum_by (failures_by S.failures) files.new)
+        ∷ counts (K.failures capture.old) (K.failures capture.new)
+        ∷ counts (O.failures output.old) (O.failures output.new)
+        ∷ counts (F.failures faults.old) (F.failures faults.new) ∷ []) }
+    // What was read of the files is all of them, up to their ends; what is written is the capture
+    // of their records, and what is printed counts it.
+    ensures imported { result ≡ 0 → (sums : Sums) × Imports
+        (option_copied wanted.entry.a) (option_copied wanted.entry.b)
+        (GivesText 65535 (D.gave sdp.old) (D.gave sdp.new) (D.ended sdp.new))
+        (WasRead (gave_by S.gave) (ended_by S.ended)) (zip files.old files.new)
+        (K.took capture.old) (K.took capture.new) (O.took output.old) (O.took output.new) sums }
+    ensures quiet { result ≡ 1 → output.new ≡ output.old }
+    // At status 1 a refusal of the words or the files was told by its line.
+    ensures told { result ≡ 1 → TellsRefusal (IsImportRefusal
+        (option_copied wanted.entry.a) (option_copied wanted.entry.b)
+        (IsRead (D.gave sdp.old) (D.gave sdp.new) (D.ended sdp.new))
+        (GivesText 65535 (D.gave sdp.old) (D.gave sdp.new) (D.ended sdp.new))
+        (WasRead (gave_by S.gave) (ended_by S.ended)) (zip files.old files.new)
+        (K.took capture.old) (K.took capture.new)) (F.took faults.old) (F.took faults.new) }
+    ensures silent { result ≡ 0 → faults.new ≡ faults.old }
+    ensures memory { result ≡ 4 → F.took faults.new ≡ F.took faults.old ++ memory_line }
+{
+    let outcome = import_all(alloc, wanted, sdp, files, capture, output);
+    end(outcome, faults)
+}
+
+/// Imports, and leaves what was counted to what is printed.
+fn import_all<A, D, S, K, O>(
+    alloc: A,
+    wanted: FlowWords<'_>,
+    sdp: &mut D,
+    files: &mut [ImportFile<A, S>],
+    capture: &mut K,
+    output: &mut O,
+) -> Result<(), Fault>
+where
+    A: Allocator + Copy,
+    D: ByteSource,
+    S: ByteSource + Drop,
+    K: ByteSink,
+    O: ByteSink,
+    requires { AllClosed files.old }
+    ensures imported { OnOk result ((sums : Sums) × Imports
+        (option_copied wanted.entry.a) (option_copied wanted.entry.b)
+        (GivesText 65535 (D.gave sdp.old) (D.gave sdp.new) (D.ended sdp.new))
+        (WasRead (gave_by S.gave) (ended_by S.ended)) (zip files.old files.new)
+        (K.took capture.old) (K.took capture.new) (O.took output.old) (O.took output.new) sums) }
+    ensures refusal { IfErr result (λ f. OfRefusal f (IsImportRefusal
+        (option_copied wanted.entry.a) (option_copied wanted.entry.b)
+        (IsRead (D.gave sdp.old) (D.gave sdp.new) (D.ended sdp.new))
+        (GivesText 65535 (D.gave sdp.old) (D.gave sdp.new) (D.ended sdp.new))
+        (WasRead (gave_by S.gave) (ended_by S.ended)) (zip files.old files.new)
+        (K.took capture.old) (K.took capture.new))) }
+    ensures quiet { IfErr result (λ f. IfRefused f (output.new ≡ output.old)) }
+    ensures failures { Accounts result (counts (D.failures sdp.old) (D.failures sdp.new)
+        ∷ counts (sum_by (failures_by S.failures) files.old)
+        (sum_by (failures_by S.failures) files.new)
+        ∷ counts (K.failures capture.old) (K.failures capture.new)
+        ∷ counts (O.failures output.old) (O.failures output.new) ∷ []) }
+{
+    import(alloc, wanted, sdp, files, capture, output)?;
+    Ok(())
+}
+
+/// Writes a capture as a recording of pcap, and prints `exported N left out K` to `output`; as
+/// `export` of `export_engine`, whose words tell what is written.
+///
+/// The status is 0; or 1 where a text is no flow to an address or the capture is refused, and then
+/// nothing is printed; 3 where a device failed, and 4 where the allocator refused memory. `faults`
+/// is told of it by one line.
+pub fn run_export<A, S, K, O, F>(
+    alloc: A,
+    wanted: Exporting<'_>,
+    capture: &mut S,
+    sink: &mut K,
+    output: &mut O,
+    faults: &mut F,
+) -> u8
+where
+    A: Allocator + Copy,
+    S: ByteSource,
+    K: ByteSink,
+    O: ByteSink,
+    F: ByteSink,
+    ensures range { (result ≡ 0) ⊎ (result ≡ 1) ⊎ (result ≡ 3) ⊎ (result ≡ 4) }
+    ensures failures { StatusBlames result (counts (S.failures capture.old) (S.failures capture.new)
+        ∷ counts (K.failures sink.old) (K.failures sink.new)
+        ∷ counts (O.failures output.old) (O.failures output.new)
+        ∷ counts (F.failures faults.old) (F.failures faults.new) ∷ []) }
+    // All that the capture's source gave was read, up to its end; what is written is the recording
+    // of its records, and what is printed counts their packets.
+    ensures exported { result ≡ 0 → PrintsExported
+        wanted.entry.a.now (option_copied wanted.entry.b)
+        (S.gave capture.old) (S.gave capture.new) (S.ended capture.new)
+        (K.took sink.old) (K.took sink.new) (O.took output.old) (O.took output.new) }
+    ensures quiet { result ≡ 1 → output.new ≡ output.old }
+    // At status 1 a refusal of the words or the capture was told by its line.
+    ensures told { result ≡ 1 → TellsRefusal (IsExportRefusal
+        wanted.entry.a.now (option_copied wanted.entry.b)
+        (IsRead (S.gave capture.old) (S.gave capture.new) (S.ended capture.new)))
+        (F.took faults.old) (F.took faults.new) }
+    ensures silent { result ≡ 0 → faults.new ≡ faults.old }
+    ensures memory { result ≡ 4 → F.took faults.new ≡ F.took faults.old ++ memory_line }
+{
+    let outcome = export(alloc, wanted, capture, sink, output);
+    end(outcome, faults)
+}
+
+/// Prints which flows of UDP recordings have, as `inspect` of `inspect_engine` tells.
+///
+/// The status is 0; or 1 where a recording is at fault, and then nothing is printed, but where it
+/// was only cut short; 3 where a device failed, and 4 where the allocator refused memory. `faults`
+/// is told of it by one line.
+pub fn run_inspect<A, S, O, F>(
+    alloc: A,
+    recordings: &mut [S],
+    form: Form,
+    output: &mut O,
+    faults: &mut F,
+) -> u8
+where
+    A: Allocator + Copy,
+    S: ByteSource,
+    O: ByteSink,
+    F: ByteSink,
+    ensures range { (result ≡ 0) ⊎ (result ≡ 1) ⊎ (result ≡ 3) ⊎ (result ≡ 4) }
+    ensures failures { StatusBlames result (counts (sum_by S.failures recordings.old)
+        (sum_by S.failures recordings.new)
+        ∷ counts (O.failures output.old) (O.failures output.new)
+        ∷ counts (F.failures faults.old) (F.failures faults.new) ∷ []) }
+    // What is printed tells of all packets of the recordings that were read, none of them cut.
+    ensures inspected { result ≡ 0 → Tells form (WasRead S.gave S.ended)
+        (zip recordings.old recordings.new) false (O.took output.old) (O.took output.new) }
+    // At status 1 the refusal of a recording was told by its line.
+    ensures told { result ≡ 1 → TellsRefusal (IsInspectRefusal form (WasRead S.gave S.ended)
+        (zip recordings.old recordings.new) (O.took output.old) (O.took output.new))
+        (F.took faults.old) (F.took faults.new) }
+    ensures silent { result ≡ 0 → faults.new ≡ faults.old }
+    ensures memory { result ≡ 4 → F.took faults.new ≡ F.took faults.old ++ memory_line }
+{
+    let outcome = inspect(alloc, recordings, form, output);
+    end(outcome, faults)
+}
+
+/// Prints what came of the streams of files, as `inspect_streams` of `stream_inspection` tells.
+///
+/// The status is 0; or 1 where the SDP text or the front of a file is refused, and then nothing is
+/// printed, or where a file is at fault behind its front, and then all that came before is; 3 where
+/// a device failed, and 4 where the allocator refused memory. `faults` is told of it by one line.
+pub fn run_inspect_streams<A, S, O, F>(
+    alloc: A,
+    wanted: StreamWanted,
+    form: StreamForm,
+    sdp: Option<&[u8]>,
+    files: &mut [S],
+    ways: &[Result<Flows, Refusal>],
+    seen: &mut [Seen],
+    output: &mut O,
+    faults: &mut F,
+) -> u8
+where
+    A: Allocator + Copy,
+    S: ByteSource,
+    O: ByteSink,
+    F: ByteSink,
+    ensures range { (result ≡ 0) ⊎ (result ≡ 1) ⊎ (result ≡ 3) ⊎ (result ≡ 4) }
+    ensures failures { StatusBlames result (counts (sum_by S.failures files.old)
+        (sum_by S.failures files.new)
+        ∷ counts (O.failures output.old) (O.failures output.new)
+        ∷ counts (F.failures faults.old) (F.failures faults.new) ∷ []) }
+    // What is printed is the text of the records of all that was read of the files.
+    ensures inspected { result ≡ 0 → TellsStreams wanted form (option_copied sdp.entry) ways.now
+        (WasRead S.gave S.ended) (zip files.old files.new) None (O.took output.old)
+        (O.took output.new) }
+    // At status 1 a refusal of the text or of a file was told by its line.
+    ensures told { result ≡ 1 → TellsRefusal (IsStreamsRefusal wanted form
+        (option_copied sdp.entry) ways.now (WasRead S.gave S.ended) (zip files.old files.new)
+        (O.took output.old) (O.took output.new)) (F.took faults.old) (F.took faults.new) }
+    ensures silent { result ≡ 0 → faults.new ≡ faults.old }
+    ensures memory { result ≡ 4 → F.took faults.new ≡ F.took faults.old ++ memory_line }
+{
+    let outcome = inspect_streams(alloc, wanted, form, sdp, files, ways, seen, output);
+    end(outcome, faults)
+}
