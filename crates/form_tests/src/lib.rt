@@ -7,9 +7,17 @@ mod checks;
 #[cfg(test)]
 mod faults;
 #[cfg(test)]
+mod form_calls;
+#[cfg(test)]
+mod form_engines;
+#[cfg(test)]
 mod growths;
 #[cfg(test)]
 mod pixmaps;
+#[cfg(test)]
+mod reports;
+#[cfg(test)]
+mod sent_streams;
 #[cfg(test)]
 mod sinks;
 #[cfg(test)]
