@@ -73,6 +73,26 @@ fn spell_one(samples: &[u16], stride: Stride, start: usize, count: usize, octets
     ensures { octets.new
         ≡ every_text Spelling.One samples.now stride.first stride.step start count }
 {
+    match (stride.first, stride.step) {
+        (1, 2) => spell_one_by(samples, Stride { first: 1, step: 2 }, start, count, octets),
+        (0, 4) => spell_one_by(samples, Stride { first: 0, step: 4 }, start, count, octets),
+        (2, 4) => spell_one_by(samples, Stride { first: 2, step: 4 }, start, count, octets),
+        (1, 3) => spell_one_by(samples, Stride { first: 1, step: 3 }, start, count, octets),
+        (0, 3) => spell_one_by(samples, Stride { first: 0, step: 3 }, start, count, octets),
+        (2, 3) => spell_one_by(samples, Stride { first: 2, step: 3 }, start, count, octets),
+        _ => spell_one_by(samples, stride, start, count, octets),
+    }
+}
+
+/// The same in a loop that is compiled for each stride that its callers write out.
+#[inline(always)]
+fn spell_one_by(samples: &[u16], stride: Stride, start: usize, count: usize, octets: &mut [u8])
+    requires inside { Inside samples.now stride.first stride.step (start + count) }
+    requires fit { All (λ v. v < 256) samples.now }
+    requires room { length octets.old ≡ count }
+    ensures { octets.new
+        ≡ every_text Spelling.One samples.now stride.first stride.step start count }
+{
     for i in 0..count {
         octets[i] = sample_of(samples, stride, start + i) as u8;
     }
@@ -80,6 +100,25 @@ fn spell_one(samples: &[u16], stride: Stride, start: usize, count: usize, octets
 
 /// Two octets for each sample, the low one first.
 fn spell_little(samples: &[u16], stride: Stride, start: usize, count: usize, octets: &mut [u8])
+    requires inside { Inside samples.now stride.first stride.step (start + count) }
+    requires room { length octets.old ≡ 2 * count }
+    ensures { octets.new
+        ≡ every_text Spelling.Little samples.now stride.first stride.step start count }
+{
+    match (stride.first, stride.step) {
+        (1, 2) => spell_little_by(samples, Stride { first: 1, step: 2 }, start, count, octets),
+        (0, 4) => spell_little_by(samples, Stride { first: 0, step: 4 }, start, count, octets),
+        (2, 4) => spell_little_by(samples, Stride { first: 2, step: 4 }, start, count, octets),
+        (1, 3) => spell_little_by(samples, Stride { first: 1, step: 3 }, start, count, octets),
+        (0, 3) => spell_little_by(samples, Stride { first: 0, step: 3 }, start, count, octets),
+        (2, 3) => spell_little_by(samples, Stride { first: 2, step: 3 }, start, count, octets),
+        _ => spell_little_by(samples, stride, start, count, octets),
+    }
+}
+
+/// The same in a loop that is compiled for each stride that its callers write out.
+#[inline(always)]
+fn spell_little_by(samples: &[u16], stride: Stride, start: usize, count: usize, octets: &mut [u8])
     requires inside { Inside samples.now stride.first stride.step (start + count) }
     requires room { length octets.old ≡ 2 * count }
     ensures { octets.new

@@ -1,7 +1,7 @@
 use Rattle.std.proofs.Common.{arith, sym}
 use Rattle.picture_forms.specs.declared.planes.Spelling.TheVariants.{One}
 use Rattle.picture_forms.proofs.Texts.{every_none, one_more}
-use Rattle.picture_forms.proofs.planes.spell_one.Goals as goal
+use Rattle.picture_forms.proofs.planes.spell_one_by.Goals as goal
 
 pub loop-i-init : goal.loop-i-init
 loop-i-init c =

@@ -2,7 +2,7 @@ use Rattle.std.proofs.Common.{ap, arith, sym}
 use Rattle.picture_forms.specs.declared.planes.Spelling.TheVariants.{Little}
 use Rattle.picture_forms.specs.Planes.{sample_text}
 use Rattle.picture_forms.proofs.Texts.{every_none, two_more}
-use Rattle.picture_forms.proofs.planes.spell_little.Goals as goal
+use Rattle.picture_forms.proofs.planes.spell_little_by.Goals as goal
 
 pub loop-i-init : goal.loop-i-init
 loop-i-init c =

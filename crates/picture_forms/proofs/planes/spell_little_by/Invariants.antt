@@ -1,7 +1,7 @@
 use Rattle.std.proofs.Common.{◌≡◌, ◌*◌, take}
 use Rattle.picture_forms.specs.Planes.{every_text}
 use Rattle.picture_forms.specs.declared.planes.Spelling.TheVariants.{Little}
-use Rattle.picture_forms.proofs.planes.spell_little.Given as goal
+use Rattle.picture_forms.proofs.planes.spell_little_by.Given as goal
 
 abbrev pub invariant-loop-i : goal.invariant-loop-i
 invariant-loop-i l =
