@@ -6,6 +6,7 @@ pub mod Walked
 pub mod Lined
 pub mod Headed
 pub mod FrameLines
+pub mod Begun
 pub mod Given
 pub mod Apart
 pub mod Once

@@ -3,7 +3,7 @@ ghost use Rattle.std.specs.Prelude.{◌≡◌, ◌<◌, ◌↔◌, length, IfErr
 ghost use Rattle.std.specs.List.{AllByRecursion};
 ghost use Rattle.st_format.specs.Picture.{FitsDepth, IsPicture};
 ghost use Rattle.st_format.specs.Position.{sample_count};
-ghost use Rattle.picture_forms.specs.Faults.{CountsDevice, IsShown};
+ghost use Rattle.picture_forms.specs.Faults.{CountsDevice, IfContent, IsShown};
 ghost use Rattle.picture_forms.specs.Frames.{ReadsFrame, ReadsLine, ReadsStart, frame_line_at};
 ghost use Rattle.picture_forms.specs.Frames.{frame_mark, frame_walk, parameters_at, planes_at};
 ghost use Rattle.picture_forms.specs.Layouts.{IsYcc, planes_text};
@@ -41,6 +41,8 @@ pub(crate) fn read_samples<S: ByteSource>(
     ensures fault { IfErr result (λ f. Refuses (frame_walk format.now)
         (S.to_give source.old) (S.to_give source.new)
         (S.gave source.old) (S.gave source.new) (S.ended source.new) f) }
+    ensures begun { IfErr result (λ f. IfContent f
+        (length (S.gave source.old) < length (S.gave source.new))) }
     ensures counted { CountsDevice (S.failures source.old) (S.failures source.new) result }
     ensures names { S.names source.new ≡ S.names source.old }
 {
@@ -93,6 +95,8 @@ fn read_frame_line<S: ByteSource>(source: &mut S) -> Result<bool, FormFault>
     ensures fault { IfErr result (λ f. Refuses frame_line_at
         (S.to_give source.old) (S.to_give source.new)
         (S.gave source.old) (S.gave source.new) (S.ended source.new) f) }
+    ensures begun { IfErr result (λ f. IfContent f
+        (length (S.gave source.old) < length (S.gave source.new))) }
     ensures counted { CountsDevice (S.failures source.old) (S.failures source.new) result }
     ensures names { S.names source.new ≡ S.names source.old }
 {
@@ -115,6 +119,8 @@ pub(crate) fn read_start<S: ByteSource>(source: &mut S, buf: &mut [u8]) -> Resul
     ensures fault { IfErr result (λ f. IsCut f (length buf.old)
         (S.to_give source.old) (S.to_give source.new)
         (S.gave source.old) (S.gave source.new) (S.ended source.new)) }
+    ensures begun { IfErr result (λ f. IfContent f
+        (length (S.gave source.old) < length (S.gave source.new))) }
     ensures counted { CountsDevice (S.failures source.old) (S.failures source.new) result }
     ensures names { S.names source.new ≡ S.names source.old }
 {

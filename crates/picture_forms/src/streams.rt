@@ -1,11 +1,11 @@
 //! A YUV4MPEG2 stream, read picture by picture.
-ghost use Rattle.std.specs.Prelude.{◌≡◌, ◌++◌, ℕ, List, None, Some, Ok, Err, IfErr, IfOk};
-ghost use Rattle.std.specs.Prelude.{MatchResult};
+ghost use Rattle.std.specs.Prelude.{◌≡◌, ◌<◌, ◌++◌, ℕ, List, None, Some, Ok, Err, length, IfErr};
+ghost use Rattle.std.specs.Prelude.{IfOk, MatchResult};
 ghost use Rattle.st_format.specs.Fields.{fields_of};
 ghost use Rattle.st_format.specs.Given.{GaveValue, Takes};
 ghost use Rattle.st_format.specs.History.{IsRead};
 ghost use Rattle.st_format.specs.Picture.{IsPicture, Values};
-ghost use Rattle.picture_forms.specs.Faults.{CountsDevice, CountsFault, IsMachine};
+ghost use Rattle.picture_forms.specs.Faults.{CountsDevice, CountsFault, IfContent, IsMachine};
 ghost use Rattle.picture_forms.specs.Frames.{GaveFrame, TakesFrame, frame_walk};
 ghost use Rattle.picture_forms.specs.Heads.{head_walk};
 ghost use Rattle.picture_forms.specs.Layouts.{IsYcc, frame_text};
@@ -136,6 +136,10 @@ impl<S: ByteSource> StreamReader<S> {
         ensures gave_wrong { self.old.standing ≡ Reads
             → IfErr result (λ f. GaveFault (frame_walk self.old.format)
             (S.gave self.old.source) (S.gave self.new.source) (S.ended self.new.source) f) }
+        // A fault of the content comes behind one octet of the frame at least: the end is none.
+        ensures begun { self.old.standing ≡ Reads
+            → IfErr result (λ f. IfContent f
+            (length (S.gave self.old.source) < length (S.gave self.new.source))) }
         ensures counted { self.old.standing ≡ Reads
             → CountsDevice (S.failures self.old.source) (S.failures self.new.source) result }
         ensures names { S.names self.new.source ≡ S.names self.old.source }
