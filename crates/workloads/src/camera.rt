@@ -4,9 +4,10 @@ ghost use Rattle.std.specs.Prelude.{◌≡◌, ◌≤◌, length};
 use crate::fault::Fault;
 use crate::numbers::{Noise, number};
 use crate::running::{sink, source};
+use crate::states::Size;
 use media_file::format_block;
-use st_format::Format;
 use st_format::memory::MemorySource;
+use st_format::{Depth, Format, Sampling};
 use st2110_tool::{Paths, Sending, run_send};
 use std::alloc::Global;
 
@@ -15,6 +16,23 @@ const FRONT: usize = 10;
 
 /// The octets of a record's head in a capture, of which the last two are the datagram's length.
 pub const HEAD: usize = 11;
+
+/// The format of a stream: YCbCr 4:2:2 at 10 bits, 60 pictures a second.
+pub fn video(size: Size) -> Result<Format, Fault> {
+    Format::new(Sampling::Ycc422, Depth::D10, size.0, size.1, 60, 1)
+        .ok()
+        .ok_or(Fault)
+}
+
+/// The SDP text of such a stream, of payload type 96.
+pub fn description(alloc: Global, size: Size) -> Result<String, Fault> {
+    Ok(format!(in alloc;
+        "m=video 5004 RTP/AVP 96\r\na=rtpmap:96 raw/90000\r\n\
+        a=fmtp:96 sampling=YCbCr-4:2:2; width={}; height={}; exactframerate=60; depth=10; \
+        colorimetry=BT709; PM=2110GPM; SSN=ST2110-20:2017\r\n",
+        size.0, size.1
+    )?)
+}
 
 /// The datagrams of pictures of one format, in the order in which they are sent.
 #[derive(Drop)]

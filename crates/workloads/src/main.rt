@@ -1,13 +1,15 @@
 //! Runs a job of many made inputs, of the shape and size that users have, for a benchmark.
 //!
 //! Its words are a job and a seed, a number below 2^32: the jobs are `merge`, `process`, `report`,
-//! `receive`, `live` and `script`. It prints the job and a digest of all that it answered, which is
-//! the same for the same seed. Without words it runs each job on a small input.
+//! `receive`, `live`, `script` and `follow`. It prints the job and a digest of all that it
+//! answered, which is the same for the same seed. Without words it runs each job on a small input.
 #![tactic(auto)]
 
 mod camera;
 mod fault;
+mod followed;
 mod numbers;
+mod records;
 mod running;
 mod scripts;
 mod state_files;
@@ -15,6 +17,7 @@ mod states;
 mod streams;
 
 use crate::fault::Fault;
+use crate::followed::follow;
 use crate::numbers::Digest;
 use crate::scripts::script;
 use crate::states::{Size, merge, process, report};
@@ -30,13 +33,14 @@ const FULL: Size = (1920, 1080);
 const SMALL: Size = (48, 12);
 
 /// The jobs, each with how many rounds of it are run.
-const JOBS: [(&str, u64); 6] = [
+const JOBS: [(&str, u64); 7] = [
     ("merge", 16),
     ("process", 10),
     ("report", 20),
     ("receive", 40),
     ("live", 100),
     ("script", 30),
+    ("follow", 4),
 ];
 
 fn main(rt: HostRuntime) -> ExitCode {
@@ -92,6 +96,7 @@ fn run_job(
         "report" => report(alloc, size, seed, rounds, digest),
         "receive" => receive(alloc, size, seed, rounds, digest),
         "live" => live(alloc, size, seed, rounds, digest),
-        _ => script(alloc, size, seed, rounds, digest),
+        "script" => script(alloc, size, seed, rounds, digest),
+        _ => follow(alloc, size, seed, rounds, digest),
     }
 }

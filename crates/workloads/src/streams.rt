@@ -1,93 +1,22 @@
 //! The jobs on datagrams of two paths: a capture that is received, and a live stream.
 ghost use Rattle.std.specs.Prelude.{◌≡◌, ◌≤◌, length};
 
-use crate::camera::{Datagrams, HEAD};
+use crate::camera::{Datagrams, HEAD, description, video};
 use crate::fault::Fault;
 use crate::numbers::{Bursts, Digest, Noise, number};
+use crate::records::{Records, comes};
 use crate::running::{note, sink, source};
 use crate::states::Size;
-use byteorder::{BigEndian, ByteOrder};
 use frame_assembly::{Base, Frame};
 use media_file::{CaptureWriter, Paths};
 use packet_plan::{Plan, Stamp, send_frame};
 use path_merge::{Receiver, Refusal, Taken};
-use st_format::{Depth, Format, MOST_DATAGRAM, Path, Sampling};
+use st_format::Path;
 use st2110_tool::{Wanted, run_receive};
 use std::alloc::Global;
 
 /// How many packets path B runs behind path A.
 const BEHIND: usize = 150;
-
-/// How many octets of a datagram lie between two that differ, where the paths disagree: 25 pgroups
-/// of 4:2:2 at 10 bits, so a hundred samples.
-const BETWEEN: usize = 125;
-
-fn video(size: Size) -> Result<Format, Fault> {
-    Format::new(Sampling::Ycc422, Depth::D10, size.0, size.1, 60, 1)
-        .ok()
-        .ok_or(Fault)
-}
-
-/// What comes by a path in a step: the number of a datagram, and whether it comes twice. Now and
-/// then two are exchanged.
-fn comes(seed: u64, step: usize, bursts: &mut Bursts, count: usize) -> Option<(usize, bool)> {
-    let drawn = number(seed, (step / 2) as u64);
-    let place = if drawn % 97 == 0 { step ^ 1 } else { step };
-    if bursts.next() || place >= count {
-        return None;
-    }
-    Some((place, drawn % 389 == 1))
-}
-
-/// Writes a capture by hand.
-#[derive(Drop)]
-struct Records {
-    octets: Vec<u8>,
-    moment: u64,
-}
-
-impl Records {
-    fn new(alloc: Global, text: &[u8], room: usize) -> Result<Records, Fault> {
-        if text.len() > MOST_DATAGRAM {
-            return Err(Fault);
-        }
-        let mut octets = Vec::with_capacity(alloc, room)?;
-        octets.extend_from_slice(b"S20CAP02")?;
-        octets.extend_from_slice(&(text.len() as u16).to_be_bytes())?;
-        octets.extend_from_slice(text)?;
-        Ok(Records { octets, moment: 0 })
-    }
-
-    /// A record of a datagram, or of one that differs from what was sent.
-    fn put(&mut self, path: u8, datagram: &[u8], differs: bool) -> Result<(), Fault> {
-        if datagram.len() > MOST_DATAGRAM {
-            return Err(Fault);
-        }
-        let mut head = [path; HEAD];
-        BigEndian::write_u64(&mut head[1..9], self.moment);
-        BigEndian::write_u16(&mut head[9..], datagram.len() as u16);
-        self.octets.extend_from_slice(&head)?;
-        let from = self.octets.len();
-        self.octets.extend_from_slice(datagram)?;
-        self.moment = self.moment.wrapping_add(1);
-        if differs {
-            change(&mut self.octets, from);
-        }
-        Ok(())
-    }
-}
-
-/// Changes a bit of each hundredth sample, of a datagram that begins at a place.
-fn change(octets: &mut [u8], from: usize) {
-    let mut at = from.saturating_add(31);
-    for _ in 0..octets.len() {
-        if at >= octets.len() {
-            return;
-        }
-        octets[at] ^= 4;
-        at = at.saturating_add(BETWEEN);
-    }
-}
 
 /// A capture of the datagrams by both paths: interleaved, B behind A, with bursts lost, and some
 /// that come twice or exchanged. Where the paths disagree each second datagram of B differs.
@@ -118,7 +47,7 @@ fn capture(
             }
         }
     }
-    Ok(records.octets)
+    Ok(records.into_octets())
 }
 
 /// A capture of both paths is received, and the receiver kept. In each third round the paths
@@ -131,12 +60,7 @@ pub fn receive(
     digest: &mut Digest,
 ) -> Result<(), Fault> {
     let format = video(size)?;
-    let text = format!(in alloc;
-        "m=video 5004 RTP/AVP 96\r\na=rtpmap:96 raw/90000\r\n\
-        a=fmtp:96 sampling=YCbCr-4:2:2; width={}; height={}; exactframerate=60; depth=10; \
-        colorimetry=BT709; PM=2110GPM; SSN=ST2110-20:2017\r\n",
-        size.0, size.1
-    )?;
+    let text = description(alloc, size)?;
     let noise = Noise::new(alloc, seed)?;
     for round in 0..rounds {
         let drawn = number(seed, round);
