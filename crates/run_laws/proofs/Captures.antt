@@ -32,7 +32,7 @@ use Rattle.run_laws.specs.Sent.{FitCapture}
 
 -- ---- any capture
 
-abbrev content : List ℕ → List Entry → Content
+abbrev pub content : List ℕ → List Entry → Content
 content text records = record { text = text; records = records }
 
 pub content_read : (c : Content) (octets : List ℕ) → IsCapture octets c

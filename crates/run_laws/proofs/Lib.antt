@@ -11,6 +11,8 @@ pub mod Uncontested
 pub mod Captures
 pub mod SentAgain
 pub mod Looped
+pub mod ExportRead
+pub mod ImportedExport
 pub mod NoRefusals
 pub mod NoTextFault
 pub mod OneJob
@@ -24,3 +26,4 @@ pub mod NoInspectRefusals
 pub mod NoMigrateRefusals
 pub mod NoConvertRefusals
 pub mod NoPictureRefusals
+pub mod ProcessedOnce

@@ -1,16 +1,12 @@
 -- Against what a run of `inspect` read that ended well no refusal speaks.
 use Rattle.std.proofs.Common.{◌≡◌, ℕ, zero, suc, ◌<◌, Bool, true, false, List, [], ◌∷◌, length}
-use Rattle.std.proofs.Common.{Option, None, Some, inl, inr, sym, ap, ◌∙◌, subst, arith}
+use Rattle.std.proofs.Common.{Option, Some, inl, inr, sym, ap, ◌∙◌, subst, arith}
 use Rattle.std.specs.Prelude.{slice_index_or}
-use Rattle.std.specs.List.{AllZip, Any, list_all}
+use Rattle.std.specs.List.{AllZip, list_all}
 use Rattle.std.proofs.lemmas.Bool.{and_parts}
 use Rattle.pcap_file.specs.Runs.{fault_in, most_packet}
 use Rattle.pcap_file.specs.declared.fault.RecordingFault.{RecordingFault}
-use Rattle.pcap_file.specs.declared.fault.RecordingFault.TheVariants.{Device, Truncated, BadMagic}
-use Rattle.pcap_file.specs.declared.fault.RecordingFault.TheVariants.{BadVersion, BadBlock}
-use Rattle.pcap_file.specs.declared.fault.RecordingFault.TheVariants.{BadInterface, BadTime, Packed}
-use Rattle.pcap_file.specs.declared.fault.RecordingFault.TheVariants.{TooManyInterfaces}
-use Rattle.pcap_file.specs.declared.fault.RecordingFault.TheVariants.{PacketTooLong, TooManyBlocks}
+use Rattle.pcap_file.specs.declared.fault.RecordingFault.TheVariants.{Truncated}
 use Rattle.run_outcome.specs.Moments.{WasRead}
 use Rattle.run_outcome.specs.declared.refusal.Refusal.{Refusal}
 use Rattle.run_outcome.specs.declared.refusal.Refusal.TheVariants as why

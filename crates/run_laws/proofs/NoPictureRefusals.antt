@@ -4,7 +4,6 @@ use Rattle.std.proofs.Common.{refl, sym, ap, ◌∙◌, subst}
 use Rattle.std.specs.Borrow.{Bor}
 use Rattle.st_format.specs.Device.{AreOctets}
 use Rattle.st_format.specs.Fields.{Fields}
-use Rattle.st_format.specs.Member.{IsMember}
 use Rattle.st_format.specs.Picture.{Values}
 use Rattle.st_format.specs.Raster.{Raster}
 use Rattle.st_format.specs.declared.format.Format.{Format}
@@ -17,7 +16,6 @@ use Rattle.form_files.specs.declared.form.Form.{Form}
 use Rattle.run_outcome.specs.Moments.{WasRead}
 use Rattle.run_outcome.specs.declared.refusal.Refusal.{Refusal}
 use Rattle.run_outcome.specs.declared.refusal.Refusal.TheVariants as why
-use Rattle.receiver_engines.specs.Inputs.{IsHeldFor}
 use Rattle.receiver_engines.specs.Merging.{SaysReceiver}
 use Rattle.receiver_engines.specs.Reading.{SaysHeld}
 use Rattle.receiver_engines.specs.Refused.{IsHeldRefusal}

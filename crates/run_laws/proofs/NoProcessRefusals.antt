@@ -101,7 +101,7 @@ pub same_raster : (q p : Raster) → found q ≡ found p → q ≡ p
 same_raster q p h = cc
 
 -- Lists of frames that are the same where they are found are the same.
-same_found : (qs ps : List Raster) → map found qs ≡ map found ps → qs ≡ ps
+pub same_found : (qs ps : List Raster) → map found qs ≡ map found ps → qs ≡ ps
 same_found [] [] e = refl
 same_found [] (p ∷ ps) e =
     let n : 0 ≡ suc (length (map found ps)) = ap (λ (l : List Found). length l) e in

@@ -76,7 +76,7 @@ abbrev fields_by : Sampling → Depth → ℕ → ℕ → ℕ → ℕ → Fields
 fields_by s b w h n d =
     record { sampling = s; depth = b; width = w; height = h; n = n; d = d }
 
-one_resampled : (f g h : Format) (s : Sampling) → IsResampled f h s → IsResampled g h s → f ≡ g
+pub one_resampled : (f g h : Format) (s : Sampling) → IsResampled f h s → IsResampled g h s → f ≡ g
 one_resampled f g h s p q =
     same_format f g
     (ap (λ (x : Sampling). fields_by x f.depth f.width f.height f.n f.d)

@@ -2,3 +2,4 @@ pub mod Received
 pub mod Merged
 pub mod Scripts
 pub mod Sent
+pub mod Exported

@@ -3,8 +3,8 @@
 use Rattle.std.specs.Prelude.{◌≡◌, ℕ, ◌^◌, ◌<◌, List, length, map, Option}
 use Rattle.std.specs.List.{AllByRecursion}
 use Rattle.st_format.specs.Member.{IsMember}
-use Rattle.st_format.specs.Picture.{Values}
-use Rattle.st_format.specs.Position.{sample_count}
+use Rattle.st_format.specs.Picture.{Values, value_at}
+use Rattle.st_format.specs.Position.{IsPosition, Position, sample_count}
 use Rattle.st_format.specs.declared.format.Format.{Format}
 use Rattle.st_format.specs.declared.path.Path.{Path}
 use Rattle.media_file.specs.Writer.{IsShortEnough, written_text}
@@ -61,3 +61,10 @@ loop_sender p = record { format = p.format; base = 0; payload_type = 96; ssrc = 
 abbrev pub BringsOnly : Values → List (List PacketRun) → List (Path × List ℕ) → Type 0
 BringsOnly p packets arrivals =
     AreAmong (map (λ (d : Path × List ℕ). d.1) arrivals) (datagram_texts p loop_stamp 0 packets)
+
+-- ---- of `process`
+
+-- Pictures of one format, with one value at each position.
+pub record AreOnePicture (p q : Values) : Type 0 where
+  pub format : p.format ≡ q.format
+  pub values : (at : Position) → IsPosition at p.format → value_at p at ≡ value_at q at

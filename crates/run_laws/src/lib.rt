@@ -3,18 +3,20 @@
 //! refusal speaks against a run that ended well.
 #![tactic(auto)]
 
+mod exported;
 mod laws;
 mod scripts;
 mod sent;
 mod unrefused;
 
+pub use exported::{exported_again, exported_and_received, imported_and_received, imported_export};
 pub use laws::{
     merged_file, merged_files, one_file, received_file, received_files, received_in_pieces,
     received_in_trees,
 };
 pub use scripts::{never_contested, traced_frames, traced_in_any_order};
 pub use sent::{
-    looped_picture, migrated_again, migrated_and_received, processed_and_received,
+    looped_picture, migrated_again, migrated_and_received, processed_and_received, processed_once,
     sent_and_received, sent_file, written_again,
 };
 pub use unrefused::{

@@ -6,11 +6,13 @@
 //!   datagrams is read as them: `written_again`.
 //! - What was sent and received is the pictures, nothing missing; and of what isn't all, each value
 //!   is the sender's: `sent_and_received`.
-//! - What `process` wrote and was received is the job's picture: `processed_and_received`.
+//! - What `process` wrote and was received is the job's picture: `processed_and_received`. Files
+//!   that are octet for octet the same are processed into one picture: `processed_once`.
 //! - A migrated capture is received as the old one: `migrated_again`, `migrated_and_received`.
 //! - Through a link that makes no datagram each sample is the picture's or missing:
 //!   `looped_picture`.
-ghost use Rattle.std.specs.Prelude.{◌≡◌, ◌∷◌, [], ℕ, List, Option, Some};
+ghost use Rattle.std.specs.Prelude.{◌≡◌, ◌∷◌, [], ℕ, List, Option, None, Some};
+ghost use Rattle.std.specs.Option.{option_map};
 ghost use Rattle.st_format.specs.Device.{AreOctets};
 ghost use Rattle.st_format.specs.History.{IsRead, since};
 ghost use Rattle.st_format.specs.Member.{SameDatagrams};
@@ -25,16 +27,17 @@ ghost use Rattle.path_receiver.specs.Sender.{AreAmong, IsSendersCell, picture_ra
 ghost use Rattle.path_receiver.specs.TookSent.{Awaits};
 ghost use Rattle.key_mix.specs.declared.Job.{Job};
 ghost use Rattle.recording_reader.specs.Files.{text_of_file};
+ghost use Rattle.run_outcome.specs.Moments.{WasRead};
 ghost use Rattle.run_outcome.specs.Text.{GivesText};
 ghost use Rattle.capture_engines.specs.Files.{capture_datagrams};
 ghost use Rattle.capture_engines.specs.Looping.{Link, Loops};
 ghost use Rattle.capture_engines.specs.Migrating.{Migrates};
 ghost use Rattle.capture_engines.specs.Sending.{SendsAll, run_sender};
 ghost use Rattle.capture_engines.specs.declared.sender.Sending.{Sending};
-ghost use Rattle.receiver_engines.specs.Processing.{TakesSaid};
-ghost use Rattle.run_laws.specs.Received.{IsReceivedFile};
-ghost use Rattle.run_laws.specs.Sent.{AwaitsPicture, BringsOnly, FitCapture, IsSentFile, IsSentOf};
-ghost use Rattle.run_laws.specs.Sent.{loop_sender};
+ghost use Rattle.receiver_engines.specs.Processing.{SendsSaidFiles, TakesSaid};
+ghost use Rattle.run_laws.specs.Received.{IsReceivedFile, all_read, read_of};
+ghost use Rattle.run_laws.specs.Sent.{AreOnePicture, AwaitsPicture, BringsOnly, FitCapture};
+ghost use Rattle.run_laws.specs.Sent.{IsSentFile, IsSentOf, loop_sender};
 
 use st_format::ByteSource;
 
@@ -98,6 +101,34 @@ pub fn processed_and_received()
         → AwaitsPicture received.receiver sent.spell.picture stamp
         → frame_at received.receiver.opening.window received.receiver.frames stamp.timestamp
         ≡ Some (picture_raster sent.spell.picture) }
+{}
+
+/// Two runs of `process` with the same job, timestamp and fill, over files that are octet for octet
+/// the same (`sent` of their clauses), send one picture: of one format, with one value at each
+/// position (`files`). So it is over a file each that was received of the same datagrams with the
+/// same words and SDP text, by whatever files, in whatever order (`received`; SMPTE ST 2022-7).
+pub fn processed_once<S: ByteSource, T: ByteSource>()
+    ensures files { (text other : List ℕ) (states : List (S × S)) (others : List (T × T))
+        (hold : Option (S × S)) (held : Option (T × T)) (job : List ℕ) (timestamp : ℕ)
+        (fill : List ℕ) (size size' : ℕ) (stamp stamp' : Stamp) (old new : List ℕ) (count : ℕ)
+        (old' new' : List ℕ) (count' : ℕ)
+        (first : SendsSaidFiles text (WasRead S.gave S.ended) states hold job timestamp fill size
+        stamp old new count)
+        (second : SendsSaidFiles other (WasRead T.gave T.ended) others held job timestamp fill
+        size' stamp' old' new' count') → all_read S.gave states ≡ all_read T.gave others
+        → option_map (read_of S.gave) hold ≡ option_map (read_of T.gave) held
+        → AreOnePicture first.sends.takes.spell.picture second.sends.takes.spell.picture }
+    ensures received { (text other : List ℕ) (state : S × S) (again : T × T) (job : List ℕ)
+        (timestamp : ℕ) (fill : List ℕ) (size size' : ℕ) (stamp stamp' : Stamp)
+        (old new : List ℕ) (count : ℕ) (old' new' : List ℕ) (count' : ℕ)
+        (window source said : List ℕ) (xs ys : List (List ℕ))
+        (first : SendsSaidFiles text (WasRead S.gave S.ended) (state ∷ []) None job timestamp fill
+        size stamp old new count)
+        (second : SendsSaidFiles other (WasRead T.gave T.ended) (again ∷ []) None job timestamp
+        fill size' stamp' old' new' count')
+        → IsReceivedFile window source said xs (read_of S.gave state)
+        → IsReceivedFile window source said ys (read_of T.gave again) → SameDatagrams xs ys
+        → AreOnePicture first.sends.takes.spell.picture second.sends.takes.spell.picture }
 {}
 
 /// A migrated capture is read as the datagrams of the old one (`datagrams`), and with the text that
