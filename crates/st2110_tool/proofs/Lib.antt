@@ -1,1 +1,2 @@
 pub mod ReadScripts
+pub mod Unfinished

@@ -73,6 +73,7 @@ where
         → TellsRefusal (IsSendRefusal wanted.max_octets (length pictures.old) sdp.old sdp.new
         (WasRead S.gave S.ended) (zip pictures.old pictures.new))
         (F.took faults.old) (F.took faults.new) }
+    ensures quiet { result ≡ 1 → output.new ≡ output.old }
     ensures silent { result ≡ 0 → faults.new ≡ faults.old }
     ensures memory { result ≡ 4 → F.took faults.new ≡ F.took faults.old ++ memory_line }
 {
@@ -190,6 +191,7 @@ where
         (K.took sink.old) (K.failures sink.old))
         (passed (S.gave source.new) (S.failures source.new)
         (K.took sink.new) (K.failures sink.new)) }
+    ensures quiet { result ≡ 1 → output.new ≡ output.old }
     ensures silent { result ≡ 0 → faults.new ≡ faults.old }
     ensures memory { result ≡ 4 → F.took faults.new ≡ F.took faults.old ++ memory_line }
 {
@@ -248,6 +250,7 @@ where
     ensures told { result ≡ 1 → TellsRefusal (IsLoopRefusal wanted.max_octets
         (IsRead (S.gave picture.old) (S.gave picture.new) (S.ended picture.new)))
         (F.took faults.old) (F.took faults.new) }
+    ensures quiet { result ≡ 1 → output.new ≡ output.old }
     ensures silent { result ≡ 0 → faults.new ≡ faults.old }
     ensures memory { result ≡ 4 → F.took faults.new ≡ F.took faults.old ++ memory_line }
 {

@@ -1,16 +1,16 @@
 //! The engines of receivers' files, each with its status.
-ghost use Rattle.std.specs.Prelude.{◌≡◌, ◌⊎◌, ◌∷◌, ◌++◌, [], ◌≤◌, ◌-◌, ◌+◌, length, sum_by, ℕ};
+ghost use Rattle.std.specs.Prelude.{◌≡◌, ◌≢◌, ◌⊎◌, ◌∷◌, ◌++◌, [], ◌≤◌, ◌-◌, ◌+◌, length, sum_by, ℕ};
 ghost use Rattle.std.specs.List.{zip};
 ghost use Rattle.run_outcome.specs.Moments.{WasRead, pair};
 ghost use Rattle.st_format.specs.History.{IsRead};
 ghost use Rattle.run_outcome.specs.Fault.{StatusBlames, counts, failures_in};
-ghost use Rattle.receiver_engines.specs.Merging.{MergesFiles, PrintsMerged, Saves};
+ghost use Rattle.receiver_engines.specs.Merging.{MergesFiles, PrintsMerged, Saves, SavesPart};
 ghost use Rattle.receiver_engines.specs.MergeRefused.{IsMergeRefusal};
 ghost use Rattle.receiver_engines.specs.States.{IsStateRefusal};
 ghost use Rattle.run_outcome.specs.Refusing.{TellsRefusal};
 ghost use Rattle.run_outcome.specs.Telling.{memory_line};
-ghost use Rattle.receiver_engines.specs.Reporting.{Reports};
-ghost use Rattle.receiver_engines.specs.Processing.{PrintsSent, SendsFiles};
+ghost use Rattle.receiver_engines.specs.Reporting.{Reports, ReportsPart};
+ghost use Rattle.receiver_engines.specs.Processing.{PrintsSent, SendsFiles, SendsPart};
 ghost use Rattle.receiver_engines.specs.Refused.{IsRunRefusal};
 
 use receiver_engines::{Processing, merge, process, report};
@@ -69,6 +69,8 @@ where
         (IsRead (L.gave left.old) (L.gave left.new) (L.ended left.new))
         (IsRead (R.gave right.old) (R.gave right.new) (R.ended right.new)))
         (F.took faults.old) (F.took faults.new) }
+    // Unless the status is 0, the merged file isn't all written.
+    ensures part { result ≢ 0 → SavesPart (K.took state.old) (K.took state.new) }
     ensures silent { result ≡ 0 → faults.new ≡ faults.old }
     ensures memory { result ≡ 4 → F.took faults.new ≡ F.took faults.old ++ memory_line }
 {
@@ -104,6 +106,10 @@ where
     ensures told { result ≡ 1 → TellsRefusal (IsStateRefusal
         (IsRead (S.gave state.old) (S.gave state.new) (S.ended state.new)))
         (F.took faults.old) (F.took faults.new) }
+    // Unless the status is 0, the report isn't all written.
+    ensures part { result ≢ 0
+        → ReportsPart (IsRead (S.gave state.old) (S.gave state.new) (S.ended state.new))
+        (O.took output.old) (O.took output.new) }
     ensures silent { result ≡ 0 → faults.new ≡ faults.old }
     ensures memory { result ≡ 4 → F.took faults.new ≡ F.took faults.old ++ memory_line }
 {
@@ -164,6 +170,9 @@ where
         → TellsRefusal (IsRunRefusal (WasRead S.gave S.ended) (zip states.old states.new)
         (pair hold.old hold.new) wanted.entry)
         (F.took faults.old) (F.took faults.new) }
+    // Unless the status is 0, what was written is a first part of such a capture.
+    ensures part { result ≢ 0 → SendsPart wanted.entry.max_octets wanted.entry.stamp
+        (K.took sink.old) (K.took sink.new) }
     ensures silent { result ≡ 0 → faults.new ≡ faults.old }
     ensures memory { result ≡ 4 → F.took faults.new ≡ F.took faults.old ++ memory_line }
 {

@@ -4,7 +4,7 @@ ghost use Rattle.std.specs.Prelude.{List, sum_by};
 ghost use Rattle.std.specs.List.{zip};
 ghost use Rattle.std.specs.Option.{option_copied};
 ghost use Rattle.export_engine.specs.ExportRefused.{IsExportRefusal};
-ghost use Rattle.export_engine.specs.Exported.{PrintsExported};
+ghost use Rattle.export_engine.specs.Exported.{LeavesExport, PrintsExported};
 ghost use Rattle.inspect_engine.specs.Told.{IsInspectRefusal, Tells};
 ghost use Rattle.recording_engines.specs.Files.{AllClosed, ended_by, failures_by, gave_by};
 ghost use Rattle.recording_engines.specs.Imported.{Imports, IsImportRefusal};
@@ -14,6 +14,7 @@ ghost use Rattle.run_outcome.specs.Moments.{WasRead};
 ghost use Rattle.run_outcome.specs.Refusing.{OfRefusal, TellsRefusal};
 ghost use Rattle.run_outcome.specs.Telling.{memory_line};
 ghost use Rattle.run_outcome.specs.Text.{GivesText};
+ghost use Rattle.run_outcome.specs.declared.fault.Fault.{Fault as Wrong};
 ghost use Rattle.st_format.specs.History.{IsRead};
 ghost use Rattle.stream_inspection.specs.Told.{IsStreamsRefusal, Tells as TellsStreams};
 
@@ -154,6 +155,11 @@ where
         wanted.entry.a.now (option_copied wanted.entry.b)
         (IsRead (S.gave capture.old) (S.gave capture.new) (S.ended capture.new)))
         (F.took faults.old) (F.took faults.new) }
+    // Unless the status is 0, what was written is as far as a fault says.
+    ensures left { result ≢ 0 → (f : Wrong) × LeavesExport f
+        wanted.entry.a.now (option_copied wanted.entry.b)
+        (S.gave capture.old) (S.gave capture.new) (S.ended capture.new)
+        (K.took sink.old) (K.took sink.new) }
     ensures silent { result ≡ 0 → faults.new ≡ faults.old }
     ensures memory { result ≡ 4 → F.took faults.new ≡ F.took faults.old ++ memory_line }
 {

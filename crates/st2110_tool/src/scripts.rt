@@ -1,14 +1,14 @@
 //! The engines of texts, each with its status.
-ghost use Rattle.std.specs.Prelude.{◌≡◌, ◌⊎◌, ◌∷◌, ◌++◌, []};
+ghost use Rattle.std.specs.Prelude.{◌≡◌, ◌≢◌, ◌⊎◌, ◌∷◌, ◌++◌, []};
 ghost use Rattle.st_format.specs.History.{GrewFrom};
 ghost use Rattle.run_outcome.specs.Fault.{StatusBlames, counts};
 ghost use Rattle.run_outcome.specs.Refusing.{TellsRefusal};
 ghost use Rattle.run_outcome.specs.Telling.{memory_line};
-ghost use Rattle.script_engines.specs.Described.{Describes, IsUndescribed};
+ghost use Rattle.script_engines.specs.Described.{Describes, DescribesPart, IsUndescribed};
 ghost use Rattle.script_engines.specs.Reading.{DoesScript, IsRefusedFor};
-ghost use Rattle.script_engines.specs.Rehearsed.{IsRefusedScript, Rehearses};
+ghost use Rattle.script_engines.specs.Rehearsed.{IsRefusedScript, Rehearses, RehearsesPart};
 ghost use Rattle.script_engines.specs.Script.{GivesAll, GivesScript};
-ghost use Rattle.script_engines.specs.Traced.{IsUntraced, Traces};
+ghost use Rattle.script_engines.specs.Traced.{IsUntraced, Traces, TracesPart};
 
 use run_outcome::end;
 use script_engines::{describe, rehearse, trace};
@@ -41,6 +41,9 @@ where
     ensures told { result ≡ 1 → TellsRefusal
         (IsRefusedFor IsUntraced (S.gave source.old) (S.gave source.new) (S.ended source.new))
         (F.took faults.old) (F.took faults.new) }
+    // Unless it is 0, a first part of that may be printed.
+    ensures part { result ≢ 0 → TracesPart (S.gave source.old) (S.gave source.new)
+        (S.ended source.new) (O.took output.old) (O.took output.new) }
     ensures silent { result ≡ 0 → faults.new ≡ faults.old }
     ensures memory { result ≡ 4 → F.took faults.new ≡ F.took faults.old ++ memory_line }
     // At 0 the script's lines were followed, and printed are their answers and what is known at the
@@ -77,6 +80,10 @@ where
     ensures told { result ≡ 1 → TellsRefusal
         (IsRefusedFor IsUndescribed (S.gave source.old) (S.gave source.new) (S.ended source.new))
         (F.took faults.old) (F.took faults.new) }
+    // Unless it is 0, nothing or a first part of that line is printed.
+    ensures cut { result ≢ 0 → (O.took output.new ≡ O.took output.old)
+        ⊎ DoesScript DescribesPart (S.gave source.old) (S.gave source.new)
+        (S.ended source.new) (O.took output.old) (O.took output.new) }
     ensures silent { result ≡ 0 → faults.new ≡ faults.old }
     ensures memory { result ≡ 4 → F.took faults.new ≡ F.took faults.old ++ memory_line }
     // At 0 the canonical line of the text is printed; at 1 nothing is.
@@ -114,6 +121,10 @@ where
     ensures told { result ≡ 1 → TellsRefusal
         (IsRefusedFor IsRefusedScript (S.gave source.old) (S.gave source.new) (S.ended source.new))
         (F.took faults.old) (F.took faults.new) }
+    // Unless it is 0, nothing or a first part of that is printed.
+    ensures cut { result ≢ 0 → (O.took output.new ≡ O.took output.old)
+        ⊎ DoesScript (RehearsesPart A) (S.gave source.old) (S.gave source.new)
+        (S.ended source.new) (O.took output.old) (O.took output.new) }
     ensures silent { result ≡ 0 → faults.new ≡ faults.old }
     ensures memory { result ≡ 4 → F.took faults.new ≡ F.took faults.old ++ memory_line }
     // At 0 what the script says is played, and printed; at 1 nothing is printed.

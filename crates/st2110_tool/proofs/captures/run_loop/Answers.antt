@@ -2,7 +2,7 @@ use Rattle.std.proofs.Common.{List, [], ◌∷◌}
 use Rattle.st_format.specs.History.{IsRead}
 use Rattle.capture_engines.specs.Looped.{IsLoopRefusal}
 use Rattle.run_outcome.specs.Fault.{Failures, counts}
-use Rattle.run_outcome.proofs.Ended.{blamed, on_done}
+use Rattle.run_outcome.proofs.Ended.{blamed, on_done, on_refused}
 use Rattle.run_outcome.proofs.Refusals.{outcome_told}
 use Rattle.st2110_tool.proofs.captures.run_loop.Goals as goal
 
@@ -33,3 +33,8 @@ returns-clause-told g c =
     (g.S.ByteSource.ended run.new.source)) in
     λ one. outcome_told Is run.result (g.F.ByteSink.took c.args.faults.now)
     (g.F.ByteSink.took c.end.new.faults) (c.end.ensures.told one) run.ensures.refusal
+
+pub returns-clause-quiet : goal.returns-clause-quiet
+returns-clause-quiet g c =
+    let run = c.loop_back-outcome in
+    λ is. on_refused run.result _ (c.end.ensures.refused is) run.ensures.quiet

@@ -5,7 +5,7 @@ use Rattle.run_outcome.specs.Text.{GivesText}
 use Rattle.capture_engines.specs.Migrating.{LeavesAt, Passed, passed}
 use Rattle.capture_engines.specs.MigrateRefused.{IsMigrateRefusal}
 use Rattle.run_outcome.specs.declared.refusal.Refusal.{Refusal}
-use Rattle.run_outcome.proofs.Ended.{blamed, on_done}
+use Rattle.run_outcome.proofs.Ended.{blamed, on_done, on_refused}
 use Rattle.capture_engines.proofs.Leaving.{refused_left, run_left}
 use Rattle.run_outcome.proofs.Refusals.{outcome_told}
 use Rattle.st2110_tool.proofs.captures.run_migrate.Goals as goal
@@ -75,3 +75,8 @@ pub returns-clause-described : goal.returns-clause-described
 returns-clause-described g c =
     let run = c.migrate-outcome in
     λ is. on_done run.result _ (c.end.ensures.done is) run.ensures.described
+
+pub returns-clause-quiet : goal.returns-clause-quiet
+returns-clause-quiet g c =
+    let run = c.migrate-outcome in
+    λ is. on_refused run.result _ (c.end.ensures.refused is) run.ensures.quiet

@@ -3,7 +3,7 @@ use Rattle.std.specs.List.{sum_by, zip}
 use Rattle.run_outcome.specs.Moments.{WasRead}
 use Rattle.capture_engines.specs.Sent.{IsSendRefusal}
 use Rattle.run_outcome.specs.Fault.{Failures, counts, failures_in}
-use Rattle.run_outcome.proofs.Ended.{blamed, on_done}
+use Rattle.run_outcome.proofs.Ended.{blamed, on_done, on_refused}
 use Rattle.run_outcome.proofs.Refusals.{outcome_told}
 use Rattle.st2110_tool.proofs.captures.run_send.Goals as goal
 
@@ -37,3 +37,8 @@ returns-clause-told g c =
     (zip c.args.pictures.now run.new.pictures) in
     λ one. outcome_told Is run.result (g.F.ByteSink.took c.args.faults.now)
     (g.F.ByteSink.took c.end.new.faults) (c.end.ensures.told one) run.ensures.refusal
+
+pub returns-clause-quiet : goal.returns-clause-quiet
+returns-clause-quiet g c =
+    let run = c.send-outcome in
+    λ is. on_refused run.result _ (c.end.ensures.refused is) run.ensures.quiet

@@ -6,6 +6,7 @@ use Rattle.receiver_engines.specs.Refused.{IsRunRefusal}
 use Rattle.run_outcome.specs.Fault.{Failures, counts, failures_in}
 use Rattle.run_outcome.proofs.Ended.{blamed, on_done, on_refused}
 use Rattle.run_outcome.proofs.Refusals.{outcome_told}
+use Rattle.st2110_tool.proofs.Unfinished.{unfinished}
 use Rattle.st2110_tool.proofs.receivers.run_process.Goals as goal
 
 pub returns-clause-failures : goal.returns-clause-failures
@@ -47,3 +48,8 @@ returns-clause-told g c =
     c.args.wanted in
     λ one. outcome_told Is run.result (g.F.ByteSink.took c.args.faults.now)
     (g.F.ByteSink.took c.end.new.faults) (c.end.ensures.told one) run.ensures.refusal
+
+pub returns-clause-part : goal.returns-clause-part
+returns-clause-part g c =
+    let run = c.process-outcome in
+    λ not. unfinished run.result _ c.end.result c.end.ensures.finished not run.ensures.part

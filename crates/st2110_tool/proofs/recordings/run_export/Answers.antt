@@ -5,6 +5,7 @@ use Rattle.run_outcome.specs.Fault.{Failures, counts}
 use Rattle.run_outcome.proofs.Ended.{blamed, on_done, on_refused}
 use Rattle.run_outcome.proofs.Refusals.{outcome_told}
 use Rattle.st_format.specs.History.{IsRead}
+use Rattle.st2110_tool.proofs.Unfinished.{stopped}
 use Rattle.st2110_tool.proofs.recordings.run_export.Goals as goal
 
 pub returns-clause-failures : goal.returns-clause-failures
@@ -39,3 +40,8 @@ returns-clause-told g c =
     (file.ended run.new.capture)) in
     λ one. outcome_told Is run.result (g.F.ByteSink.took c.args.faults.now)
     (g.F.ByteSink.took c.end.new.faults) (c.end.ensures.told one) run.ensures.refusal
+
+pub returns-clause-left : goal.returns-clause-left
+returns-clause-left g c =
+    let run = c.export-outcome in
+    λ not. stopped run.result _ c.end.result c.end.ensures.finished not run.ensures.left

@@ -5,6 +5,7 @@ use Rattle.st2110_tool.proofs.ReadScripts.{read_all, read_whole}
 use Rattle.run_outcome.specs.Fault.{Failures, counts}
 use Rattle.run_outcome.proofs.Ended.{blamed, on_done}
 use Rattle.run_outcome.proofs.Refusals.{outcome_told}
+use Rattle.st2110_tool.proofs.Unfinished.{unfinished}
 use Rattle.st2110_tool.proofs.scripts.run_trace.Goals as goal
 
 pub returns-clause-failures : goal.returns-clause-failures
@@ -41,3 +42,8 @@ pub returns-clause-read : goal.returns-clause-read
 returns-clause-read g c =
     let run = c.trace-outcome in
     λ is. read_all run.result _ _ (c.end.ensures.refused is) run.ensures.read
+
+pub returns-clause-part : goal.returns-clause-part
+returns-clause-part g c =
+    let run = c.trace-outcome in
+    λ not. unfinished run.result _ c.end.result c.end.ensures.finished not run.ensures.part
