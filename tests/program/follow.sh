@@ -382,7 +382,7 @@ alike 'follow: what was sent, as files, the last' filed/3900.pic sent3.pic
 rm -r filed
 mkdir filed
 forty=
-while [ ${#forty} -lt 440 ]; do forty="$forty sent$((${#forty} / 11 % 3 + 1)).pic"; done
+while [ ${#forty} -lt 400 ]; do forty="$forty sent$((${#forty} / 10 % 3 + 1)).pic"; done
 # shellcheck disable=SC2086
 run send --out forty.cap --sdp q.sdp --base 900 $forty
 run follow --pictures filed forty.cap
