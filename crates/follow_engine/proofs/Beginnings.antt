@@ -115,7 +115,7 @@ follows_entries gave ended takes source source' r r' old new took took' sides no
 abbrev noted : Running → Following → Running
 noted r s = without r (frames_in r.follower) s
 
-totals_same : (r : Running) (s : Following) → s.size ≡ r.follower.size
+pub totals_same : (r : Running) (s : Following) → s.size ≡ r.follower.size
     → totals_text (noted r s) ≡ totals_text (ended r)
 totals_same r s same =
     ap (λ (n : ℕ). totals_text (noted r (record s { size = n }))) same

@@ -92,7 +92,7 @@ outcome_by takes eager r ds t old mid new took took' took'' totals is told ends 
 -- ---- the text
 
 -- the text by which the stream was begun is the one that is given, or that of the first file
-said_text : {A S : Type 0} (gave : S → List ℕ) (ended : S → Type 0)
+pub said_text : {A S : Type 0} (gave : S → List ℕ) (ended : S → Type 0)
     (ways : List (Result Flows Refusal)) (sdp : Option (List ℕ)) (first : List ℕ)
     (olds mids news : List (Side A S)) (octets : List (List ℕ)) (text : List ℕ)
     → AreOpened gave ended ways olds mids → IsFirstText first mids

@@ -5,6 +5,8 @@ use Rattle.media_file.specs.Records.{Entry}
 use Rattle.capture_engines.specs.Files.{first_way, flows_in, other_ways}
 use Rattle.recording_engines.specs.Joining.{Strand}
 use Rattle.recording_engines.specs.Strands.{strand_in}
+use Rattle.side_by_side.specs.Strands.{Goes}
+use Rattle.side_by_side.specs.declared.steering.Steering.{Steering}
 use Rattle.run_outcome.specs.declared.refusal.Refusal.{Refusal}
 
 -- the records of files, each taken so
@@ -16,3 +18,8 @@ strands_by ways (octets ∷ files) =
 -- the datagrams of records
 abbrev pub datagrams_in : List Entry → List (List ℕ)
 datagrams_in entries = map (λ e. e.octets) entries
+
+-- These records are the first that go of files, each file's in its own order; others may be left.
+pub record GoesFirst (s : Steering) (strands : List Strand) (entries : List Entry) : Type 0 where
+  pub left : List Strand
+  pub goes : Goes s strands entries left

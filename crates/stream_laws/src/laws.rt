@@ -101,7 +101,7 @@ pub fn one_y4m_stream<K: ByteSink, A: Allocator, B: Allocator, S: ByteSource>()
         frames_of_events (followed_events w is.opening is.entries) ≡ first ∷ others →
         IsYcc is.opening.format.sampling → k.format ≡ None →
         K.took l.sink ≡ K.took k.sink ++ y4m_text is.opening.format
-        (pictures_of k.filling k.fill k.held (first ∷ others)) }
+        (pictures_of k.settling.filling k.settling.fill k.settling.held (first ∷ others)) }
 {}
 
 /// The datagrams that go into a stream, where its files go side by side up to their ends, are those

@@ -4,8 +4,13 @@ use Rattle.run_outcome.proofs.Refusals.{none_refused}
 use Rattle.st_format.specs.Turns.{IsEnd, arrived}
 use Rattle.st_format.specs.declared.device.Turn.{Turn}
 use Rattle.side_by_side.specs.Sides.{AllOver, failures_each}
-use Rattle.follow_engine.specs.Running.{TakesTurn, running_of}
+use Rattle.media_file.specs.declared.fault.FileFault.TheVariants.{TooManyRecords}
+use Rattle.path_receiver.specs.Took.{datagrams_since}
+use Rattle.run_outcome.specs.LowerFaults.{capture_fault}
+use Rattle.follow_engine.specs.Events.{events_at, events_in}
+use Rattle.follow_engine.specs.Running.{TakesTurn, TellsSome, running_of}
 use Rattle.follow_engine.proofs.Blamed.{blames_end, fails_by}
+use Rattle.follow_engine.proofs.Cut.{if_refused, so_stops, so_told, tells_all, unrefused_if}
 use Rattle.follow_engine.proofs.Stopped.{stops_at}
 use Rattle.follow_engine.proofs.Turns.{so_begun, so_datagram, so_quiet}
 use Rattle.follow_engine.proofs.taking.follow_sides.Goals as goal
@@ -158,3 +163,66 @@ pub returns-clause-failures : goal.returns-clause-failures
 returns-clause-failures g c =
     let i = c.loop.invariant in
     rw c.of_capture.ensures (i.source_failures, (i.picture_failures, i.output_failures))
+
+-- ---- what was told before
+
+pub returns-in_err-take-in-Ok-Datagram-clause-before : goal.returns-in_err-take-in-Ok-Datagram-clause-before
+returns-in_err-take-in-Ok-Datagram-clause-before g c =
+    let p = err_from_is_err_and c.from_residual.result c.from_residual.ensures.1 in
+    rw (p.1, p.2) (unrefused_if _ c.in_err-take-in-Ok-Datagram.field-0.0
+    c.in_err-take-in-Ok-Datagram.ensures.unrefused)
+
+pub returns-in_err-take-in-Ok-Datagram-clause-part : goal.returns-in_err-take-in-Ok-Datagram-clause-part
+returns-in_err-take-in-Ok-Datagram-clause-part g c =
+    let w = c.in-Ok-Datagram in
+    let i = c.loop.invariant in
+    let takes = g.P.PictureSink.takes in
+    let fails = g.P.PictureSink.fails in
+    let took = g.O.ByteSink.took in
+    let run = c.args.run.now in
+    let arrives =
+    subst (λ (t : Turn). c.next.new.self.came ≡ c.loop.source.came ++ arrived t c.next.new.buf)
+    w.field-0-is w.ensures.came in
+    so_stops takes fails run.is_eager c.args.source.now.came c.loop.source.came
+    c.next.new.self.came (running_of run) (running_of c.loop.run) c.args.pictures.now
+    c.loop.pictures c.take.new.pictures (took c.args.output.now) (took c.loop.output)
+    (took c.take.new.output) w.field-0-0 (take w.count c.next.new.buf) i.so arrives
+    (subst (λ (b : Bool). TellsSome takes fails c.loop.pictures c.take.new.pictures
+    (took c.loop.output) (took c.take.new.output)
+    (events_at b (running_of c.loop.run) (take w.count c.next.new.buf))) i.eager
+    c.in_err-take-in-Ok-Datagram.ensures.part)
+
+-- nothing came in the call that failed
+pub returns-in-Err-clause-before : goal.returns-in-Err-clause-before
+returns-in-Err-clause-before g c =
+    if_refused _ c.fault_of.result
+    (so_told g.P.PictureSink.takes c.args.run.now.is_eager c.args.source.now.came
+    c.loop.source.came c.next.new.self.came (running_of c.args.run.now) (running_of c.loop.run)
+    c.args.pictures.now c.loop.pictures (g.O.ByteSink.took c.args.output.now)
+    (g.O.ByteSink.took c.loop.output) c.loop.invariant.so c.in-Err.ensures.kept)
+
+pub returns-in-Err-clause-part : goal.returns-in-Err-clause-part
+returns-in-Err-clause-part g c =
+    let took = g.O.ByteSink.took in
+    let run = c.args.run.now in
+    tells_all g.P.PictureSink.takes g.P.PictureSink.fails c.args.pictures.now c.loop.pictures
+    (took c.args.output.now) (took c.loop.output)
+    (events_in run.is_eager (running_of run)
+    (datagrams_since c.args.source.now.came c.next.new.self.came))
+    (so_told g.P.PictureSink.takes run.is_eager c.args.source.now.came
+    c.loop.source.came c.next.new.self.came (running_of run) (running_of c.loop.run)
+    c.args.pictures.now c.loop.pictures (took c.args.output.now)
+    (took c.loop.output) c.loop.invariant.so c.in-Err.ensures.kept)
+
+pub returns-clause-before : goal.returns-clause-before
+returns-clause-before g c =
+    rw c.of_capture.ensures (if_refused _ (capture_fault TooManyRecords) c.loop.invariant.so.told)
+
+pub returns-clause-part : goal.returns-clause-part
+returns-clause-part g c =
+    let took = g.O.ByteSink.took in
+    let run = c.args.run.now in
+    tells_all g.P.PictureSink.takes g.P.PictureSink.fails c.args.pictures.now c.loop.pictures
+    (took c.args.output.now) (took c.loop.output)
+    (events_in run.is_eager (running_of run)
+    (datagrams_since c.args.source.now.came c.loop.source.came)) c.loop.invariant.so.told
