@@ -4,9 +4,7 @@ use Rattle.run_outcome.proofs.Refusals.{none_refused}
 use Rattle.st_format.specs.Turns.{IsEnd, arrived}
 use Rattle.st_format.specs.declared.device.Turn.{Turn}
 use Rattle.side_by_side.specs.Sides.{AllOver, failures_each}
-use Rattle.media_file.specs.declared.fault.FileFault.TheVariants.{TooManyRecords}
 use Rattle.path_receiver.specs.Took.{datagrams_since}
-use Rattle.run_outcome.specs.LowerFaults.{capture_fault}
 use Rattle.follow_engine.specs.Events.{events_at, events_in}
 use Rattle.follow_engine.specs.Running.{TakesTurn, TellsSome, running_of}
 use Rattle.follow_engine.proofs.Blamed.{blames_end, fails_by}
@@ -216,7 +214,7 @@ returns-in-Err-clause-part g c =
 
 pub returns-clause-before : goal.returns-clause-before
 returns-clause-before g c =
-    rw c.of_capture.ensures (if_refused _ (capture_fault TooManyRecords) c.loop.invariant.so.told)
+    if_refused _ c.of_capture.result c.loop.invariant.so.told
 
 pub returns-clause-part : goal.returns-clause-part
 returns-clause-part g c =

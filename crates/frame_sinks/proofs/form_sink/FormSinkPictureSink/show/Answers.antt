@@ -1,6 +1,7 @@
+use Rattle.std.proofs.Common.{Some, ap, refl}
 use Rattle.frame_sinks.proofs.Written.{fails_frame, takes_frame}
 use Rattle.follow_engine.proofs.Grows.{grows_none}
-use Rattle.frame_sinks.specs.Sinks.{text_for}
+use Rattle.st_format.specs.declared.format.Format.{Format}
 use Rattle.frame_sinks.proofs.form_sink.FormSinkPictureSink.show.Goals as goal
 
 pub returns-clause-taken : goal.returns-clause-taken
@@ -9,4 +10,13 @@ returns-clause-taken g c =
     let kept = c.keep.ensures in
     takes_frame g.K.ByteSink.took c.args.self.now _ c.settle.new.self c.write_next.new.sink
     c.in_ok-picture.picture _ same.filling same.fill same.held same.picture
-    c.in_ok-write_next.ensures.written _ _ kept.filling kept.fill kept.held
+    c.in_ok-write_next.ensures.written refl
+    (ap (λ (f : Format). Some f) c.format.ensures.value) kept.filling kept.fill kept.held
+
+pub returns-in_err-picture-clause-failed : goal.returns-in_err-picture-clause-failed
+returns-in_err-picture-clause-failed g c = grows_none _ _
+
+pub returns-in_err-write_next-clause-failed : goal.returns-in_err-write_next-clause-failed
+returns-in_err-write_next-clause-failed g c =
+    fails_frame g.K.ByteSink.took c.args.self.now _ c.write_next.new.sink c.in_ok-picture.picture _
+    c.in_ok-picture.ensures.picture c.in_err-write_next.ensures.part refl
