@@ -26,4 +26,8 @@ pub mod NoInspectRefusals
 pub mod NoMigrateRefusals
 pub mod NoConvertRefusals
 pub mod NoPictureRefusals
+pub mod WholeFiles
+pub mod NoReceiveRefusals
+pub mod NoImportRefusals
 pub mod ProcessedOnce
+pub mod NoStreamsRefusals
