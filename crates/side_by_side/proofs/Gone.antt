@@ -7,7 +7,8 @@ use Rattle.recording_engines.specs.Joining.{IsOver, Strand}
 use Rattle.recording_reader.specs.declared.fault.ReadingFault.{ReadingFault}
 use Rattle.side_by_side.specs.Going.{first_place, going_by}
 use Rattle.side_by_side.specs.Steering.{stamp_of}
-use Rattle.side_by_side.specs.Steps.{Ahead, AllFresh, AllGoOn, Coming, GivesAt, GoesOn, HasGone}
+use Rattle.side_by_side.specs.Steps.{Ahead, AllFresh, Coming, GivesAt, HasGone, HasReadOn}
+use Rattle.side_by_side.specs.Steps.{HaveReadOn}
 use Rattle.side_by_side.specs.Steps.{Over, ReadsMore, Standing, Unknown, left_by, left_of, lefts}
 use Rattle.side_by_side.specs.Steps.{nothing, whole, whole_by, wholes}
 use Rattle.side_by_side.specs.Strands.{AllRunning, Goes, GoesNext, IsRunning, TakesAt, going_in}
@@ -47,7 +48,7 @@ pub record CameOne (s s' : Standing) (r' : Strand) : Type 0 where
   pub whole_is : whole s' r' ≡ whole s r
   pub left_is : left_of s' r' ≡ left_of s r
 
-came_one : (s s' : Standing) (r' : Strand) → GoesOn s s' → CameOne s s' r'
+came_one : (s s' : Standing) (r' : Strand) → HasReadOn s s' → CameOne s s' r'
 came_one s s' r' (inl same) = record {
   r = r';
   whole_is = ap (λ (t : Standing). whole t r') same;
@@ -71,7 +72,7 @@ pub record CameAll (ss ss' : List Standing) (rs' : List Strand) : Type 0 where
 cons : {x y : Strand} {xs ys : List Strand} → x ≡ y → xs ≡ ys → x ∷ xs ≡ y ∷ ys
 cons one rest = cc
 
-came_all : (ss ss' : List Standing) (rs' : List Strand) → AllGoOn ss ss' → CameAll ss ss' rs'
+came_all : (ss ss' : List Standing) (rs' : List Strand) → HaveReadOn ss ss' → CameAll ss ss' rs'
 came_all [] [] rs' on = record { rs = rs'; wholes_are = refl; lefts_are = refl }
 came_all [] (s' ∷ ss') rs' on = absurd on
 came_all (s ∷ ss) [] rs' on = absurd on
@@ -92,7 +93,7 @@ came_all (s ∷ ss) (s' ∷ ss') (r' ∷ rs') on =
       lefts_are = cons one.left_is rest.lefts_are;
     }
 
-pub gone_on : (st : Steering) (ss ss' : List Standing) (es : List Entry) → AllGoOn ss ss'
+pub gone_on : (st : Steering) (ss ss' : List Standing) (es : List Entry) → HaveReadOn ss ss'
     → HasGone st ss es → HasGone st ss' es
 gone_on st ss ss' es on gone = record {
   goes = λ rs'.
@@ -109,7 +110,7 @@ more_stays es es' es'' Unknown t more is = absurd more
 more_stays es es' es'' (Coming e) t more is = absurd cc
 more_stays es es' es'' (Over f) t more is = absurd cc
 
-goes_on_both : (s t u : Standing) → GoesOn s t → GoesOn t u → GoesOn s u
+goes_on_both : (s t u : Standing) → HasReadOn s t → HasReadOn t u → HasReadOn s u
 goes_on_both s t u (inl same) (inl more) = inl (more ∙ same)
 goes_on_both s t u (inl same) (inr more) =
     inr (subst (λ (x : Standing). (x.ahead ≡ Unknown) × ReadsMore x.entries u.ahead u.entries) same
@@ -119,11 +120,11 @@ goes_on_both s t u (inr first) (inl same) =
 goes_on_both s t u (inr first) (inr more) =
     inr (first.0, more_stays s.entries t.entries u.entries t.ahead u first.1 more.0)
 
-pub all_stay : (ss : List Standing) → AllGoOn ss ss
+pub all_stay : (ss : List Standing) → HaveReadOn ss ss
 all_stay [] = tt
 all_stay (s ∷ ss) = (inl refl, all_stay ss)
 
-pub all_on : (ss ts us : List Standing) → AllGoOn ss ts → AllGoOn ts us → AllGoOn ss us
+pub all_on : (ss ts us : List Standing) → HaveReadOn ss ts → HaveReadOn ts us → HaveReadOn ss us
 all_on [] [] [] first more = tt
 all_on [] [] (u ∷ us) first more = absurd more
 all_on [] (t ∷ ts) us first more = absurd first

@@ -3,7 +3,8 @@ use Rattle.std.proofs.Common.{◌≡◌, ℕ, zero, suc, ◌+◌, ◌-◌, List,
 use Rattle.std.proofs.Common.{◌∙◌, arith, length}
 use Rattle.media_file.specs.Records.{Entry}
 use Rattle.recording_engines.specs.Joining.{Strand}
-use Rattle.side_by_side.specs.InOrder.{before_rest, first_in_order, gone_of, head_at, head_of}
+use Rattle.side_by_side.specs.InOrder.{before_rest, first_entry, first_entry_at, first_in_order}
+use Rattle.side_by_side.specs.InOrder.{gone_of}
 use Rattle.side_by_side.specs.InOrder.{next_first, record_count, tail_of, without_at}
 use Rattle.side_by_side.specs.Steps.{HasGone, Standing, lefts, wholes}
 use Rattle.side_by_side.specs.Strands.{Goes, TakesAt}
@@ -13,10 +14,10 @@ use Rattle.side_by_side.specs.declared.steering.Steering.{Steering}
 -- ---- a record that is taken
 
 taken_head : (k : ℕ) (strands : List Strand) (e : Entry) (left : List Strand)
-    → TakesAt k strands e left → head_at k strands ≡ Some e
+    → TakesAt k strands e left → first_entry_at k strands ≡ Some e
 taken_head k [] e left takes = absurd takes
 taken_head k (s ∷ ss) e [] takes = absurd takes
-taken_head zero (s ∷ ss) e (l ∷ ls) takes = ap (λ (x : Strand). head_of x.entries) takes.0
+taken_head zero (s ∷ ss) e (l ∷ ls) takes = ap (λ (x : Strand). first_entry x.entries) takes.0
 taken_head (suc k) (s ∷ ss) e (l ∷ ls) takes = taken_head k ss e ls takes.1
 
 cons : {x y : Strand} {xs ys : List Strand} → x ≡ y → xs ≡ ys → x ∷ xs ≡ y ∷ ys

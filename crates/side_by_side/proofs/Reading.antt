@@ -27,7 +27,8 @@ use Rattle.side_by_side.specs.Side.{StopsFile, StopsReader, StopsSide, ahead_by,
 use Rattle.side_by_side.specs.Side.{going_found, goings, reader_standing, standing_by, standing_of}
 use Rattle.side_by_side.specs.Sides.{AllRead, AllSound, AllUnfailed, OneSideAt, standings}
 use Rattle.side_by_side.specs.Steering.{stamp_of}
-use Rattle.side_by_side.specs.Steps.{Ahead, AllGoOn, Coming, GoesOn, Over, ReadsMore, Standing}
+use Rattle.side_by_side.specs.Steps.{Ahead, Coming, HasReadOn, HaveReadOn, Over, ReadsMore}
+use Rattle.side_by_side.specs.Steps.{Standing}
 use Rattle.side_by_side.specs.declared.going.Going.{Going}
 use Rattle.side_by_side.specs.declared.going.Going.TheVariants.{Unread, AtOnce, By, Never}
 use Rattle.side_by_side.specs.declared.side.Side.{Side}
@@ -133,7 +134,7 @@ reads_one x r r' finds =
 
 -- of one that stood so
 pub went_one : {S : Type 0} (x : Option ℕ) (r r' : FileReader S) → r.standing ≡ Reads
-    → FindsOne r r' → GoesOn (reader_standing Unread r) (reader_standing (going_by x) r')
+    → FindsOne r r' → HasReadOn (reader_standing Unread r) (reader_standing (going_by x) r')
 went_one x r r' reads finds =
     inr (ap (λ (s : Stand). ahead_by s Unread r.at_hand) reads, reads_one x r r' finds)
 
@@ -176,7 +177,7 @@ standing_same w r r' same before after =
 
 went_end : {S : Type 0} (stand : Stand) (r r' : FileReader S) → r.standing ≡ stand
     → ((f : ReadingFault) → stand ≡ Failed f → ⊥) → Finds false r r'
-    → GoesOn (reader_standing Unread r) (reader_standing Never r')
+    → HasReadOn (reader_standing Unread r) (reader_standing Never r')
 went_end Reads r r' at unfailed finds =
     inr (
       ap (λ (s : Stand). ahead_by s Unread r.at_hand) at,
@@ -200,7 +201,7 @@ read_end st r r' unfailed finds = record {
 went_fault : {S : Type 0} (f : ReadingFault) (stand : Stand) (r r' : FileReader S)
     → r.standing ≡ stand → (stand ≡ Ended → ⊥)
     → ((g : ReadingFault) → stand ≡ Failed g → g ≡ f) → FindsFault f r r'
-    → GoesOn (reader_standing Unread r) (reader_standing Unread r')
+    → HasReadOn (reader_standing Unread r) (reader_standing Unread r')
 went_fault f Reads r r' at unended same finds =
     inr (
       ap (λ (s : Stand). ahead_by s Unread r.at_hand) at,
@@ -286,7 +287,7 @@ pub record FileRead {A S : Type 0} (st : Steering) (w : Going) (old new : Import
   where
     pub sound : IsSoundFile st w new
     pub read : IsReadBy w
-    pub goes_on : GoesOn (standing_by Unread old) (standing_by w new)
+    pub goes_on : HasReadOn (standing_by Unread old) (standing_by w new)
 
 file_read : {A S : Type 0} (st : Steering) (w : Going) (old new : ImportFile A S)
     → ReadsFile st w old new → FileRead st w old new
@@ -310,12 +311,13 @@ has_read st old new was reads =
     record {
       sound = so.sound;
       read = so.read;
-      goes_on = subst (λ (w : Going). GoesOn (standing_by w old.file) (standing_of new)) (sym was)
+      goes_on =
+          subst (λ (w : Going). HasReadOn (standing_by w old.file) (standing_of new)) (sym was)
           so.goes_on;
     }
 
 stops_at : {A S : Type 0} (f : ReadingFault) (old new : ImportFile A S) → StopsFile f old new
-    → IsAt f new × GoesOn (standing_by Unread old) (standing_by Unread new)
+    → IsAt f new × HasReadOn (standing_by Unread old) (standing_by Unread new)
 stops_at f (Closed s) new stops = absurd stops
 stops_at f (Open r) (Closed s) stops = absurd stops
 stops_at f (Open r) (Open r') stops = (stops.at, stops.goes_on)
@@ -329,8 +331,9 @@ stops_side f old new was is stops =
     record {
       unread = is;
       at = so.0;
-      goes_on = subst (λ (w : Going). GoesOn (standing_by w old.file) (standing_of new)) (sym was)
-          (subst (λ (w : Going). GoesOn (standing_by Unread old.file) (standing_by w new.file))
+      goes_on =
+          subst (λ (w : Going). HasReadOn (standing_by w old.file) (standing_of new)) (sym was)
+          (subst (λ (w : Going). HasReadOn (standing_by Unread old.file) (standing_by w new.file))
           (sym is) so.1);
     }
 
@@ -392,8 +395,8 @@ all_one_more P (x ∷ xs) (suc k) y lt are is =
 
 -- one was read on, and the others are as they were
 pub on_set : {A S : Type 0} (sides : List (Side A S)) (k : ℕ) (d s' : Side A S)
-    → GoesOn (standing_of (get_or sides k d)) (standing_of s')
-    → AllGoOn (standings sides) (standings (set sides k s'))
+    → HasReadOn (standing_of (get_or sides k d)) (standing_of s')
+    → HaveReadOn (standings sides) (standings (set sides k s'))
 on_set [] k d s' on = tt
 on_set (s ∷ ss) zero d s' on = (on, all_stay (standings ss))
 on_set (s ∷ ss) (suc k) d s' on = (inl refl, on_set ss k d s' on)

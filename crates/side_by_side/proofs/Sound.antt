@@ -132,6 +132,7 @@ pub tells_turn : {A S : Type 0} (st : Steering) (t : Turn) (buf : List ℕ)
     (seen st news delivered' failures fault)
 tells_turn st (Datagram path count) buf olds news delivered delivered' failures fault is tells are one =
     record {
+      tells = tt;
       within = tells.few;
       came = given_more st path count buf olds news is.entries is.gone tells;
       delivered = one;
@@ -143,6 +144,7 @@ tells_turn st (Datagram path count) buf olds news delivered delivered' failures 
 tells_turn st Quiet buf olds news delivered delivered' failures fault is tells are one =
     absurd tells
 tells_turn st End buf olds news delivered delivered' failures fault is tells are one = record {
+  tells = tt;
   within = tt;
   came = given_same st olds news is.entries is.gone (tells.gone is.entries is.gone)
       ∙ sym (append-nil (given_of st olds));

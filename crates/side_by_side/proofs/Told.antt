@@ -18,7 +18,8 @@ use Rattle.side_by_side.specs.Sides.{AllOver, AllRead, AllSound, AllUnfailed, Gi
 use Rattle.side_by_side.specs.Sides.{IsFreshFile, ReadsAll}
 use Rattle.side_by_side.specs.Sides.{TellsEnd, TellsNext, standings}
 use Rattle.side_by_side.specs.Steering.{stamp_of}
-use Rattle.side_by_side.specs.Steps.{Ahead, AllFresh, AllGoOn, Coming, GivesAt, GoesOn, HasGone}
+use Rattle.side_by_side.specs.Steps.{Ahead, AllFresh, Coming, GivesAt, HasGone, HasReadOn}
+use Rattle.side_by_side.specs.Steps.{HaveReadOn}
 use Rattle.side_by_side.specs.Steps.{IsFresh, Over, Standing, Unknown}
 use Rattle.side_by_side.specs.declared.going.Going.{Going}
 use Rattle.side_by_side.specs.declared.going.Going.TheVariants.{Unread, AtOnce, By, Never}
@@ -234,7 +235,7 @@ told_end st olds news reads none = record {
 -- ---- where all were read on none was at a fault
 
 were_by : (stand : Stand) (w : Going) (h : Option Entry) (es : List Entry) (t : Standing)
-    → GoesOn (record { entries = es; ahead = ahead_by stand w h }) t → IsKnownAhead t.ahead
+    → HasReadOn (record { entries = es; ahead = ahead_by stand w h }) t → IsKnownAhead t.ahead
     → fault_of stand ≡ None
 were_by Reads w h es t on known = refl
 were_by Ended w h es t on known = refl
@@ -245,12 +246,13 @@ were_by (Failed f) w h es t (inr more) known =
     let no : Over (Some f) ≡ Unknown = more.0 in absurd cc
 
 were_file : {A S : Type 0} (w : Going) (f : ImportFile A S) (t : Standing)
-    → GoesOn (standing_by w f) t → IsKnownAhead t.ahead → IsUnfailedFile f
+    → HasReadOn (standing_by w f) t → IsKnownAhead t.ahead → IsUnfailedFile f
 were_file w (Closed s) t on known = tt
 were_file w (Open r) t on known = were_by r.standing w r.at_hand r.records t on known
 were_file w Taken t on known = tt
 
-were_all : {A S : Type 0} (olds news : List (Side A S)) → AllGoOn (standings olds) (standings news)
+were_all : {A S : Type 0} (olds news : List (Side A S))
+    → HaveReadOn (standings olds) (standings news)
     → AllKnownAhead (standings news) → AllUnfailed olds
 were_all [] news on known = tt
 were_all (s ∷ ss) [] on known = absurd on

@@ -14,19 +14,19 @@ record_count [] = 0
 record_count (s ∷ ss) = length s.entries + record_count ss
 
 -- the first of some records, and those behind it
-abbrev pub head_of : List Entry → Option Entry
-head_of [] = None
-head_of (e ∷ es) = Some e
+abbrev pub first_entry : List Entry → Option Entry
+first_entry [] = None
+first_entry (e ∷ es) = Some e
 
 abbrev pub tail_of : List Entry → List Entry
 tail_of [] = []
 tail_of (e ∷ es) = es
 
 -- the first record of the file of a place, and the files without it
-abbrev pub head_at : ℕ → List Strand → Option Entry
-head_at place [] = None
-head_at zero (s ∷ ss) = head_of s.entries
-head_at (suc place) (s ∷ ss) = head_at place ss
+abbrev pub first_entry_at : ℕ → List Strand → Option Entry
+first_entry_at place [] = None
+first_entry_at zero (s ∷ ss) = first_entry s.entries
+first_entry_at (suc place) (s ∷ ss) = first_entry_at place ss
 
 abbrev pub without_at : ℕ → List Strand → List Strand
 without_at place [] = []
@@ -41,7 +41,7 @@ before_rest (Some e) rest = e ∷ rest
 abbrev pub next_first : Option (ℕ × Going) → List Strand → (List Strand → List Entry) → List Entry
 next_first None strands rest = []
 next_first (Some x) strands rest =
-    before_rest (head_at x.0 strands) (rest (without_at x.0 strands))
+    before_rest (first_entry_at x.0 strands) (rest (without_at x.0 strands))
 
 -- the first so many records of files, in the order in which they go
 unfoldable pub first_in_order : ℕ → Steering → List Strand → List Entry

@@ -13,7 +13,7 @@ use Rattle.recording_reader.specs.declared.way.Standing.TheVariants.{Reads, Ende
 use Rattle.run_outcome.specs.Fault.{Blames, counts}
 use Rattle.side_by_side.specs.Going.{IsReadBy, going_by}
 use Rattle.side_by_side.specs.Steering.{stamp_of}
-use Rattle.side_by_side.specs.Steps.{Ahead, Coming, GoesOn, Over, Standing, Unknown}
+use Rattle.side_by_side.specs.Steps.{Ahead, Coming, HasReadOn, Over, Standing, Unknown}
 use Rattle.side_by_side.specs.declared.going.Going.{Going}
 use Rattle.side_by_side.specs.declared.going.Going.TheVariants.{Unread, AtOnce, By, Never}
 use Rattle.side_by_side.specs.declared.side.Side.{Side}
@@ -110,12 +110,12 @@ pub record ReadsReader {S : Type 0} (steering : Steering) (w : Going) (old new :
     : Type 0 where
   pub sound : IsSoundBy steering w new.standing new.at_hand
   pub read : IsReadBy w
-  pub goes_on : GoesOn (reader_standing Unread old) (reader_standing w new)
+  pub goes_on : HasReadOn (reader_standing Unread old) (reader_standing w new)
 
 -- One was read on, to a fault, at which it stays.
 pub record StopsReader {S : Type 0} (f : ReadingFault) (old new : FileReader S) : Type 0 where
   pub at : new.standing ≡ Failed f
-  pub goes_on : GoesOn (reader_standing Unread old) (reader_standing Unread new)
+  pub goes_on : HasReadOn (reader_standing Unread old) (reader_standing Unread new)
 
 -- The same of a file; one that isn't opened has none.
 abbrev pub ReadsFile : {A S : Type 0} → Steering → Going → ImportFile A S → ImportFile A S → Type 0
@@ -136,13 +136,13 @@ StopsFile f Taken new = ⊥
 pub record HasRead {A S : Type 0} (steering : Steering) (old new : Side A S) : Type 0 where
   pub sound : IsSoundSide steering new
   pub read : IsReadBy new.going
-  pub goes_on : GoesOn (standing_of old) (standing_of new)
+  pub goes_on : HasReadOn (standing_of old) (standing_of new)
 
 -- It was read on, to a fault, at which it stays.
 pub record StopsSide {A S : Type 0} (f : ReadingFault) (old new : Side A S) : Type 0 where
   pub unread : new.going ≡ Unread
   pub at : IsAt f new.file
-  pub goes_on : GoesOn (standing_of old) (standing_of new)
+  pub goes_on : HasReadOn (standing_of old) (standing_of new)
 
 -- Its datagram was given.
 pub record IsGiven {A S : Type 0} (old new : Side A S) : Type 0 where

@@ -24,7 +24,7 @@ use Rattle.st_format.specs.declared.path.Path.{Path}
 use Rattle.side_by_side.specs.Going.{IsReadBy}
 use Rattle.side_by_side.specs.InOrder.{gone_of}
 use Rattle.side_by_side.specs.Side.{Begun, IsGiven, IsSoundSide, IsUnfailed, begun_at, standing_of}
-use Rattle.side_by_side.specs.Steps.{AllGoOn, HasGone, Over, Standing, nothing}
+use Rattle.side_by_side.specs.Steps.{HasGone, HaveReadOn, Over, Standing, nothing}
 use Rattle.side_by_side.specs.Strands.{GoesWhole}
 use Rattle.side_by_side.specs.declared.going.Going.TheVariants.{Unread}
 use Rattle.side_by_side.specs.declared.side.Side.{Side}
@@ -79,14 +79,14 @@ pub record ReadsAll {A S : Type 0} (steering : Steering) (olds news : List (Side
     : Type 0 where
   pub sound : AllSound steering news
   pub read : AllRead news
-  pub goes_on : AllGoOn (standings olds) (standings news)
+  pub goes_on : HaveReadOn (standings olds) (standings news)
 
 -- One was read on to a fault, at which it stays.
 pub record StopsAll {A S : Type 0} (steering : Steering) (f : ReadingFault)
     (olds news : List (Side A S)) : Type 0 where
   pub sound : AllSound steering news
   pub stopped : OneSideAt f news
-  pub goes_on : AllGoOn (standings olds) (standings news)
+  pub goes_on : HaveReadOn (standings olds) (standings news)
 
 -- The datagram that the one of a place has at hand was given by a turn, whose octets stand at the
 -- front of a buffer.
@@ -159,8 +159,15 @@ pub record IsSideBySide {A S : Type 0} (s : Sides A S) : Type 0 where
   pub came_is : s.came ≡ datagrams_of entries
   pub stopped : IsStopped s.fault s.sides
 
+-- a turn tells a datagram, or the end
+abbrev pub IsDatagramOrEnd : Turn → Type 0
+IsDatagramOrEnd (Datagram path count) = ⊤
+IsDatagramOrEnd Quiet = ⊥
+IsDatagramOrEnd End = ⊤
+
 -- A call told a turn: the datagram of the file that goes first, or the end where none has one.
 pub record TellsSides {A S : Type 0} (t : Turn) (buf : List ℕ) (old new : Sides A S) : Type 0 where
+  pub tells : IsDatagramOrEnd t
   pub within : IsWithin t
   pub came : new.came ≡ old.came ++ arrived t buf
   pub delivered : CountsTurn t old.delivered new.delivered

@@ -63,15 +63,15 @@ ReadsMore es (Coming e) es' = es' ≡ es ++ e ∷ []
 ReadsMore es (Over f) es' = es' ≡ es
 
 -- a file is as it was, or what comes next of it was read
-abbrev pub GoesOn : Standing → Standing → Type 0
-GoesOn s s' =
+abbrev pub HasReadOn : Standing → Standing → Type 0
+HasReadOn s s' =
     (s' ≡ s) ⊎ ((s.ahead ≡ Unknown) × ReadsMore s.entries s'.ahead s'.entries)
 
-abbrev pub AllGoOn : List Standing → List Standing → Type 0
-AllGoOn [] [] = ⊤
-AllGoOn [] (s' ∷ ss') = ⊥
-AllGoOn (s ∷ ss) [] = ⊥
-AllGoOn (s ∷ ss) (s' ∷ ss') = GoesOn s s' × AllGoOn ss ss'
+abbrev pub HaveReadOn : List Standing → List Standing → Type 0
+HaveReadOn [] [] = ⊤
+HaveReadOn [] (s' ∷ ss') = ⊥
+HaveReadOn (s ∷ ss) [] = ⊥
+HaveReadOn (s ∷ ss) (s' ∷ ss') = HasReadOn s s' × HaveReadOn ss ss'
 
 -- ---- giving
 

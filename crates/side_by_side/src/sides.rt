@@ -2,11 +2,11 @@
 ghost use Rattle.std.specs.Prelude.{◌≡◌, ◌≤◌, ◌↔◌, ◌++◌, None, Some, IfErr, IfOk, OnErr, OnOk};
 ghost use Rattle.std.specs.Prelude.{MatchResult, [], length};
 ghost use Rattle.std.specs.List.{AllByRecursion};
-ghost use Rattle.recording_engines.specs.Files.{IsKnown};
+ghost use Rattle.recording_engines.specs.Files.{IsKnown, IsReadByFlows};
 ghost use Rattle.side_by_side.specs.Side.{AccountsFor};
 ghost use Rattle.side_by_side.specs.Sides.{AllOver, AllUnfailed, FailsBy, HasGivenAll, IsBegun};
-ghost use Rattle.side_by_side.specs.Sides.{IsSideBySide, IsStopped, StopsSides, TellsSides};
-ghost use Rattle.side_by_side.specs.Sides.{begun_each, failures_each, last_fault_of};
+ghost use Rattle.side_by_side.specs.Sides.{IsDatagramOrEnd, IsSideBySide, IsStopped, StopsSides};
+ghost use Rattle.side_by_side.specs.Sides.{TellsSides, begun_each, failures_each, last_fault_of};
 ghost use Rattle.st_format.specs.Device.{CountsFaults};
 ghost use Rattle.st_format.specs.Turns.{CountsTurn, IsEnd, IsWithin, TakesTurn, arrived};
 
@@ -94,12 +94,13 @@ impl<A: Allocator, S: ByteSource> SideBySide<A, S> {
         let _failures = &self.failures;
     }
 
-    /// What is known of the octets of each file, by where its reader stands; and where each is at
-    /// its end, that all of its records were given. A caller's proof learns it from here; nothing
-    /// is done.
+    /// What is known of the octets of each file, by where its reader stands; that a recording is
+    /// read by flows; and where each is at its end, that all of its records were given. A caller's
+    /// proof learns it from here; nothing is done.
     #[inline(always)]
     pub fn history(&self)
         ensures known { AllByRecursion (λ s. IsKnown S.gave S.ended s.file) self.now.sides }
+        ensures by_flows { AllByRecursion (λ s. IsReadByFlows s.file) self.now.sides }
         ensures all { AllOver self.now.sides → HasGivenAll S.gave S.ended self.now }
     {
         know_all(&self.sides);
@@ -155,7 +156,8 @@ impl<A: Allocator, S: ByteSource> SideBySide<A, S> {
 
 /// What is known of the octets of files.
 fn know_all<A: Allocator, S: ByteSource>(sides: &[Side<A, S>])
-    ensures { AllByRecursion (λ s. IsKnown S.gave S.ended s.file) sides.now }
+    ensures known { AllByRecursion (λ s. IsKnown S.gave S.ended s.file) sides.now }
+    ensures by_flows { AllByRecursion (λ s. IsReadByFlows s.file) sides.now }
 {
     let Some((first, rest)) = sides.split_first() else {
         return;
@@ -166,7 +168,8 @@ fn know_all<A: Allocator, S: ByteSource>(sides: &[Side<A, S>])
 
 /// The same of one.
 fn know<A: Allocator, S: ByteSource>(file: &ImportFile<A, S>)
-    ensures { IsKnown S.gave S.ended file.now }
+    ensures known { IsKnown S.gave S.ended file.now }
+    ensures by_flows { IsReadByFlows file.now }
 {
     match file {
         ImportFile::Closed(_) => {}
@@ -193,6 +196,7 @@ impl<A: Allocator, S: ByteSource> DatagramSource for SideBySide<A, S> {
         requires { 65535 ≤ length buf.old }
         ensures room { length buf.new ≡ length buf.old }
         ensures within { IfOk result (λ t. IsWithin t) }
+        ensures tells { IfOk result IsDatagramOrEnd }
         ensures turn { IfOk result (λ t. TakesTurn None None t buf.new) }
         ensures delivered { MatchResult result
             (λ t. CountsTurn t self.old.delivered self.new.delivered)

@@ -20,7 +20,8 @@ use Rattle.capture_engines.specs.Stopping.{IsReadingStop}
 use Rattle.capture_engines.specs.Taking.{said_behind, said_by}
 use Rattle.capture_engines.specs.declared.way.Way.{Way}
 use Rattle.capture_engines.proofs.Readings.{ended_has, file_goes, said_same}
-use Rattle.window_finding.specs.Finding.{AnnouncesType, FindsBy, FindsFile, FindsRecords, Stands}
+use Rattle.window_finding.specs.Finding.{AnnouncesType, FindsBy, FindsFile, FindsRecords}
+use Rattle.window_finding.specs.Finding.{FindsSoFar}
 use Rattle.window_finding.specs.First.{first_timestamps}
 use Rattle.window_finding.specs.Turns.{IsDone, IsStop}
 use Rattle.window_finding.specs.declared.finder.Finder.{Finder}
@@ -96,14 +97,14 @@ found_by o said b a xs ds found before = record {
 -- so one that had begun by a text stands by it
 stands_by : {A : Type 0} (o : Sought) (text : List ℕ) (b a : Finder A) (xs : List (List ℕ))
     → FindsMore xs b a → (said : Option (List ℕ)) (ds : List (List ℕ))
-    → Stands o (Some b) said ds → Stands o (Some a) (said_by said text) (ds ++ xs)
+    → FindsSoFar o (Some b) said ds → FindsSoFar o (Some a) (said_by said text) (ds ++ xs)
 stands_by o text b a xs found None ds stands = absurd stands
 stands_by o text b a xs found (Some said) ds stands = found_by o said b a xs ds found stands
 
 -- one that began with the file stands by its text
 begun_by : {A : Type 0} (o : Sought) (text : List ℕ) (b a : Finder A) (xs : List (List ℕ))
     → FindsMore xs b a → FindsBy o text b [] → (said : Option (List ℕ)) (ds : List (List ℕ))
-    → Stands {A = A} o None said ds → Stands o (Some a) (said_by said text) (ds ++ xs)
+    → FindsSoFar {A = A} o None said ds → FindsSoFar o (Some a) (said_by said text) (ds ++ xs)
 begun_by o text b a xs found begun (Some said) ds stands = absurd stands
 begun_by o text b a xs found begun None ds stands =
     found_by o text b a xs ds found
@@ -132,7 +133,7 @@ abbrev pub IsFull : {A : Type 0} → Option (Finder A) → Type 0
 IsFull begun = MatchOption begun ⊥ (λ s. s.sought.count ≤ length s.window.items)
 
 full_on : {A : Type 0} (o : Sought) (a : Option (Finder A)) (said : Option (List ℕ))
-    (ds more : List (List ℕ)) → IsFull a → Stands o a said ds → Stands o a said (ds ++ more)
+    (ds more : List (List ℕ)) → IsFull a → FindsSoFar o a said ds → FindsSoFar o a said (ds ++ more)
 full_on o None said ds more full stands = absurd full
 full_on o (Some s) None ds more full stands = absurd stands
 full_on o (Some s) (Some said) ds more full stands = record {
@@ -146,7 +147,8 @@ full_on o (Some s) (Some said) ds more full stands = record {
 -- a file that is not looked at
 full_stays : {A : Type 0} (o : Sought) (s : Finder A) (octets : List ℕ)
     (said : Option (List ℕ)) (ds more : List (List ℕ)) → IsFull (Some s)
-    → Stands o (Some s) said ds → Stands o (Some s) (said_behind said (octets ∷ [])) (ds ++ more)
+    → FindsSoFar o (Some s) said ds
+    → FindsSoFar o (Some s) (said_behind said (octets ∷ [])) (ds ++ more)
 full_stays o s octets None ds more full stands = absurd stands
 full_stays o s octets (Some said) ds more full stands =
     full_on o (Some s) (Some said) ds more full stands
@@ -175,9 +177,9 @@ full_goes o gave ended r w text b a by same reads full given found = record {
       sym (map-append (λ (e : Entry). e.octets) r.records first.0)
       ∙ ap octets_of (sym first.1
       ∙ ap (λ (f : Option Flows). records_of_file f octets) by) in
-      subst (λ (t : Option (List ℕ)). Stands o a t (ds ++ file_datagrams w octets))
+      subst (λ (t : Option (List ℕ)). FindsSoFar o a t (ds ++ file_datagrams w octets))
       (said_same said text octets (known.text ∙ sym same))
-      (subst (λ (l : List (List ℕ)). Stands o a (said_by said text) l)
+      (subst (λ (l : List (List ℕ)). FindsSoFar o a (said_by said text) l)
       (append_assoc ds (octets_of r.records) (octets_of first.0)
       ∙ ap (λ (l : List (List ℕ)). ds ++ l) all)
       (full_on o a (said_by said text) (ds ++ octets_of r.records) (octets_of first.0) full
@@ -192,7 +194,7 @@ file_found : {S A : Type 0} (o : Sought) (gave : S → List ℕ) (ended : S → 
     → FindsFile o w (IsRead r.before.gave (gave r.source) (ended r.source)) b a
 file_found o gave ended r w text b a by same (inl over) given found =
     file_goes w (IsRead r.before.gave (gave r.source) (ended r.source)) text r.records
-    (Stands o b) (Stands o a) (ended_has gave ended r w text by same over given) found
+    (FindsSoFar o b) (FindsSoFar o a) (ended_has gave ended r w text by same over given) found
 file_found o gave ended r w text b a by same (inr full) given found =
     full_goes o gave ended r w text b a by same full.0 full.1 given found
 

@@ -48,27 +48,27 @@ pub record FindsBy {A : Type 0} (o : Sought) (text : List ℕ) (s : Finder A)
   pub first : s.window.items ≡ first_timestamps o.count s.payload_type o.ssrc datagrams
 
 -- the same, or that the finding has not begun, by no text
-abbrev pub Stands : {A : Type 0} → Sought → Option (Finder A) → Option (List ℕ)
+abbrev pub FindsSoFar : {A : Type 0} → Sought → Option (Finder A) → Option (List ℕ)
     → List (List ℕ) → Type 0
-Stands o None None datagrams = datagrams ≡ []
-Stands o None (Some text) datagrams = ⊥
-Stands o (Some s) None datagrams = ⊥
-Stands o (Some s) (Some text) datagrams = FindsBy o text s datagrams
+FindsSoFar o None None datagrams = datagrams ≡ []
+FindsSoFar o None (Some text) datagrams = ⊥
+FindsSoFar o (Some s) None datagrams = ⊥
+FindsSoFar o (Some s) (Some text) datagrams = FindsBy o text s datagrams
 
 -- those of datagrams, of a file, and of all files were
 abbrev pub FindsRecords : {A : Type 0} → Sought → List ℕ → List (List ℕ) → Option (Finder A)
     → Option (Finder A) → Type 0
 FindsRecords o text datagrams before after =
-    RecordsGo text datagrams (Stands o before) (Stands o after)
+    RecordsGo text datagrams (FindsSoFar o before) (FindsSoFar o after)
 
 abbrev pub FindsFile : {A : Type 0} → Sought → Way → (List ℕ → Type 0) → Option (Finder A)
     → Option (Finder A) → Type 0
-FindsFile o w told before after = FileGoes w told (Stands o before) (Stands o after)
+FindsFile o w told before after = FileGoes w told (FindsSoFar o before) (FindsSoFar o after)
 
 abbrev pub FindsFiles : {S A : Type 0} → Sought → List (Result Flows Refusal)
     → (S → List ℕ → Type 0) → List S → Option (Finder A) → Option (Finder A) → Type 0
 FindsFiles o ways told files before after =
-    FilesGo ways told files (Stands o before) (Stands o after)
+    FilesGo ways told files (FindsSoFar o before) (FindsSoFar o after)
 
 -- ---- refusals
 

@@ -14,9 +14,9 @@ ghost use Rattle.run_outcome.specs.Moments.{WasRead};
 ghost use Rattle.run_outcome.specs.Refusing.{OfRefusal};
 ghost use Rattle.st_format.specs.History.{IsRead};
 ghost use Rattle.window_finding.specs.Finding.{FindsBy, FindsFile, FindsFiles, FindsFirst};
-ghost use Rattle.window_finding.specs.Finding.{FindsRecords};
+ghost use Rattle.window_finding.specs.Finding.{FindsRecords, FindsSoFar, IsFindRefusal};
+ghost use Rattle.window_finding.specs.Finding.{IsReadRefusal};
 ghost use Rattle.window_finding.specs.Turns.{IsDone, IsStop};
-ghost use Rattle.window_finding.specs.Finding.{IsFindRefusal, IsReadRefusal, Stands};
 
 use crate::finder::{Finder, Sought};
 use capture_engines::{Way, unopened};
@@ -96,7 +96,7 @@ fn begin<A: Allocator + Copy>(
     sought: Sought,
     sdp: Option<&[u8]>,
 ) -> Result<Option<Finder<A>>, Fault>
-    ensures begun { IfOk result (λ begun. Stands sought begun (option_copied sdp.entry) []) }
+    ensures begun { IfOk result (λ begun. FindsSoFar sought begun (option_copied sdp.entry) []) }
     ensures refusal { IfErr result (λ f. OfRefusal f (λ r.
         MatchOption (option_copied sdp.entry) ⊥ (λ text. IsOpeningRefusal (0 ∷ []) text r))) }
     ensures failures { Accounts result [] }

@@ -5,7 +5,7 @@ use Rattle.run_outcome.specs.Moments.{WasRead}
 use Rattle.run_outcome.proofs.Refusals.{of_refusal_map}
 use Rattle.capture_engines.proofs.InOrder.{all_taken, more_taken, none_taken, pairs_left}
 use Rattle.capture_engines.proofs.ReceivedRefusals.{next_refuses, none_started}
-use Rattle.window_finding.specs.Finding.{Stands}
+use Rattle.window_finding.specs.Finding.{FindsSoFar}
 use Rattle.window_finding.proofs.finding.find_all.Goals as goal
 
 pub loop-place-init : goal.loop-place-init
@@ -15,7 +15,7 @@ loop-place-init g c = record {
   failures = refl;
   begun = inl (refl, refl);
   found = none_taken c.args.ways.now (WasRead g.S.ByteSource.gave g.S.ByteSource.ended)
-      (Stands c.args.sought c.args.begun.now);
+      (FindsSoFar c.args.sought c.args.begun.now);
 }
 
 pub loop-place-preserved : goal.loop-place-preserved
@@ -30,8 +30,9 @@ loop-place-preserved g c =
       begun = inr at.begun;
       found = more_taken c.args.ways.now (WasRead g.S.ByteSource.gave g.S.ByteSource.ended)
           c.args.files.now l.files c.find_at.new.files l.place
-          (Stands c.args.sought c.args.begun.now) (Stands c.args.sought l.begun)
-          (Stands c.args.sought c.find_at.new.begun) l.invariant.found at.front l.invariant.behind at.found;
+          (FindsSoFar c.args.sought c.args.begun.now) (FindsSoFar c.args.sought l.begun)
+          (FindsSoFar c.args.sought c.find_at.new.begun) l.invariant.found at.front
+          l.invariant.behind at.found;
     }
 
 pub returns-in_err-find_at-clause-refusal : goal.returns-in_err-find_at-clause-refusal
@@ -56,6 +57,6 @@ pub returns-clause-found : goal.returns-clause-found
 returns-clause-found g c =
     let l = c.loop-place in
     all_taken c.args.ways.now (WasRead g.S.ByteSource.gave g.S.ByteSource.ended)
-    c.args.files.now l.files l.place (Stands c.args.sought c.args.begun.now)
-    (Stands c.args.sought l.begun) l.invariant.found
+    c.args.files.now l.files l.place (FindsSoFar c.args.sought c.args.begun.now)
+    (FindsSoFar c.args.sought l.begun) l.invariant.found
     (omega (arith, l.invariant.len)) l.invariant.len

@@ -1,6 +1,6 @@
 use Rattle.std.proofs.Common.{◌∙◌, List, ap, subst}
 use Rattle.std.specs.List.{AllByRecursion}
-use Rattle.recording_engines.specs.Files.{IsKnown}
+use Rattle.recording_engines.specs.Files.{IsKnown, IsReadByFlows}
 use Rattle.side_by_side.specs.declared.side.Side.{Side}
 use Rattle.side_by_side.specs.Sides.{AllOver, HasGivenAll, Sides}
 use Rattle.side_by_side.proofs.Sound.{seen}
@@ -11,7 +11,14 @@ pub returns-clause-known : goal.returns-clause-known
 returns-clause-known g c =
     subst (λ (ss : List (Side _ _)).
     AllByRecursion (λ s. IsKnown g.S.ByteSource.gave g.S.ByteSource.ended s.file) ss)
-    (c.deref.ensures.value ∙ ap (λ (s : Sides _ _). s.sides) c.self.view_is) c.know_all.ensures
+    (c.deref.ensures.value ∙ ap (λ (s : Sides _ _). s.sides) c.self.view_is)
+    c.know_all.ensures.known
+
+pub returns-clause-by_flows : goal.returns-clause-by_flows
+returns-clause-by_flows g c =
+    subst (λ (ss : List (Side _ _)). AllByRecursion (λ s. IsReadByFlows s.file) ss)
+    (c.deref.ensures.value ∙ ap (λ (s : Sides _ _). s.sides) c.self.view_is)
+    c.know_all.ensures.by_flows
 
 pub returns-clause-all : goal.returns-clause-all
 returns-clause-all g c =
@@ -21,4 +28,4 @@ returns-clause-all g c =
     subst (λ (s : Sides _ _). AllOver s.sides → HasGivenAll gave ended s) c.self.view_is
     (λ over. given_all gave ended
     (seen was.steering was.sides.items was.delivered was.failures was.fault) c.self.invariant
-    (rw c.deref.ensures.value at c.know_all.ensures) over)
+    (rw c.deref.ensures.value at c.know_all.ensures.known) over)
