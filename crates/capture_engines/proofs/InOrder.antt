@@ -16,8 +16,8 @@ use Rattle.capture_engines.specs.Taking.{TakesFiles}
 use Rattle.std.specs.List.{zip}
 use Rattle.flow.specs.declared.flows.Flows.{Flows}
 use Rattle.run_outcome.specs.declared.refusal.Refusal.{Refusal}
-use Rattle.capture_engines.specs.Files.{file_datagrams, files_datagrams, first_way, other_ways}
-use Rattle.capture_engines.specs.Files.{way_at}
+use Rattle.capture_engines.specs.Files.{AreReadWhole, IsReadWhole, file_datagrams}
+use Rattle.capture_engines.specs.Files.{files_datagrams, first_way, other_ways, way_at}
 use Rattle.capture_engines.specs.Taking.{said_behind}
 use Rattle.capture_engines.specs.declared.receiving.Asked.{Asked}
 use Rattle.capture_engines.specs.declared.intake.Intake.{Intake}
@@ -196,6 +196,73 @@ all_taken {S} ways f start now k Before B files all same =
     (subst (λ (l : List S). FilesGo ways f (zip (take k start) l) Before B)
     (take_all k now (omega (arith, same, all))) files)
 
+-- ---- files that were taken to their ends
+
+first_both : {S : Type 0} (Is Are : S → Type 0) (xs : List S) → FirstIs (λ s. Is s × Are s) xs
+    → FirstIs Is xs × FirstIs Are xs
+first_both Is Are [] is = absurd is
+first_both Is Are (x ∷ xs) is = is
+
+whole_then : {S : Type 0} (ways : List (Result Flows Refusal)) (f : S → List ℕ → Type 0)
+    (xs : List S) (x : S) → AreReadWhole ways f xs → IsReadWhole (way_at ways (length xs)) (f x)
+    → AreReadWhole ways f (xs ++ x ∷ [])
+whole_then ways f [] x are is = (is, tt)
+whole_then ways f (y ∷ ys) x are is = (are.0, whole_then (other_ways ways) f ys x are.1 is)
+
+more_whole : {S : Type 0} (ways : List (Result Flows Refusal)) (f : S × S → List ℕ → Type 0)
+    (start now new : List S) (k : ℕ) → AreReadWhole ways f (zip (take k start) (take k now))
+    → take k new ≡ take k now → drop k now ≡ drop k start
+    → FirstIs (λ s. IsReadWhole (way_at ways k) (f s)) (zip (drop k now) (drop k new))
+    → AreReadWhole ways f (zip (take (k + 1) start) (take (k + 1) new))
+more_whole {S} ways f start now new k are front behind one =
+    let Is : S × S → Type 0 = λ s. IsReadWhole (way_at ways k) (f s) in
+    let n : NextPair Is start new k =
+    next_pair Is start new k
+    (subst (λ (l : List S). FirstIs Is (zip l (drop k new))) behind one) in
+    let so_far : List (S × S) = zip (take k start) (take k new) in
+    let one_on : suc k ≡ k + 1 = omega arith in
+    subst (λ (m : ℕ). AreReadWhole ways f (zip (take m start) (take m new))) one_on
+    (subst (λ (l : List (S × S)). AreReadWhole ways f l) (sym n.whole)
+    (whole_then ways f so_far n.next
+    (subst (λ (l : List S). AreReadWhole ways f (zip (take k start) l)) (sym front) are)
+    (subst (λ (m : ℕ). IsReadWhole (way_at ways m) (f n.next)) (sym n.counted) n.is)))
+
+all_whole : {S : Type 0} (ways : List (Result Flows Refusal)) (f : S × S → List ℕ → Type 0)
+    (start now : List S) (k : ℕ) → AreReadWhole ways f (zip (take k start) (take k now))
+    → length start ≤ k → length now ≡ length start → AreReadWhole ways f (zip start now)
+all_whole {S} ways f start now k are all same =
+    subst (λ (l : List S). AreReadWhole ways f (zip l now)) (take_all k start all)
+    (subst (λ (l : List S). AreReadWhole ways f (zip (take k start) l))
+    (take_all k now (omega (arith, same, all))) are)
+
+-- so they were taken up to there, each to its end
+abbrev pub GoWhole : {S : Type 0} → List (Result Flows Refusal) → (S → List ℕ → Type 0) → List S
+    → Holding → Holding → Type 0
+GoWhole ways f files Before B = FilesGo ways f files Before B × AreReadWhole ways f files
+
+pub more_ended : {S : Type 0} (ways : List (Result Flows Refusal))
+    (f : S × S → List ℕ → Type 0) (start now new : List S) (k : ℕ) (Before B A : Holding)
+    → GoWhole ways f (zip (take k start) (take k now)) Before B → take k new ≡ take k now
+    → drop k now ≡ drop k start
+    → FirstIs (λ s. FileGoes (way_at ways k) (f s) B A × IsReadWhole (way_at ways k) (f s))
+    (zip (drop k now) (drop k new))
+    → GoWhole ways f (zip (take (k + 1) start) (take (k + 1) new)) Before A
+more_ended {S} ways f start now new k Before B A files front behind one =
+    let both = first_both {S = S × S} (λ s. FileGoes (way_at ways k) (f s) B A)
+    (λ s. IsReadWhole (way_at ways k) (f s)) (zip (drop k now) (drop k new)) one in (
+      more_taken ways f start now new k Before B A files.0 front behind both.0,
+      more_whole ways f start now new k files.1 front behind both.1,
+    )
+
+pub all_ended : {S : Type 0} (ways : List (Result Flows Refusal))
+    (f : S × S → List ℕ → Type 0) (start now : List S) (k : ℕ) (Before B : Holding)
+    → GoWhole ways f (zip (take k start) (take k now)) Before B → length start ≤ k
+    → length now ≡ length start → GoWhole ways f (zip start now) Before B
+all_ended ways f start now k Before B files all same = (
+  all_taken ways f start now k Before B files.0 all same,
+  all_whole ways f start now k files.1 all same,
+)
+
 -- those that are left are behind those that were taken
 pub pairs_left : {S : Type 0} (k : ℕ) (start now new : List S) → drop k now ≡ drop k start
     → zip (drop k now) (drop k new) ≡ drop k (zip start new)
@@ -235,6 +302,16 @@ saves_held o window source Is (Some said) s ds wanted shown shown' old new is_wi
       taken = taken;
     }
 
+-- where no text is given and there is no file none is open
+no_receiver : {S A : Type 0} (o : Asked A) (ways : List (Result Flows Refusal))
+    (f : S → List ℕ → Type 0) (files : List S) (begun : Option (Intake A)) (s : Intake A)
+    (sdp : Option (List ℕ)) → Stands o begun sdp []
+    → FilesGo ways f files (Stands o begun) (Stands o (Some s)) → sdp ≡ None → files ≡ [] → ⊥
+no_receiver {S} o ways f files begun s sdp begins goes none empty =
+    let tell : AreRead f files [] = subst (λ (l : List S). AreRead f l []) (sym empty) tt in
+    subst (λ (t : Option (List ℕ)). Stands o (Some s) (said_behind t []) []) none
+    (goes.stands [] sdp [] tell begins)
+
 pub receives : {S A : Type 0} (o : Asked A) (window source : List ℕ) (sdp : Option (List ℕ))
     (ways : List (Result Flows Refusal)) (f : S → List ℕ → Type 0) (files : List S)
     (begun : Option (Intake A)) (s : Intake A) (wanted : Bool)
@@ -250,6 +327,8 @@ receives o window source sdp ways f files begun s wanted shown shown' old new is
       saved = λ octets tell.
           saves_held o window source (λ text. said_behind sdp octets ≡ Some text)
           (said_behind sdp octets) s (files_datagrams ways octets) wanted shown shown' old new
-          is_window is_source (taken.stands octets sdp [] tell begins) (λ text is. is) printed
+          is_window is_source (taken.0.stands octets sdp [] tell begins) (λ text is. is) printed
           written;
+      opened = no_receiver o ways f files begun s sdp begins taken.0;
+      whole = taken.1;
     }

@@ -1,14 +1,14 @@
 -- What was taken of a file that a reader read.
 use Rattle.std.proofs.Common.{◌≡◌, ◌⊎◌, inl, inr, ◌∙◌, ℕ, List, [], ◌∷◌, ◌++◌, Option, None, Some}
 use Rattle.std.proofs.Common.{Result, Ok, Err, refl, sym, ap, subst, append-nil}
-use Rattle.std.proofs.Common.{false, length}
-use Rattle.std.specs.Prelude.{IfErr, OnOk}
+use Rattle.std.proofs.Common.{false, length, true, ◌<◌}
+use Rattle.std.specs.Prelude.{IfErr, IsSome, OnOk}
 use Rattle.std.proofs.lemmas.List.{map-append}
 use Rattle.flow.specs.declared.flows.Flows.{Flows}
 use Rattle.media_file.specs.Records.{Entry}
 use Rattle.recording_reader.specs.FileReader.{FileReader, HasGivenFile, IsKnownBy, IsSameFile}
 use Rattle.recording_reader.specs.Files.{AreFirst, HaveFileRecords, IfFile, IsFileFault}
-use Rattle.recording_reader.specs.Files.{records_of_file, text_of_file}
+use Rattle.recording_reader.specs.Files.{IsWholeFile, records_of_file, text_of_file}
 use Rattle.recording_reader.specs.Kinds.{is_recording}
 use Rattle.recording_reader.specs.declared.way.Standing.{Standing}
 use Rattle.recording_reader.specs.declared.way.Standing.TheVariants.{Ended, Failed, Reads}
@@ -26,7 +26,7 @@ use Rattle.capture_engines.specs.Rescued.{IsFrontOf, TakesPart}
 use Rattle.capture_engines.specs.Stopping.{IsReadingStop}
 use Rattle.capture_engines.specs.declared.intake.Intake.{Intake}
 use Rattle.capture_engines.specs.declared.receiving.Asked.{Asked}
-use Rattle.capture_engines.specs.Files.{file_datagrams, flows_in, octets_of}
+use Rattle.capture_engines.specs.Files.{IsReadWhole, file_datagrams, flows_in, octets_of}
 use Rattle.capture_engines.specs.Taking.{FileGoes, Holding, RecordsGo, TakesRecords}
 use Rattle.capture_engines.specs.Taking.{said_behind, said_by}
 use Rattle.capture_engines.specs.declared.way.Way.{Way}
@@ -93,6 +93,46 @@ ended_goes {S} {T} r at gave ended old new w text B A (Ok v) before now by same 
     (ended_has (λ (s : S). gave (at s)) (λ (s : S). ended (at s)) r w text by same over given)
     taken))
 ended_goes r at gave ended old new w text B A (Err e) before now by same over given taken = tt
+
+-- it has no fault, and fewer records than are taken
+ended_whole : {S : Type 0} (gave : S → List ℕ) (ended : S → Type 0) (r : FileReader S)
+    (w : Way) → r.flows ≡ flows_in w → (r.is_recording ≡ true → IsSome r.flows)
+    → r.standing ≡ Ended → length r.records < 16777216 → HasGivenFile gave ended r
+    → IsReadWhole w (IsRead r.before.gave (gave r.source) (ended r.source))
+ended_whole gave ended r w by kind over few given = λ octets read.
+    let known = given octets read in
+    let is : HaveFileRecords r.flows octets r.records r.left_out × IsWholeFile octets =
+    subst (λ (s : Standing). IsKnownBy r.flows s octets r.records r.left_out) over known.known in
+    record {
+      whole = is.1;
+      few =
+          subst (λ (f : Option Flows). length (records_of_file f octets) < 16777216) by
+          (subst (λ (es : List Entry). length es < 16777216) (sym is.0.records_are) few);
+      by_flows = λ recording.
+          subst (λ (f : Option Flows). IsSome f) by (kind (sym known.kind ∙ recording));
+    }
+
+pub ended_taken : {S T V E : Type 0} (r : FileReader S) (at : S → T) (gave : T → List ℕ)
+    (ended : T → Type 0) (old new : T) (w : Way) (text : List ℕ) (B A : Holding)
+    (result : Result V E) → r.before.gave ≡ gave old → new ≡ at r.source → r.flows ≡ flows_in w
+    → text ≡ r.text → (r.is_recording ≡ true → IsSome r.flows)
+    → OnOk result (r.standing ≡ Ended) → OnOk result (length r.records < 16777216)
+    → HasGivenFile (λ (s : S). gave (at s)) (λ (s : S). ended (at s)) r
+    → OnOk result (RecordsGo text (octets_of r.records) B A)
+    → OnOk result (FileGoes w (IsRead (gave old) (gave new) (ended new)) B A
+    × IsReadWhole w (IsRead (gave old) (gave new) (ended new)))
+ended_taken {S} {T} {V} {E} r at gave ended old new w text B A (Ok v) before now by same kind over
+    few given taken =
+    let left : T = at r.source in (
+      ended_goes {E = E} r at gave ended old new w text B A (Ok v) before now by same over given
+          taken,
+      subst (λ (t : T). IsReadWhole w (IsRead (gave old) (gave t) (ended t))) (sym now)
+          (subst (λ (l : List ℕ). IsReadWhole w (IsRead l (gave left) (ended left))) before
+          (ended_whole (λ (s : S). gave (at s)) (λ (s : S). ended (at s)) r w by kind over few
+          given)),
+    )
+ended_taken r at gave ended old new w text B A (Err e) before now by same kind over few given
+    taken = tt
 
 -- ---- at a fault
 

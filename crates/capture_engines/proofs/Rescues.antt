@@ -152,7 +152,7 @@ part_stands o ways w gave ended f front at said begun between s begins files (in
       part_is = is;
       stands = λ octets tell.
           taken.stands (said_behind said octets) (files_datagrams ways octets)
-          (files.stands octets said [] tell begins);
+          (files.0.stands octets said [] tell begins);
     }
 part_stands {A = A} o ways w gave ended f front at said begun between s begins files (inr same) =
     record {
@@ -163,7 +163,7 @@ part_stands {A = A} o ways w gave ended f front at said begun between s begins f
           (sym (append-nil (files_datagrams ways octets)))
           (subst (λ (x : Option (Intake A)). Stands o x (said_behind said octets)
           (files_datagrams ways octets)) (sym same)
-          (files.stands octets said [] tell begins));
+          (files.0.stands octets said [] tell begins));
     }
 
 counts_held : {A : Type 0} (o : Asked A) (window source : List ℕ) (Is : List ℕ → Type 0)
@@ -196,7 +196,7 @@ counts o window source sdp ways f files begun s r is_window is_source begins tak
   counted = λ octets tell.
       counts_held o window source (λ text. said_behind sdp octets ≡ Some text)
       (said_behind sdp octets) s (files_datagrams ways octets) r is_window is_source
-      (taken.stands octets sdp [] tell begins) (λ text is. is) is;
+      (taken.0.stands octets sdp [] tell begins) (λ text is. is) is;
 }
 
 pub rescues : {S A : Type 0} (o : Asked A) (window source : List ℕ) (sdp : Option (List ℕ))

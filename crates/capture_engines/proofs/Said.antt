@@ -1,7 +1,7 @@
 -- What is received of captures, by an SDP text that was read of a source.
 use Rattle.std.proofs.Common.{◌≡◌, ◌∙◌, ℕ, inl, inr, List, [], ◌∷◌, ◌++◌, Bool, Ok}
 use Rattle.std.proofs.Common.{Option, None, Some, refl, sym, ap, subst}
-use Rattle.std.specs.Prelude.{IsSome, MatchOption}
+use Rattle.std.specs.Prelude.{IsSome, MatchOption, ⊤}
 use Rattle.std.specs.List.{flat_map}
 use Rattle.flow.specs.declared.flows.Flows.{Flows}
 use Rattle.media_file.specs.Fronts.{front_at}
@@ -18,8 +18,8 @@ use Rattle.capture_engines.specs.Received.{IsFrontRefusal, IsGivenRefusal, IsOpe
 use Rattle.capture_engines.specs.Received.{IsOpeningRefusal, IsReceiveRefusal, IsReceivingRefusal}
 use Rattle.capture_engines.specs.Received.{OneFileIs, StopsFile}
 use Rattle.capture_engines.specs.Sent.{OneIs}
-use Rattle.capture_engines.specs.Taking.{IsOpeningText, IsSaid, Receives, ReceivesFiles}
-use Rattle.capture_engines.specs.Taking.{SavesHolding, said_behind}
+use Rattle.capture_engines.specs.Taking.{IsOpeningText, IsSaid, IsShortText, Receives}
+use Rattle.capture_engines.specs.Taking.{ReceivesFiles, SavesHolding, said_behind}
 use Rattle.capture_engines.specs.declared.way.Way.TheVariants as way
 use Rattle.capture_engines.proofs.ReceivedRefusals.{files_refused}
 use Rattle.capture_engines.proofs.Untaken.{records_alone}
@@ -35,7 +35,7 @@ opens told None None octets text is opening = opening
 opens told None (Some t) octets text is opening = absurd is
 opens told (Some s) None octets text is opening = absurd is
 opens told (Some s) (Some t) octets text is opening =
-    ap (λ (l : List ℕ). Some l) (sym (is text opening))
+    ap (λ (l : List ℕ). Some l) (sym (is.0 text opening))
 
 -- the datagrams of captures
 captures_are : (octets : List (List ℕ)) → files_datagrams [] octets
@@ -44,6 +44,21 @@ captures_are [] = refl
 captures_are (o ∷ os) =
     ap (λ (es : List Entry). octets_of es ++ files_datagrams [] os) (records_alone o)
     ∙ ap (λ (l : List (List ℕ)). capture_datagrams o ++ l) (captures_are os)
+
+-- where no source is given no text is
+not_said : {S : Type 0} (told : S → List ℕ → Type 0) (sdp : Option S) (said : Option (List ℕ))
+    → IsSaid told sdp said → sdp ≡ None → said ≡ None
+not_said told None None is none = refl
+not_said told None (Some t) is none = absurd is
+not_said told (Some s) None is none = absurd is
+not_said told (Some s) (Some t) is none = cc
+
+short_said : {S : Type 0} (told : S → List ℕ → Type 0) (sdp : Option S)
+    (said : Option (List ℕ)) → IsSaid told sdp said
+    → MatchOption sdp ⊤ (λ s. IsShortText (told s))
+short_said told None said is = tt
+short_said told (Some s) None is = absurd is
+short_said told (Some s) (Some t) is = is.1
 
 pub said_receives : {S : Type 0} (window source : List ℕ) (sdp : Option S)
     (said : Option (List ℕ)) (told : S → List ℕ → Type 0) (captures : List S) (wanted : Bool)
@@ -66,6 +81,9 @@ said_receives window source sdp said told captures wanted shown shown' old new i
             printed = held.printed;
             taken = held.taken;
           });
+      opened = λ none. by_text.opened (not_said told sdp said is none);
+      short = short_said told sdp said is;
+      whole = by_text.whole;
     }
 
 -- ---- refusals
@@ -87,7 +105,7 @@ given_refused window told None (Some t) is r q = absurd is
 given_refused window told (Some s) None is r q = absurd is
 given_refused window told (Some s) (Some t) is why.ReceiveSdp q = absurd q
 given_refused window told (Some s) (Some t) is r q = λ octets known.
-    subst (λ (l : List ℕ). IsOpeningRefusal window l r) (sym (is octets known)) q
+    subst (λ (l : List ℕ). IsOpeningRefusal window l r) (sym (is.0 octets known)) q
 
 no_flows : IsSome none_flows → ⊥
 no_flows is = cc

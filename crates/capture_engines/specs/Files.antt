@@ -1,11 +1,11 @@
 -- Files of datagrams, as they are taken (own): a capture, or a recording of another tool by the
 -- flows of two paths.
 use Rattle.std.specs.Prelude.{◌≡◌, ℕ, zero, suc, ◌⊎◌, List, [], ◌∷◌, ◌++◌, map, Option, None, Some}
-use Rattle.std.specs.Prelude.{IsSome, Result, Ok, Err, true, false}
+use Rattle.std.specs.Prelude.{IsSome, Result, Ok, Err, true, false, ◌<◌, length, ⊤}
 use Rattle.flow.specs.declared.flows.Flows.{Flows}
 use Rattle.media_file.specs.Fronts.{front_at}
 use Rattle.media_file.specs.Records.{Entry}
-use Rattle.recording_reader.specs.Files.{capture_records, records_of_file}
+use Rattle.recording_reader.specs.Files.{IsWholeFile, capture_records, records_of_file}
 use Rattle.recording_reader.specs.Kinds.{is_recording}
 use Rattle.run_outcome.specs.declared.refusal.Refusal.{Refusal}
 use Rattle.capture_engines.specs.declared.way.Way.{Way}
@@ -65,3 +65,23 @@ abbrev pub files_datagrams : List (Result Flows Refusal) → List (List ℕ) →
 files_datagrams ways [] = []
 files_datagrams ways (octets ∷ files) =
     file_datagrams (first_way ways) octets ++ files_datagrams (other_ways ways) files
+
+-- ---- files that were taken to their ends
+
+-- Octets are a file that is taken so to its end: it has no fault and fewer records than are taken,
+-- and where it is a recording there are flows by which it is.
+pub record IsTakenWhole (w : Way) (octets : List ℕ) : Type 0 where
+  pub whole : IsWholeFile octets
+  pub few : length (records_of_file (flows_in w) octets) < 16777216
+  pub by_flows : is_recording octets ≡ true → IsSome (flows_in w)
+
+-- what was read is such a file
+abbrev pub IsReadWhole : Way → (List ℕ → Type 0) → Type 0
+IsReadWhole w told = (octets : List ℕ) → told octets → IsTakenWhole w octets
+
+-- so it is of each of some files that are taken so
+abbrev pub AreReadWhole : {S : Type 0} → List (Result Flows Refusal) → (S → List ℕ → Type 0)
+    → List S → Type 0
+AreReadWhole ways told [] = ⊤
+AreReadWhole ways told (s ∷ ss) =
+    IsReadWhole (first_way ways) (told s) × AreReadWhole (other_ways ways) told ss

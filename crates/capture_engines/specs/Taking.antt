@@ -1,7 +1,7 @@
 -- Which datagrams `receive` takes. What was read is told by a predicate: it holds of any octets
 -- that begin with it, and of no others where the source has ended.
 use Rattle.std.specs.Prelude.{◌≡◌, ℕ, ◌+◌, List, [], ◌∷◌, ◌++◌, length, ⊤}
-use Rattle.std.specs.Prelude.{Bool, Option, None, Some, Result, map}
+use Rattle.std.specs.Prelude.{Bool, Option, None, Some, Result, map, MatchOption, ◌≤◌}
 use Rattle.std.specs.List.{flat_map}
 use Rattle.sdp_format.specs.Bytes.{lines}
 use Rattle.sdp_format.specs.Grammar.{IsDescribed}
@@ -11,7 +11,8 @@ use Rattle.st_format.specs.Device.{capped}
 use Rattle.flow.specs.declared.flows.Flows.{Flows}
 use Rattle.recording_reader.specs.Files.{text_of_file}
 use Rattle.run_outcome.specs.declared.refusal.Refusal.{Refusal}
-use Rattle.capture_engines.specs.Files.{capture_datagrams, file_datagrams, files_datagrams}
+use Rattle.capture_engines.specs.Files.{AreReadWhole, IsReadWhole, capture_datagrams}
+use Rattle.capture_engines.specs.Files.{file_datagrams, files_datagrams}
 use Rattle.capture_engines.specs.declared.way.Way.{Way}
 use Rattle.media_file.specs.StateFile.{state_text}
 use Rattle.path_receiver.specs.Answers.{taken_at}
@@ -114,7 +115,7 @@ pub record FilesGo {S : Type 0} (ways : List (Result Flows Refusal)) (told : S �
       → AreRead told files octets → Before said earlier
       → After (said_behind said octets) (earlier ++ files_datagrams ways octets)
 
--- the same of an intake: datagrams were taken, a file, and all files
+-- the same of an intake: datagrams were taken, a file to its end, and so all files
 abbrev pub TakesRecords : {A : Type 0} → Asked A → List ℕ → List (List ℕ) → Option (Intake A)
     → Option (Intake A) → Type 0
 TakesRecords o text datagrams before after =
@@ -122,21 +123,27 @@ TakesRecords o text datagrams before after =
 
 abbrev pub TakesFile : {A : Type 0} → Asked A → Way → (List ℕ → Type 0) → Option (Intake A)
     → Option (Intake A) → Type 0
-TakesFile o w told before after = FileGoes w told (Stands o before) (Stands o after)
+TakesFile o w told before after =
+    FileGoes w told (Stands o before) (Stands o after) × IsReadWhole w told
 
 abbrev pub TakesFiles : {S A : Type 0} → Asked A → List (Result Flows Refusal)
     → (S → List ℕ → Type 0) → List S → Option (Intake A) → Option (Intake A) → Type 0
 TakesFiles o ways told files before after =
-    FilesGo ways told files (Stands o before) (Stands o after)
+    FilesGo ways told files (Stands o before) (Stands o after) × AreReadWhole ways told files
 
 -- ---- the run
+
+-- an SDP text that was read has no more octets than are read of one
+abbrev pub IsShortText : (List ℕ → Type 0) → Type 0
+IsShortText told = (octets : List ℕ) → told octets → length octets ≤ 16777216
 
 -- the SDP text that was read of a source, where one is given
 abbrev pub IsSaid : {S : Type 0} → (S → List ℕ → Type 0) → Option S → Option (List ℕ) → Type 0
 IsSaid told None None = ⊤
 IsSaid told None (Some text) = ⊥
 IsSaid told (Some sdp) None = ⊥
-IsSaid told (Some sdp) (Some text) = (octets : List ℕ) → told sdp octets → octets ≡ text
+IsSaid told (Some sdp) (Some text) =
+    ((octets : List ℕ) → told sdp octets → octets ≡ text) × IsShortText (told sdp)
 
 -- the SDP text by which a run opens its receiver: that which was read of the source that is given;
 -- or, where none is given, that of the first capture
@@ -158,13 +165,17 @@ pub record SavesHolding (window source : List ℕ) (IsText : List ℕ → Type 0
   pub printed : shown' ≡ shown ++ taken_text wanted receiver datagrams
   pub taken : new ≡ old ++ state_text (kept_of receiver)
 
--- so it is of what was read of the captures: the datagrams are all of theirs, in order
+-- So it is of what was read of the captures: the datagrams are all of theirs, in order. A text is
+-- given, or there is a capture; that text isn't too long, and each capture was read to its end.
 pub record Receives {S : Type 0} (window source : List ℕ) (sdp : Option S)
     (told : S → List ℕ → Type 0) (captures : List S) (wanted : Bool)
     (shown shown' old new : List ℕ) : Type 0 where
   pub saved : (octets : List (List ℕ)) → AreRead told captures octets
       → SavesHolding window source (IsOpeningText told sdp octets)
       (flat_map capture_datagrams octets) wanted shown shown' old new
+  pub opened : sdp ≡ None → captures ≡ [] → ⊥
+  pub short : MatchOption sdp ⊤ (λ s. IsShortText (told s))
+  pub whole : AreReadWhole [] told captures
 
 -- the same of files, each taken so, where the SDP text is given itself
 pub record ReceivesFiles {S : Type 0} (window source : List ℕ) (sdp : Option (List ℕ))
@@ -173,3 +184,5 @@ pub record ReceivesFiles {S : Type 0} (window source : List ℕ) (sdp : Option (
   pub saved : (octets : List (List ℕ)) → AreRead told files octets
       → SavesHolding window source (λ text. said_behind sdp octets ≡ Some text)
       (files_datagrams ways octets) wanted shown shown' old new
+  pub opened : sdp ≡ None → files ≡ [] → ⊥
+  pub whole : AreReadWhole ways told files

@@ -1,5 +1,5 @@
 //! Taking the datagrams of files into one receiver.
-ghost use Rattle.std.specs.Prelude.{◌≡◌, ◌∷◌, [], length, option_to_list, IfErr, IfOk, OnOk};
+ghost use Rattle.std.specs.Prelude.{◌≡◌, ◌<◌, ◌∷◌, [], length, option_to_list, IfErr, IfOk, OnOk};
 ghost use Rattle.capture_engines.specs.Files.{octets_of};
 ghost use Rattle.capture_engines.specs.Received.{IsOpeningRefusal};
 ghost use Rattle.capture_engines.specs.Stopping.{IsReadingStop};
@@ -83,6 +83,7 @@ impl<A: Allocator> Intake<A> {
         // After a fault too: the receiver has the datagrams of the records that were read.
         ensures taken { TakesDatagrams (octets_of reader.new.records) self.old self.new }
         ensures ended { OnOk result (reader.new.standing ≡ Ended) }
+        ensures few { OnOk result (length reader.new.records < 16777216) }
         ensures stop { IfErr result
             (IsReadingStop reader.new.standing (length reader.new.records)) }
         ensures same { IsSameFile reader.old reader.new }

@@ -20,8 +20,8 @@ ghost use Rattle.capture_engines.specs.Received.{IsWordRefusal};
 ghost use Rattle.capture_engines.specs.Receiving.{SavesShown};
 ghost use Rattle.run_outcome.specs.Refusing.{OfRefusal};
 ghost use Rattle.capture_engines.specs.Sent.{FirstIs};
-ghost use Rattle.capture_engines.specs.Taking.{HoldsBy, IsSaid, Receives, Stands, TakesFile};
-ghost use Rattle.capture_engines.specs.Taking.{TakesFiles, TakesRecords};
+ghost use Rattle.capture_engines.specs.Taking.{HoldsBy, IsSaid, IsShortText, Receives};
+ghost use Rattle.capture_engines.specs.Taking.{Stands, TakesFile, TakesFiles, TakesRecords};
 ghost use Rattle.receiver_file.specs.Saved.{IsWritable, kept_of};
 ghost use Rattle.run_outcome.specs.Sources.{IsSourceText};
 ghost use Rattle.run_outcome.specs.TextRefusals.{GivesAbove};
@@ -157,9 +157,10 @@ fn read_said<A: Allocator, S: ByteSource>(
 }
 
 fn read_given<A: Allocator, S: ByteSource>(alloc: A, source: &mut S) -> Result<Vec<u8, A>, Fault>
-    ensures said { IfOk result (λ text. (octets : List ℕ)
+    ensures said { IfOk result (λ text. ((octets : List ℕ)
         → IsRead (S.gave source.old) (S.gave source.new) (S.ended source.new) octets
-        → octets ≡ text.items) }
+        → octets ≡ text.items)
+        × IsShortText (IsRead (S.gave source.old) (S.gave source.new) (S.ended source.new))) }
     ensures refusal { IfErr result (λ f. OfRefusal f (λ r. (r ≡ ReceiveSdp) × GivesAbove 16777216
         (IsRead (S.gave source.old) (S.gave source.new) (S.ended source.new)))) }
     ensures failures { Accounts result (counts (S.failures source.old) (S.failures source.new)
@@ -357,6 +358,7 @@ fn take_opened<A: Allocator + Copy, S: ByteSource>(
         begun.old begun.new) }
     ensures begun { OnOk result (begun.new ≢ None) }
     ensures ended { OnOk result (reader.new.standing ≡ Ended) }
+    ensures few { OnOk result (length reader.new.records < 16777216) }
     // Up to a fault the datagrams of the records that were read were taken; or nothing was begun.
     ensures stop { IfErr result (λ f.
         (TakesRecords opening.now text.now (octets_of reader.new.records) begun.old begun.new

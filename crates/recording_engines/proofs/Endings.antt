@@ -1,6 +1,7 @@
 -- What was written of files, by what was read of them.
-use Rattle.std.proofs.Common.{◌≡◌, ℕ, inl, inr, List, [], ◌∷◌, ◌++◌, Option, None, Some}
+use Rattle.std.proofs.Common.{◌≡◌, ◌≤◌, ℕ, inl, inr, List, [], ◌∷◌, ◌++◌, Option, None, Some}
 use Rattle.std.proofs.Common.{refl, sym, ap, subst, ◌∙◌, append_assoc, arith, map, length}
+use Rattle.std.proofs.Common.{append-nil}
 use Rattle.std.specs.List.{AllByRecursion, AllZip, zip}
 use Rattle.flow.specs.declared.flows.Flows.{Flows}
 use Rattle.recording_counts.specs.LeftOut.{left_out_of}
@@ -10,6 +11,10 @@ use Rattle.media_file.specs.Records.{Entry, records_text}
 use Rattle.media_file.specs.declared.front.Version.TheVariants.{Two}
 use Rattle.run_outcome.specs.Line.{line_text}
 use Rattle.run_outcome.specs.Moments.{WasRead}
+use Rattle.run_outcome.specs.Text.{GivesText}
+use Rattle.run_outcome.specs.TextRefusals.{IsCaptureText}
+use Rattle.st_format.specs.History.{IsRead, since}
+use Rattle.st_format.proofs.Histories.{since_is}
 use Rattle.run_outcome.specs.declared.line.Line.{Line}
 use Rattle.run_outcome.specs.declared.line.Line.TheVariants as line
 use Rattle.run_outcome.specs.declared.refusal.Refusal.{Refusal}
@@ -17,15 +22,16 @@ use Rattle.st_format.specs.declared.path.Path.TheVariants.{A, B}
 use Rattle.st_format.specs.Device.{capped}
 use Rattle.recording_reader.specs.declared.fault.ReadingFault.{ReadingFault}
 use Rattle.recording_engines.specs.Files.{AllOpened, AllReady, AreLeftOut, IsAt, IsKnown}
-use Rattle.recording_engines.specs.Files.{IsReady, begun_of, ended_by, gave_by, next_of}
-use Rattle.recording_engines.specs.Files.{standing_of, standings}
+use Rattle.recording_engines.specs.Files.{IsReadByFlows, IsReady, begun_of, ended_by, gave_by}
+use Rattle.recording_engines.specs.Files.{next_of, standing_of, standings}
 use Rattle.recording_engines.specs.Imported.{AreOver, AsksFlows, Imports, IsJoinRefusal}
 use Rattle.recording_engines.specs.Joining.{Joins, JoinsTo, OneAt, OneHasMore, Strand}
 use Rattle.recording_engines.specs.Progress.{JoinsAll, OneComes}
 use Rattle.recording_engines.specs.Progress.{OneFileAt, StopsJoining, count_of}
 use Rattle.recording_engines.specs.Steps.{Ahead, AllFresh, AllLay, Coming, HasJoined, Over, Standing}
 use Rattle.recording_engines.specs.Steps.{left_by, lefts, nothing, whole, wholes}
-use Rattle.recording_engines.specs.Strands.{TakesBy, left_out_in, omissions_in, strand_in, strands_in}
+use Rattle.recording_engines.specs.Strands.{IsTakenBy, TakesBy, left_out_in, omissions_in}
+use Rattle.recording_engines.specs.Strands.{strand_in, strands_in}
 use Rattle.recording_engines.specs.declared.file.ImportFile.{ImportFile}
 use Rattle.recording_engines.specs.declared.file.ImportFile.TheVariants.{Closed, Open, Taken}
 use Rattle.recording_engines.specs.declared.importing.ImportCounts.{ImportCounts}
@@ -34,7 +40,7 @@ use Rattle.recording_reader.specs.declared.way.Standing.{Standing as Stand}
 use Rattle.recording_reader.specs.declared.way.Standing.TheVariants.{Reads, Ended, Failed}
 use Rattle.recording_engines.specs.Files.{HasAhead, ahead_by}
 use Rattle.recording_engines.proofs.Joined.{all_over}
-use Rattle.recording_engines.proofs.Known.{all_but, all_lay, all_ready, left_all}
+use Rattle.recording_engines.proofs.Known.{all_but, all_lay, all_ready, left_all, taken_all}
 
 -- ---- the strands that were read
 
@@ -154,6 +160,10 @@ pub record HasImported {X S : Type 0} (gave : S → List ℕ) (ended : S → Typ
     (w : Written) : Type 0
   where
     pub entries : List Entry
+    pub few : length entries ≤ 16777216
+    pub by_flows : (octets : List (List ℕ))
+        → AllZip (WasRead (gave_by gave) (ended_by ended)) (zip olds news) octets
+        → AllZip IsTakenBy each octets
     pub joined : (octets : List (List ℕ))
         → AllZip (WasRead (gave_by gave) (ended_by ended)) (zip olds news) octets
         → JoinsTo AreOver (strands_in each octets) entries
@@ -173,15 +183,20 @@ pub has_imported : {X S : Type 0} (gave : S → List ℕ) (ended : S → Type 0)
     (each : List (Option Flows)) (olds mids news : List (ImportFile X S))
     (text took mid took' : List ℕ) (w : Written) → AllOpened gave each olds mids
     → map begun_of news ≡ map begun_of mids → AllByRecursion (IsKnown gave ended) news
-    → mid ≡ took ++ front_text Two text → JoinsAll news mid took' w
+    → AllByRecursion IsReadByFlows news → mid ≡ took ++ front_text Two text
+    → JoinsAll news mid took' w
     → HasImported gave ended olds news each text took took' w
-has_imported gave ended each olds mids news text took mid took' w opened same known front joins =
+has_imported gave ended each olds mids news text took mid took' w opened same known kind front
+    joins =
     let had = joins.written in
     let over = over_all news joins.ready joins.over in
     let lay =
     all_lay gave ended each olds mids news opened same known (all_ready news joins.ready) in
     record {
       entries = had.entries;
+      few = omega (arith, had.number, joins.few);
+      by_flows = λ octets read.
+          taken_all gave ended each olds mids news octets opened same known kind joins.ready read;
       joined = λ octets read.
           joins_to AreOver (strands_in each octets) (standings news) had.entries
           (strands_whole (gave_by gave) (ended_by ended) (zip olds news) each (standings news) octets
@@ -240,6 +255,15 @@ has_stopped gave ended each olds mids news text took mid took' r opened same kno
       },
     )
 
+-- a text that was read whole was read
+pub given_read : {most : ℕ} {before now text : List ℕ} {ended : Type 0}
+    → GivesText most before now ended text → IsRead before now ended text
+given_read {before = before} {now = now} {text = text} gives = record {
+  behind = [];
+  parts = sym (append-nil (since before now) ∙ since_is before now text gives.given);
+  all = λ _. refl;
+}
+
 -- sources at two moments are as many as there were
 pub zip_length : {S : Type 0} (xs ys : List S) → length ys ≡ length xs
     → length (zip xs ys) ≡ length xs
@@ -259,22 +283,25 @@ pub imports : {X S : Type 0} (gave : S → List ℕ) (ended : S → Type 0) (a b
     (Said : List ℕ → Type 0) (olds news : List (ImportFile X S)) (each : List (Option Flows))
     (flows : Flows) (text took took' shown shown' : List ℕ) (r : ImportCounts) (n : ℕ)
     → HasImported gave ended olds news each text took took' (record { a = r.a; b = r.b })
-    → Said text → AsksFlows a b text flows → TakesBy flows (length (zip olds news)) each
+    → Said text → IsCaptureText text → AsksFlows a b text flows → TakesBy flows (length (zip olds news)) each
     → ((os : List Omission) → AreLeftOut news os → r.left_out ≡ left_out_of os)
     → ((os : List Omission) → r.left_out ≡ left_out_of os → n ≡ capped (length os))
     → shown' ≡ shown ++ (line_text (line.Recorded r.a r.b n) ++ 10 ∷ [])
     → Imports a b Said (WasRead (gave_by gave) (ended_by ended)) (zip olds news) took took' shown
     shown' r
-imports gave ended a b Said olds news each flows text took took' shown shown' r n has said asked
-    taken left total printed = record {
+imports gave ended a b Said olds news each flows text took took' shown shown' r n has said described
+    asked taken left total printed = record {
       text = text;
       flows = flows;
       each = each;
       entries = has.entries;
       said = said;
+      described = described;
       asked = asked;
       taken_by = taken;
+      by_flows = has.by_flows;
       joined = has.joined;
+      few = has.few;
       taken = has.taken;
       by_a = has.a;
       by_b = has.b;

@@ -1,6 +1,7 @@
 -- What is known of files by where their readers stand, as what was read of them.
 use Rattle.std.proofs.Common.{◌≡◌, ◌⊎◌, inl, inr, ℕ, List, [], ◌∷◌, ◌++◌, Option, None, Some}
 use Rattle.std.proofs.Common.{refl, sym, ap, subst, ◌∙◌, map}
+use Rattle.std.specs.Prelude.{IsSome}
 use Rattle.std.specs.List.{AllByRecursion, AllZip, zip}
 use Rattle.flow.specs.declared.flows.Flows.{Flows}
 use Rattle.recording_counts.specs.LeftOut.{left_out_of}
@@ -18,11 +19,11 @@ use Rattle.run_outcome.specs.LowerFaults.{reading_fault}
 use Rattle.st_format.specs.History.{IsRead}
 use Rattle.recording_engines.specs.Files.{AllOpened, AreLeftOut, HasAhead, IsAt, IsKnown, IsReady}
 use Rattle.recording_engines.specs.Files.{ahead_by, begun_of, ended_by, gave_by, left_out_by}
-use Rattle.recording_engines.specs.Files.{next_of, standing_of, standings}
+use Rattle.recording_engines.specs.Files.{IsReadByFlows, next_of, standing_of, standings}
 use Rattle.recording_engines.specs.Joining.{Strand}
 use Rattle.recording_engines.specs.Progress.{AllReadyBut}
 use Rattle.recording_engines.specs.Steps.{AllLay, Lays, Standing, nothing, whole_by}
-use Rattle.recording_engines.specs.Strands.{fault_of_file, omissions_in, strand_in}
+use Rattle.recording_engines.specs.Strands.{IsTakenBy, fault_of_file, omissions_in, strand_in}
 use Rattle.recording_engines.specs.declared.file.ImportFile.{ImportFile}
 use Rattle.recording_engines.specs.declared.file.ImportFile.TheVariants.{Closed, Open, Taken}
 use Rattle.recording_engines.proofs.Same.{no_less, no_more, same_head, same_tail}
@@ -140,6 +141,48 @@ all_lay gave ended (f ∷ fs) (o ∷ os) (m ∷ ms) (n ∷ ns) opened same known
     let rest = same_tail (begun_of n) (begun_of m) (map begun_of ns) (map begun_of ms) same in (
       lays_file gave ended f (gave_by gave o) n (first ∙ opened.0.begun) known.0 told.0,
       all_lay gave ended fs os ms ns opened.1 rest known.1 told.1,
+    )
+
+-- a recording of them is taken by flows
+taken_file : {A S : Type 0} (gave : S → List ℕ) (ended : S → Type 0) (flows : Option Flows)
+    (before octets : List ℕ) (f : ImportFile A S) → begun_of f ≡ (flows, before)
+    → IsKnown gave ended f → IsReadByFlows f → IsReady f
+    → IsRead before (gave_by gave f) (ended_by ended f) octets → IsTakenBy flows octets
+taken_file gave ended flows before octets (Closed s) begun known kind ready read = absurd ready
+taken_file gave ended flows before octets (Open r) begun known kind ready read = λ recording.
+    let by : r.flows ≡ flows = ap (λ (x : Option Flows × List ℕ). x.0) begun in
+    let from : before ≡ r.before.gave = ap (λ (x : Option Flows × List ℕ). x.1) (sym begun) in
+    let at = subst (λ (b : List ℕ). IsRead b (gave r.source) (ended r.source) octets) from read in
+    subst (λ (f : Option Flows). IsSome f) by (kind (sym (known octets at).kind ∙ recording))
+taken_file gave ended flows before octets Taken begun known kind ready read = absurd ready
+
+pub taken_all : {A S : Type 0} (gave : S → List ℕ) (ended : S → Type 0)
+    (each : List (Option Flows)) (olds mids news : List (ImportFile A S))
+    (octets : List (List ℕ)) → AllOpened gave each olds mids
+    → map begun_of news ≡ map begun_of mids → AllByRecursion (IsKnown gave ended) news
+    → AllByRecursion IsReadByFlows news → AllByRecursion IsReady news
+    → AllZip (WasRead (gave_by gave) (ended_by ended)) (zip olds news) octets
+    → AllZip IsTakenBy each octets
+taken_all gave ended [] [] [] [] [] opened same known kind ready read = tt
+taken_all gave ended [] [] [] [] (x ∷ xs) opened same known kind ready read = absurd read
+taken_all gave ended [] [] [] (n ∷ ns) octets opened same known kind ready read =
+    absurd (no_more (begun_of n) (map begun_of ns) same)
+taken_all gave ended [] [] (m ∷ ms) news octets opened same known kind ready read = absurd opened
+taken_all gave ended [] (o ∷ os) mids news octets opened same known kind ready read = absurd opened
+taken_all gave ended (f ∷ fs) [] mids news octets opened same known kind ready read = absurd opened
+taken_all gave ended (f ∷ fs) (o ∷ os) [] news octets opened same known kind ready read =
+    absurd opened
+taken_all gave ended (f ∷ fs) (o ∷ os) (m ∷ ms) [] octets opened same known kind ready read =
+    absurd (no_less (begun_of m) (map begun_of ms) same)
+taken_all gave ended (f ∷ fs) (o ∷ os) (m ∷ ms) (n ∷ ns) [] opened same known kind ready read =
+    absurd read
+taken_all gave ended (f ∷ fs) (o ∷ os) (m ∷ ms) (n ∷ ns) (x ∷ xs) opened same known kind ready
+    read =
+    let first = same_head (begun_of n) (begun_of m) (map begun_of ns) (map begun_of ms) same in
+    let rest = same_tail (begun_of n) (begun_of m) (map begun_of ns) (map begun_of ms) same in (
+      taken_file gave ended f (gave_by gave o) x n (first ∙ opened.0.begun) known.0 kind.0 ready.0
+          read.0,
+      taken_all gave ended fs os ms ns xs opened.1 rest known.1 kind.1 ready.1 read.1,
     )
 
 -- ---- what was left out

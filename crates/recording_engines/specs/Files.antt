@@ -1,6 +1,6 @@
 -- What a run of `import` knows of each file while it reads them.
 use Rattle.std.specs.Prelude.{◌≡◌, ℕ, zero, suc, ◌+◌, ◌<◌, ◌≤◌, ◌⊎◌, List, [], ◌∷◌, ◌++◌, ⊤, map}
-use Rattle.std.specs.Prelude.{Bool, false, Option, None, Some}
+use Rattle.std.specs.Prelude.{Bool, true, false, Option, None, Some, IsSome}
 use Rattle.std.specs.List.{AllByRecursion}
 use Rattle.flow.specs.declared.flows.Flows.{Flows}
 use Rattle.recording_counts.specs.LeftOut.{left_out_of}
@@ -121,6 +121,12 @@ abbrev pub IsKnown : {A S : Type 0} → (S → List ℕ) → (S → Type 0) → 
 IsKnown gave ended (Closed s) = ⊤
 IsKnown gave ended (Open r) = HasGivenFile gave ended r
 IsKnown gave ended Taken = ⊤
+
+-- a recording is read by flows
+abbrev pub IsReadByFlows : {A S : Type 0} → ImportFile A S → Type 0
+IsReadByFlows (Closed s) = ⊤
+IsReadByFlows (Open r) = r.is_recording ≡ true → IsSome r.flows
+IsReadByFlows Taken = ⊤
 
 -- ---- reading on
 

@@ -1,7 +1,8 @@
 -- What `import` writes (own). What was read is told by a predicate: it holds of any octets that
 -- begin with it, and of no others where the source has ended. A list of sources is one of pairs:
 -- each source as it was before the run, and as it is behind it.
-use Rattle.std.specs.Prelude.{◌≡◌, ◌≢◌, ℕ, ◌⊎◌, List, [], ◌∷◌, ◌++◌, length, Option, None, Some, ⊤}
+use Rattle.std.specs.Prelude.{◌≡◌, ◌≢◌, ◌≤◌, ℕ, ◌⊎◌, List, [], ◌∷◌, ◌++◌, length, Option, None}
+use Rattle.std.specs.Prelude.{Some, ⊤}
 use Rattle.std.specs.List.{AllByRecursion, AllZip, Any, zip}
 use Rattle.flow.specs.Flow.{IsOnePlace}
 use Rattle.flow.specs.FlowText.{IsFlowText}
@@ -12,7 +13,7 @@ use Rattle.media_file.specs.Fronts.{front_text}
 use Rattle.media_file.specs.Records.{Entry, records_text}
 use Rattle.media_file.specs.declared.front.Version.TheVariants.{Two}
 use Rattle.run_outcome.specs.Line.{line_text}
-use Rattle.run_outcome.specs.TextRefusals.{IsTextRefusal}
+use Rattle.run_outcome.specs.TextRefusals.{IsCaptureText, IsTextRefusal}
 use Rattle.run_outcome.specs.declared.fault.Fault.TheVariants.{Refused}
 use Rattle.run_outcome.specs.declared.line.Line.TheVariants as line
 use Rattle.run_outcome.specs.declared.refusal.Refusal.{Refusal}
@@ -26,7 +27,8 @@ use Rattle.recording_reader.specs.declared.fault.ReadingFault.{ReadingFault}
 use Rattle.recording_engines.specs.Joining.{IsOver, JoinsTo, OneAt, OneHasMore, Strand}
 use Rattle.recording_engines.specs.Opened.{IsStopRefusal}
 use Rattle.recording_engines.specs.Progress.{count_of}
-use Rattle.recording_engines.specs.Strands.{TakesBy, left_out_in, omissions_in, strands_in}
+use Rattle.recording_engines.specs.Strands.{IsTakenBy, TakesBy, left_out_in, omissions_in}
+use Rattle.recording_engines.specs.Strands.{strands_in}
 use Rattle.recording_engines.specs.declared.importing.ImportCounts.{ImportCounts}
 
 -- ---- the flows
@@ -72,10 +74,14 @@ pub record Imports {S : Type 0} (a b : Option (List ℕ)) (Said : List ℕ → T
     pub each : List (Option Flows)
     pub entries : List Entry
     pub said : Said text
+    pub described : IsCaptureText text
     pub asked : AsksFlows a b text flows
     pub taken_by : TakesBy flows (length files) each
+    pub by_flows : (octets : List (List ℕ)) → AllZip told files octets
+        → AllZip IsTakenBy each octets
     pub joined : (octets : List (List ℕ)) → AllZip told files octets
         → JoinsTo AreOver (strands_in each octets) entries
+    pub few : length entries ≤ 16777216
     pub taken : took' ≡ took ++ (front_text Two text ++ records_text entries)
     pub by_a : counts.a ≡ count_of A entries
     pub by_b : counts.b ≡ count_of B entries

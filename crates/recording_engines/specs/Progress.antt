@@ -1,5 +1,5 @@
 -- What a run of `import` does from one record to the next.
-use Rattle.std.specs.Prelude.{◌≡◌, ℕ, ◌+◌, ◌⊎◌, List, [], ◌∷◌, ◌++◌, length}
+use Rattle.std.specs.Prelude.{◌≡◌, ℕ, ◌+◌, ◌≤◌, ◌⊎◌, List, [], ◌∷◌, ◌++◌, length}
 use Rattle.std.specs.Prelude.{None, Some}
 use Rattle.std.specs.List.{AllByRecursion, count_by}
 use Rattle.media_file.specs.Records.{Entry, records_text}
@@ -92,6 +92,7 @@ pub record JoinsAll {X S : Type 0} (files' : List (ImportFile X S)) (old new : L
   pub written : HasWritten files' old new none_written w number
   pub ready : AllByRecursion IsReady files'
   pub over : AllByRecursion (λ f. next_of f ≡ None) files'
+  pub few : number ≤ 16777216
 
 -- Files were joined to these records, which were written, and it ended so.
 pub record HasEnded {X S : Type 0} (Ends : List Entry → List (ImportFile X S) → Type 0)

@@ -1,7 +1,7 @@
 -- What `import` takes of files: the records of captures, and those of the datagrams of recordings
 -- (own).
 use Rattle.std.specs.Prelude.{◌≡◌, ◌≢◌, ℕ, zero, suc, ◌⊎◌, if◌then◌else◌, List, [], ◌∷◌, ◌++◌}
-use Rattle.std.specs.Prelude.{Option, None, Some, Result, Ok, Err, length, replicate}
+use Rattle.std.specs.Prelude.{Option, None, Some, IsSome, Result, Ok, Err, length, replicate, true}
 use Rattle.std.specs.Option.{option_map}
 use Rattle.flow.specs.Flow.{IsOnePlace}
 use Rattle.flow.specs.declared.flows.Flows.{Flows}
@@ -80,6 +80,10 @@ only_a flows = record { a = flows.a; b = None }
 
 abbrev pub only_b : Flows → Flows
 only_b flows = record { a = None; b = flows.b }
+
+-- a file is taken by flows, or is no recording
+abbrev pub IsTakenBy : Option Flows → List ℕ → Type 0
+IsTakenBy flows octets = is_recording octets ≡ true → IsSome flows
 
 -- The flows by which so many recordings are taken: all flows for each of them; or where both paths
 -- have one place, A's for the first of two, and B's for the second.

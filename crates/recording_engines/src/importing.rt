@@ -11,8 +11,8 @@ ghost use Rattle.run_outcome.specs.Refusing.{OfRefusal};
 ghost use Rattle.run_outcome.specs.Text.{GivesText};
 ghost use Rattle.st_format.specs.History.{IsRead};
 ghost use Rattle.recording_engines.specs.Files.{AllClosed, AllReady, AreLeftOut, IsKnown};
-ghost use Rattle.recording_engines.specs.Files.{begun_of, ended_by, failures_by, gave_by};
-ghost use Rattle.recording_engines.specs.Files.{standings};
+ghost use Rattle.recording_engines.specs.Files.{IsReadByFlows, begun_of, ended_by, failures_by};
+ghost use Rattle.recording_engines.specs.Files.{gave_by, standings};
 ghost use Rattle.recording_engines.specs.Imported.{AsksFlows, Imports, IsAsked, IsFlowsRefusal};
 ghost use Rattle.recording_engines.specs.Imported.{IsImportRefusal, IsPlacesRefusal};
 ghost use Rattle.recording_engines.specs.Imported.{IsSaidRefusal, IsWordRefusal, SaysFlows};
@@ -131,6 +131,7 @@ fn join_all<A: Allocator, S: ByteSource, K: ByteSink>(
     ensures files { length files.new ≡ length files.old }
     ensures begun { map begun_of files.new ≡ map begun_of files.old }
     ensures known { AllByRecursion (IsKnown S.gave S.ended) files.new }
+    ensures by_flows { AllByRecursion IsReadByFlows files.new }
     ensures joined { IfOk result (λ r. JoinsAll files.new (K.took capture.old) (K.took capture.new)
         (record { a = r.a; b = r.b })) }
     ensures left { IfOk result (λ r. (omissions : List Reason) → AreLeftOut files.new omissions

@@ -1,6 +1,7 @@
-use Rattle.std.proofs.Common.{rules, ◌∙◌}
+use Rattle.std.proofs.Common.{◌≡◌, ◌∙◌, ℕ, List, ap, arith, length, rules}
 use Rattle.run_outcome.specs.Text.{GivesText}
 use Rattle.st_format.proofs.Histories.{since_is}
+use Rattle.st_format.specs.History.{IsRead}
 use Rattle.capture_engines.proofs.CaptureRuns.{read_all}
 use Rattle.capture_engines.proofs.receiving.read_given.Goals as goal
 
@@ -12,5 +13,7 @@ returns-in-Some-clause-said g c =
     let new = told.gave c.read_text.new.source in
     let over = told.ended c.read_text.new.source in
     let gives : GivesText 16777216 old new over said = search rules in
+    let is : (octets : List ℕ) → IsRead old new over octets → octets ≡ said =
     λ octets read. read_all old new octets over read gives.ended
-    ∙ since_is old new said gives.given
+    ∙ since_is old new said gives.given in
+    (is, λ octets read. omega (arith, ap length (is octets read), gives.few))

@@ -3,7 +3,7 @@ use Rattle.std.proofs.lemmas.Result.{err_from_is_err_and}
 use Rattle.std.specs.List.{zip}
 use Rattle.run_outcome.specs.Moments.{WasRead}
 use Rattle.capture_engines.specs.Taking.{Stands}
-use Rattle.capture_engines.proofs.InOrder.{all_taken, more_taken, none_taken, pairs_left}
+use Rattle.capture_engines.proofs.InOrder.{all_ended, more_ended, none_taken, pairs_left}
 use Rattle.capture_engines.proofs.ReceivedRefusals.{next_refuses, none_started}
 use Rattle.capture_engines.proofs.Rescues.{taken_up_to}
 use Rattle.run_outcome.proofs.Refusals.{of_refusal_map}
@@ -15,8 +15,11 @@ loop-place-init g c = record {
   behind = refl;
   failures = refl;
   begun = inl (refl, refl);
-  taken = none_taken c.args.ways.now (WasRead g.S.ByteSource.gave g.S.ByteSource.ended)
-      (Stands c.args.opening.now c.args.begun.now);
+  taken = (
+    none_taken c.args.ways.now (WasRead g.S.ByteSource.gave g.S.ByteSource.ended)
+        (Stands c.args.opening.now c.args.begun.now),
+    tt,
+  );
 }
 
 pub loop-place-preserved : goal.loop-place-preserved
@@ -29,7 +32,7 @@ loop-place-preserved g c =
           ∙ ap (drop 1) l.invariant.behind ∙ drop-drop 1 l.place c.args.files.now;
       failures = at.failures ∙ l.invariant.failures;
       begun = inr at.begun;
-      taken = more_taken c.args.ways.now (WasRead g.S.ByteSource.gave g.S.ByteSource.ended)
+      taken = more_ended c.args.ways.now (WasRead g.S.ByteSource.gave g.S.ByteSource.ended)
           c.args.files.now l.files c.take_at.new.files l.place
           (Stands c.args.opening.now c.args.begun.now) (Stands c.args.opening.now l.begun)
           (Stands c.args.opening.now c.take_at.new.begun) l.invariant.taken at.front l.invariant.behind at.taken;
@@ -57,7 +60,7 @@ returns-clause-none g c = λ none.
 pub returns-clause-taken : goal.returns-clause-taken
 returns-clause-taken g c =
     let l = c.loop-place in
-    all_taken c.args.ways.now (WasRead g.S.ByteSource.gave g.S.ByteSource.ended)
+    all_ended c.args.ways.now (WasRead g.S.ByteSource.gave g.S.ByteSource.ended)
     c.args.files.now l.files l.place (Stands c.args.opening.now c.args.begun.now)
     (Stands c.args.opening.now l.begun) l.invariant.taken
     (omega (arith, l.invariant.len)) l.invariant.len

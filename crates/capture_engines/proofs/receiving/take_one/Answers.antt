@@ -2,7 +2,7 @@ use Rattle.std.proofs.Common.{rules}
 use Rattle.run_outcome.proofs.SetSums.{counted_by}
 use Rattle.recording_reader.proofs.Standings.{exact_between}
 use Rattle.capture_engines.specs.Taking.{Stands}
-use Rattle.capture_engines.proofs.Readings.{ended_goes, part_taken}
+use Rattle.capture_engines.proofs.Readings.{ended_taken, part_taken}
 use Rattle.capture_engines.proofs.ReceivedRefusals.{file_refused, unopened_refused}
 use Rattle.capture_engines.proofs.receiving.take_one.Goals as goal
 
@@ -14,10 +14,11 @@ returns-clause-failures g c =
 pub returns-clause-taken : goal.returns-clause-taken
 returns-clause-taken g c =
     let told = g.S.ByteSource in
-    ended_goes c.take_opened-taken.new.reader (λ s. s.now) told.gave told.ended c.args.file.now _
+    ended_taken c.take_opened-taken.new.reader (λ s. s.now) told.gave told.ended c.args.file.now _
     c.args.way _ (Stands c.args.opening.now c.args.begun.now)
     (Stands c.args.opening.now c.take_opened-taken.new.begun) c.take_opened-taken.result
-    (search rules) (search rules) (search rules) (search rules) c.take_opened-taken.ensures.ended
+    (search rules) (search rules) (search rules) (search rules) c.history.ensures.by_flows
+    c.take_opened-taken.ensures.ended c.take_opened-taken.ensures.few
     c.history.ensures.known c.take_opened-taken.ensures.taken
 
 pub returns-clause-sound : goal.returns-clause-sound

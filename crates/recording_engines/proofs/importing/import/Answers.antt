@@ -11,8 +11,8 @@ use Rattle.recording_engines.specs.Files.{AllOpened}
 use Rattle.recording_engines.specs.Imported.{AsksFlows}
 use Rattle.recording_engines.proofs.Blames.{blames_files, blames_joined, blames_output}
 use Rattle.recording_engines.proofs.Quiet.{if_refused, never_refused}
-use Rattle.recording_engines.proofs.Endings.{has_imported, has_stopped, imports, opened_fresh}
-use Rattle.recording_engines.proofs.Endings.{opened_ready, taken_of}
+use Rattle.recording_engines.proofs.Endings.{given_read, has_imported, has_stopped, imports}
+use Rattle.recording_engines.proofs.Endings.{opened_fresh, opened_ready, taken_of}
 use Rattle.recording_engines.proofs.Lengths.{taken_length}
 use Rattle.recording_engines.proofs.importing.import.Goals as goal
 
@@ -53,8 +53,8 @@ returns-clause-imported g c =
     let has =
     has_imported gave ended each olds mids news text (took c.args.capture.now)
     (took c.write_front.new.sink) (took c.join_all.new.capture) (record { a = r.a; b = r.b })
-    opened c.in_ok-counts.ensures.begun c.in_ok-counts.ensures.known front
-    c.in_ok-counts.ensures.joined in
+    opened c.in_ok-counts.ensures.begun c.in_ok-counts.ensures.known
+    c.in_ok-counts.ensures.by_flows front c.in_ok-counts.ensures.joined in
     let a = option_copied c.args.wanted.a in
     let b = option_copied c.args.wanted.b in
     let asked =
@@ -69,7 +69,8 @@ returns-clause-imported g c =
     (g.D.ByteSource.ended c.read_checked.new.source) in
     imports gave ended a b Said olds news each c.in_ok-flows.flows text
     (took c.args.capture.now) (took c.join_all.new.capture) (shown c.args.output.now)
-    (shown c.print.new.output) r c.total.result has c.in_ok-said.ensures.read asked taken
+    (shown c.print.new.output) r c.total.result has c.in_ok-said.ensures.read
+    (c.in_ok-said.ensures.says text (given_read c.in_ok-said.ensures.read)) asked taken
     c.in_ok-counts.ensures.left c.total.ensures.all c.in_ok-print.ensures.printed
 
 pub returns-in_err-open_all-clause-refusal : goal.returns-in_err-open_all-clause-refusal

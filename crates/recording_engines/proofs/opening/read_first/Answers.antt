@@ -5,4 +5,4 @@ pub returns-clause-refusal : goal.returns-clause-refusal
 returns-clause-refusal g c =
     let told = g.S.ByteSource in
     first_refused told.gave told.ended c.go_on-read.result c.args.file.now c.go_on-read.new.self
-    c.requires.none c.go_on-read.ensures.stopped c.know.ensures
+    c.requires.none c.go_on-read.ensures.stopped c.know.ensures.known

@@ -45,6 +45,13 @@ returns-in-Ok-false-clause-taken g c =
     takes_same c.args.self.now c.loop.self c.loop.reader.records c.advance.new.self.records
     found.records c.loop.invariant.taken
 
+pub returns-in-Ok-false-clause-few : goal.returns-in-Ok-false-clause-few
+returns-in-Ok-false-clause-few g c =
+    let w = c.in-Ok-false in
+    let none : w.field-0 ≡ false = search rules in
+    let found = rw none at w.ensures.found in
+    omega (arith, ap length found.records, c.loop.invariant.count)
+
 pub returns-in-Err-clause-taken : goal.returns-in-Err-clause-taken
 returns-in-Err-clause-taken g c =
     takes_same c.args.self.now c.loop.self c.loop.reader.records c.advance.new.self.records
