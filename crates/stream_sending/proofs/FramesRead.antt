@@ -1,6 +1,8 @@
 -- Frames of a stream, one after the other.
-use Rattle.std.proofs.Common.{◌≡◌, ℕ, suc, List, [], ◌∷◌, ◌++◌, Result, Ok, Err, Option, None, Some}
+use Rattle.std.proofs.Common.{◌≡◌, ℕ, suc, ◌<◌, List, [], ◌∷◌, ◌++◌, Result, Ok, Err, Option}
+use Rattle.std.proofs.Common.{None, Some}
 use Rattle.std.proofs.Common.{append_assoc, append-nil, length, refl, sym, subst, ap, ◌∙◌, arith}
+use Rattle.std.proofs.lemmas.List.{length-append}
 use Rattle.std.specs.Prelude.{IfSome}
 use Rattle.st_format.specs.declared.format.Format.{Format}
 use Rattle.st_format.specs.Given.{GaveValue}
@@ -9,7 +11,7 @@ use Rattle.picture_forms.specs.declared.fault.FormFault.{FormFault}
 use Rattle.picture_forms.specs.declared.fault.FormFault.TheVariants as form
 use Rattle.picture_forms.specs.declared.streams.Standing.{Standing}
 use Rattle.picture_forms.specs.declared.streams.Standing.TheVariants.{Reads}
-use Rattle.picture_forms.specs.Faults.{CountsFault}
+use Rattle.picture_forms.specs.Faults.{CountsFault, IfContent}
 use Rattle.picture_forms.specs.Frames.{GaveFrame, TakesFrame, frame_walk}
 use Rattle.picture_forms.specs.Layouts.{planes_text}
 use Rattle.picture_forms.specs.Streams.{standing_after}
@@ -108,22 +110,35 @@ pub next_reads : (s : Standing) (o : Option Values) → s ≡ standing_after (Ok
 next_reads s None is = tt
 next_reads s (Some v) is = is
 
+-- a history that is longer
+wrong_of : (f : Format) (a b : List ℕ) (ended : Type 0) (e : FormFault) (part : List ℕ)
+    → b ≡ a ++ part
+    → ((behind : List ℕ) → (ended → behind ≡ []) → frame_walk f (part ++ behind) ≡ Err e)
+    → length a < length b → GaveWrong f a b ended e
+wrong_of f a b ended e part grown says lt = record {
+  part = part;
+  grown = grown;
+  some = omega (arith, lt, ap length grown, length-append a part);
+  says = says;
+}
+
 pub next_refused : (f : Format) (a b : List ℕ) (ended : Type 0) (e : FormFault)
-    → GaveFault (frame_walk f) a b ended e → OfRefusal (form_fault e) (IsNextRefusal f a b ended)
-next_refused f a b ended form.NoMemory g = tt
-next_refused f a b ended form.Device g = tt
-next_refused f a b ended form.BadMagic g =
-    record { part = g.part; grown = g.grown; says = g.says }
-next_refused f a b ended form.BadHeader g =
-    record { part = g.part; grown = g.grown; says = g.says }
-next_refused f a b ended form.UnsupportedForm g =
-    record { part = g.part; grown = g.grown; says = g.says }
-next_refused f a b ended form.BadFormat g =
-    record { part = g.part; grown = g.grown; says = g.says }
-next_refused f a b ended form.Truncated g =
-    record { part = g.part; grown = g.grown; says = g.says }
-next_refused f a b ended form.ValueTooLarge g =
-    record { part = g.part; grown = g.grown; says = g.says }
+    → GaveFault (frame_walk f) a b ended e → IfContent e (length a < length b)
+    → OfRefusal (form_fault e) (IsNextRefusal f a b ended)
+next_refused f a b ended form.NoMemory g lt = tt
+next_refused f a b ended form.Device g lt = tt
+next_refused f a b ended form.BadMagic g lt =
+    wrong_of f a b ended form.BadMagic g.part g.grown g.says lt
+next_refused f a b ended form.BadHeader g lt =
+    wrong_of f a b ended form.BadHeader g.part g.grown g.says lt
+next_refused f a b ended form.UnsupportedForm g lt =
+    wrong_of f a b ended form.UnsupportedForm g.part g.grown g.says lt
+next_refused f a b ended form.BadFormat g lt =
+    wrong_of f a b ended form.BadFormat g.part g.grown g.says lt
+next_refused f a b ended form.Truncated g lt =
+    wrong_of f a b ended form.Truncated g.part g.grown g.says lt
+next_refused f a b ended form.ValueTooLarge g lt =
+    wrong_of f a b ended form.ValueTooLarge g.part g.grown g.says lt
 
 -- what it says of how often a source failed
 pub form_blames : (f : FormFault) (old new : ℕ) → CountsFault f old new

@@ -1,6 +1,7 @@
 -- What was read is a stream, or has a first fault.
 use Rattle.std.proofs.Common.{◌≡◌, ℕ, inl, inr, List, [], ◌∷◌, ◌++◌, Result, Ok, Err, append_assoc}
-use Rattle.std.proofs.Common.{append-nil, sym, ap, subst, ◌∙◌}
+use Rattle.std.proofs.Common.{append-nil, sym, ap, subst, ◌∙◌, arith}
+use Rattle.std.proofs.lemmas.List.{length-append}
 use Rattle.std.specs.Prelude.{IfErr, IfOk, OnOk}
 use Rattle.st_format.specs.declared.format.Format.{Format}
 use Rattle.st_format.specs.Fields.{fields_of}
@@ -123,6 +124,7 @@ opened_refused most f a b c ended h (refusal.Form e) wrong = λ octets q. inr (r
   rest = wrong.fault.part ++ q.behind;
   begins = begun f wrong.pictures a b wrong.between c wrong.fault.part octets ended h wrong.gave
       wrong.fault.grown q;
+  some = omega (arith, wrong.fault.some, length-append wrong.fault.part q.behind);
   fault = wrong.fault.says q.behind q.all;
 })
 opened_refused most f a b c ended h (refusal.Plan e) wrong = (

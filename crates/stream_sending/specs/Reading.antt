@@ -1,5 +1,6 @@
 -- What a source gave of a stream: it was `before`, and is `now`; and what was sent of that (own).
-use Rattle.std.specs.Prelude.{◌≡◌, ℕ, List, [], ◌∷◌, ◌++◌, length, Option, None, Some, Err}
+use Rattle.std.specs.Prelude.{◌≡◌, ◌<◌, ℕ, List, [], ◌∷◌, ◌++◌, length, Option, None, Some}
+use Rattle.std.specs.Prelude.{Err}
 use Rattle.st_format.specs.Given.{GaveValue}
 use Rattle.st_format.specs.Picture.{IsPicture, Values}
 use Rattle.st_format.specs.declared.device.ByteSink.{Ghosts}
@@ -28,12 +29,13 @@ GaveNext f before now ended None = (now ≡ before) × ended
 GaveNext f before now ended (Some v) =
     (v.format ≡ f) × (IsPicture v × GaveValue (frame_walk f) before now (planes_text v))
 
--- It gave octets in which the next frame has this fault first: whatever is behind them, and nothing
--- is where it has ended.
+-- It gave octets, one at least, in which the next frame has this fault first: whatever is behind
+-- them, and nothing is where it has ended.
 pub record GaveWrong (f : Format) (before now : List ℕ) (ended : Type 0) (e : FormFault)
     : Type 0 where
   pub part : List ℕ
   pub grown : now ≡ before ++ part
+  pub some : 0 < length part
   pub says : (behind : List ℕ) → (ended → behind ≡ [])
       → frame_walk f (part ++ behind) ≡ Err e
 

@@ -1,5 +1,5 @@
 -- A YUV4MPEG2 stream as pictures, and the first fault of one.
-use Rattle.std.specs.Prelude.{◌≡◌, ℕ, ◌⊎◌, List, [], ◌∷◌, length, Result, Ok, Err}
+use Rattle.std.specs.Prelude.{◌≡◌, ◌<◌, ℕ, ◌⊎◌, List, [], ◌∷◌, length, Result, Ok, Err}
 use Rattle.st_format.specs.declared.format.Format.{Format}
 use Rattle.st_format.specs.Fields.{fields_of}
 use Rattle.st_format.specs.Picture.{IsPicture, Values}
@@ -36,12 +36,14 @@ pub record BeginsStream (octets : List ℕ) (f : Format) (pictures : List Values
   pub head : HasHead octets frames (fields_of f)
   pub are : BeginsFrames f pictures rest frames
 
--- behind a head and whole frames there is this fault, the first
+-- Behind a head and whole frames are octets, one at least, with this fault, the first: so where a
+-- stream ends behind a frame, that is none.
 pub record HasFrameFault (octets : List ℕ) (e : FormFault) : Type 0 where
   pub format : Format
   pub before : List Values
   pub rest : List ℕ
   pub begins : BeginsStream octets format before rest
+  pub some : 0 < length rest
   pub fault : frame_walk format rest ≡ Err e
 
 -- the first fault of a stream: of its head, or of the first frame that isn't whole and right

@@ -22,7 +22,8 @@ returns-in-Err-clause-refusal g c =
     subst (λ (fault : Fault). OfRefusal fault (IsNextRefusal f
     (told.gave c.args.reader.now.source) (told.gave c.next_picture.new.self.source)
     (told.ended c.next_picture.new.self.source))) (sym c.of_form.ensures)
-    (next_refused f _ _ _ c.in-Err.fault (c.in-Err.ensures.gave_wrong c.requires.reads))
+    (next_refused f _ _ _ c.in-Err.fault (c.in-Err.ensures.gave_wrong c.requires.reads)
+    (c.in-Err.ensures.begun c.requires.reads))
 
 pub returns-in-Err-clause-failures : goal.returns-in-Err-clause-failures
 returns-in-Err-clause-failures g c =
