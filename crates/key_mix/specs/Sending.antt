@@ -23,7 +23,7 @@ use Rattle.st_format.specs.Puts.{FailsAt, TakesEach}
 use Rattle.frame_assembly.specs.Settled.{IsBaseOf, settled_picture}
 use Rattle.packet_plan.specs.declared.run.PacketRun.{PacketRun}
 use Rattle.packet_plan.specs.declared.stamp.Stamp.{Stamp}
-use Rattle.packet_plan.specs.Plan.{IsSize}
+use Rattle.packet_plan.specs.Plan.{IsFullPlan, IsSize}
 use Rattle.packet_plan.specs.Sent.{IsSentPicture}
 use Rattle.key_mix.specs.Jobs.{IsJobFormat, IsJobPicture, IsRefusal, IsSoundJob}
 use Rattle.key_mix.specs.declared.Job.{Job}
@@ -44,12 +44,13 @@ HasBase i = IsBaseOf i.base i.frame.now.format
 abbrev pub settled_inputs : {A : Type 0} → List (JobInput A) → List Values
 settled_inputs inputs = map (λ i. settled_picture i.frame.now i.base) inputs
 
--- Datagrams are those of the job's picture, by a raster plan.
+-- Datagrams are those of the job's picture, by a full plan.
 pub record IsSentJob (datagrams : List (List ℕ)) (j : Job) (pictures : List Values) (size : ℕ)
     (stamp : Stamp) : Type 0 where
   pub picture : Values
   pub made : IsJobPicture picture j pictures
   pub plan : List (List PacketRun)
+  pub full : IsFullPlan plan picture.format size
   pub sent : IsSentPicture datagrams picture stamp size plan
 
 -- What a sink has taken after an answer: such datagrams, all of them; where it failed, the first of

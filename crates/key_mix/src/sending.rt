@@ -76,6 +76,7 @@ pub fn send_job<A: Allocator, C: Allocator + Copy, S: DatagramSink>(
     ensures counted { CountsSink (S.failures sink.old) (S.failures sink.new) result }
 {
     let plan = job_plan(alloc, job, inputs, max_octets)?;
+    plan.facts();
     if has_long_runs(&plan) {
         if let Some(made) = MadePicture::of(job, inputs, plan.format()) {
             return send_picture(alloc, &plan, &made, stamp, sink);
