@@ -26,4 +26,11 @@ pub mod NoInspectRefusals
 pub mod NoMigrateRefusals
 pub mod NoConvertRefusals
 pub mod NoPictureRefusals
+pub mod WholeFiles
+pub mod NoReceiveRefusals
+pub mod NoImportRefusals
 pub mod ProcessedOnce
+pub mod OnePlan
+pub mod OneSent
+pub mod ProcessedAgain
+pub mod NoStreamsRefusals

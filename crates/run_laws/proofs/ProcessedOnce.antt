@@ -43,7 +43,7 @@ of_one f value p q a b = record {
       a.each at here ∙ sym (b.each at here);
 }
 
-job_once : (j : Job) (vs : List Values) (p q : Values) → IsJobPicture p j vs
+pub job_once : (j : Job) (vs : List Values) (p q : Values) → IsJobPicture p j vs
     → IsJobPicture q j vs → AreOnePicture p q
 job_once (Limit range) [] p q a b = absurd a
 job_once (Limit range) (v ∷ []) p q a b = of_one v.format (limit_value range v) p q a b
@@ -218,7 +218,7 @@ module _ {S T : Type 0} (gave : S → List ℕ) (ended : S → Type 0) (gave' : 
             first.receivers_are second.receivers_are)
             ∙ second.sends.are)
 
-        pictures_are : settled_frames first.held first.sends.fill first.sends.frames
+        pub pictures_are : settled_frames first.held first.sends.fill first.sends.frames
             ≡ settled_frames second.held second.sends.fill second.sends.frames
         pictures_are =
             ap (λ (h : Option Values). settled_frames h first.sends.fill first.sends.frames)

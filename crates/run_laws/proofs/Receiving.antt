@@ -34,7 +34,7 @@ was_read gave ended s = record {
   all = λ _. refl;
 }
 
-all_were_read : {S : Type 0} (gave : S → List ℕ) (ended : S → Type 0) (sources : List (S × S))
+pub all_were_read : {S : Type 0} (gave : S → List ℕ) (ended : S → Type 0) (sources : List (S × S))
     → AreRead (WasRead gave ended) sources (all_read gave sources)
 all_were_read gave ended [] = tt
 all_were_read gave ended (s ∷ ss) = (was_read gave ended s, all_were_read gave ended ss)

@@ -3,3 +3,4 @@ pub mod Merged
 pub mod Scripts
 pub mod Sent
 pub mod Exported
+pub mod Streams

@@ -7,7 +7,8 @@
 //! - What was sent and received is the pictures, nothing missing; and of what isn't all, each value
 //!   is the sender's: `sent_and_received`.
 //! - What `process` wrote and was received is the job's picture: `processed_and_received`. Files
-//!   that are octet for octet the same are processed into one picture: `processed_once`.
+//!   that are octet for octet the same are processed into one picture, `processed_once`, and with
+//!   the same stamp and packet size into one capture: `processed_again`.
 //! - A migrated capture is received as the old one: `migrated_again`, `migrated_and_received`.
 //! - Through a link that makes no datagram each sample is the picture's or missing:
 //!   `looped_picture`.
@@ -129,6 +130,43 @@ pub fn processed_once<S: ByteSource, T: ByteSource>()
         → IsReceivedFile window source said xs (read_of S.gave state)
         → IsReceivedFile window source said ys (read_of T.gave again) → SameDatagrams xs ys
         → AreOnePicture first.sends.takes.spell.picture second.sends.takes.spell.picture }
+{}
+
+/// Two runs of `process` with the same job, timestamp, fill, packet size, stamp and text, over
+/// files that are octet for octet the same, write one capture, octet for octet, and count the same
+/// (`files`). So it is over a file each that was received of the same datagrams with the same words
+/// and SDP text (`received`; SMPTE ST 2022-7), and of any two that wrote datagrams of one job of
+/// the same pictures (`taken`). What is written are octets, numbers below 256: a spelling tells
+/// eight bits of each.
+pub fn processed_again<S: ByteSource, T: ByteSource>()
+    ensures taken { (text : List ℕ) (job : Job) (pictures : List Values) (size : ℕ)
+        (stamp : Stamp) (old new : List ℕ) (count : ℕ) (old' new' : List ℕ) (count' : ℕ)
+        → TakesSaid text job pictures size stamp old new count
+        → TakesSaid text job pictures size stamp old' new' count'
+        → AreOctets (since old new) → AreOctets (since old' new')
+        → (since old new ≡ since old' new') × (count ≡ count') }
+    ensures files { (text : List ℕ) (states : List (S × S)) (others : List (T × T))
+        (hold : Option (S × S)) (held : Option (T × T)) (job : List ℕ) (timestamp : ℕ)
+        (fill : List ℕ) (size : ℕ) (stamp : Stamp) (old new : List ℕ) (count : ℕ)
+        (old' new' : List ℕ) (count' : ℕ)
+        → SendsSaidFiles text (WasRead S.gave S.ended) states hold job timestamp fill size stamp
+        old new count
+        → SendsSaidFiles text (WasRead T.gave T.ended) others held job timestamp fill size stamp
+        old' new' count' → all_read S.gave states ≡ all_read T.gave others
+        → option_map (read_of S.gave) hold ≡ option_map (read_of T.gave) held
+        → AreOctets (since old new) → AreOctets (since old' new')
+        → (since old new ≡ since old' new') × (count ≡ count') }
+    ensures received { (text : List ℕ) (state : S × S) (again : T × T) (job : List ℕ)
+        (timestamp : ℕ) (fill : List ℕ) (size : ℕ) (stamp : Stamp) (old new : List ℕ) (count : ℕ)
+        (old' new' : List ℕ) (count' : ℕ) (window source said : List ℕ) (xs ys : List (List ℕ))
+        → SendsSaidFiles text (WasRead S.gave S.ended) (state ∷ []) None job timestamp fill size
+        stamp old new count
+        → SendsSaidFiles text (WasRead T.gave T.ended) (again ∷ []) None job timestamp fill size
+        stamp old' new' count'
+        → IsReceivedFile window source said xs (read_of S.gave state)
+        → IsReceivedFile window source said ys (read_of T.gave again) → SameDatagrams xs ys
+        → AreOctets (since old new) → AreOctets (since old' new')
+        → (since old new ≡ since old' new') × (count ≡ count') }
 {}
 
 /// A migrated capture is read as the datagrams of the old one (`datagrams`), and with the text that

@@ -3,11 +3,13 @@
 //! and memory was there. Each is the contract of a function that does nothing; a caller has the
 //! first premise from the clause of the call. That octets are below 256 is wanted, as the
 //! conditions of faults are told of octets.
-ghost use Rattle.std.specs.Prelude.{◌≡◌, ◌∷◌, ℕ, List, Option, Some, false, length};
+ghost use Rattle.std.specs.Prelude.{◌≡◌, ◌∷◌, ℕ, Bool, List, Option, None, Result, Some, false};
+ghost use Rattle.std.specs.Prelude.{length};
 ghost use Rattle.std.specs.List.{zip};
 ghost use Rattle.st_format.specs.Device.{AreOctets};
 ghost use Rattle.st_format.specs.History.{IsRead, since};
 ghost use Rattle.st_format.specs.Member.{IsMember};
+ghost use Rattle.flow.specs.declared.flows.Flows.{Flows};
 ghost use Rattle.run_outcome.specs.Moments.{WasRead};
 ghost use Rattle.run_outcome.specs.Text.{GivesText};
 ghost use Rattle.run_outcome.specs.TextRefusals.{SaysCaptureText, SaysText};
@@ -16,8 +18,11 @@ ghost use Rattle.capture_engines.specs.Looped.{IsLoopRefusal};
 ghost use Rattle.capture_engines.specs.Looping.{Link, Loops};
 ghost use Rattle.capture_engines.specs.MigrateRefused.{IsMigrateRefusal};
 ghost use Rattle.capture_engines.specs.Migrating.{PrintsMigrated};
+ghost use Rattle.capture_engines.specs.Received.{IsReceiveRefusal, IsReceivingRefusal};
+ghost use Rattle.capture_engines.specs.Receiving.{SavesShown};
 ghost use Rattle.capture_engines.specs.Sending.{SendsAll};
 ghost use Rattle.capture_engines.specs.Sent.{IsSendRefusal};
+ghost use Rattle.capture_engines.specs.Taking.{Receives, ReceivesFiles};
 ghost use Rattle.capture_engines.specs.declared.sender.Sending.{Sending};
 ghost use Rattle.receiver_engines.specs.MergeAllRefused.{IsMergeAllRefusal};
 ghost use Rattle.receiver_engines.specs.MergedAll.{MergesAll};
@@ -26,6 +31,10 @@ ghost use Rattle.receiver_engines.specs.Refused.{IsSaidRunRefusal};
 ghost use Rattle.receiver_engines.specs.Reporting.{Reports};
 ghost use Rattle.receiver_engines.specs.States.{IsStateRefusal};
 ghost use Rattle.receiver_engines.specs.declared.processing.Processing.{Processing};
+ghost use Rattle.recording_engines.specs.Files.{ended_by, gave_by};
+ghost use Rattle.recording_engines.specs.Imported.{Imports, IsImportRefusal};
+ghost use Rattle.recording_engines.specs.declared.file.ImportFile.{ImportFile};
+ghost use Rattle.recording_engines.specs.declared.importing.ImportCounts.{ImportCounts as Sums};
 ghost use Rattle.script_engines.specs.Described.{Describes, IsUndescribed};
 ghost use Rattle.script_engines.specs.Reading.{DoesScript, IsRefusedFor};
 ghost use Rattle.script_engines.specs.Rehearsed.{IsRefusedScript, Rehearses};
@@ -39,7 +48,11 @@ ghost use Rattle.export_engine.specs.ExportRefused.{IsExportRefusal};
 ghost use Rattle.export_engine.specs.Exported.{PrintsExported};
 ghost use Rattle.inspect_engine.specs.Told.{IsInspectRefusal, Tells};
 ghost use Rattle.inspect_engine.specs.declared.form.Form.{Form};
-ghost use Rattle.run_laws.specs.Received.{read_of};
+ghost use Rattle.stream_inspection.specs.Told.{IsStreamsRefusal, Tells as TellsStreams};
+ghost use Rattle.stream_inspection.specs.declared.target.Wanted.{Wanted as StreamWanted};
+ghost use Rattle.stream_inspection.specs.declared.text.Form.{Form as StreamForm};
+ghost use Rattle.run_laws.specs.Received.{all_read, read_of};
+ghost use Rattle.run_laws.specs.Streams.{HaveFew};
 
 use st_format::ByteSource;
 use std::alloc::Allocator;
@@ -159,4 +172,46 @@ pub fn picture_unrefused<S: ByteSource>()
         → ((s : S × S) → hold ≡ Some s → AreOctets (read_of S.gave s))
         → IsShowRefusal (IsRead (S.gave state) (S.gave later) (S.ended later))
         (WasRead S.gave S.ended) hold asked r → ⊥ }
+{}
+
+/// The same of a run of `receive` (`saved` and `taken` there), whatever the octets.
+pub fn receive_unrefused<S: ByteSource>()
+    ensures { (window source : List ℕ) (sdp : Option (S × S)) (captures : List (S × S))
+        (wanted : Bool) (shown printed old new : List ℕ) (r : Refusal)
+        → SavesShown wanted shown printed old new
+        → Receives window source sdp (WasRead S.gave S.ended) captures wanted shown printed old new
+        → IsReceiveRefusal window source sdp (WasRead S.gave S.ended) captures r → ⊥ }
+{}
+
+/// The same of a run of `receive_files` (`saved` and `taken` there), whatever the octets.
+pub fn receive_files_unrefused<S: ByteSource>()
+    ensures { (window source : List ℕ) (sdp : Option (List ℕ)) (ways : List (Result Flows Refusal))
+        (files : List (S × S)) (wanted : Bool) (shown printed old new : List ℕ) (r : Refusal)
+        → SavesShown wanted shown printed old new
+        → ReceivesFiles window source sdp ways (WasRead S.gave S.ended) files wanted shown printed
+        old new → IsReceivingRefusal window source sdp ways (WasRead S.gave S.ended) files r → ⊥ }
+{}
+
+/// The same of a run of `import` (`imported` there), whatever the octets, and whatever its refusal
+/// would have left written (`other`).
+pub fn import_unrefused<A: Allocator, D: ByteSource, S: ByteSource>()
+    ensures { (a b : Option (List ℕ)) (sdp sdp_later : D)
+        (files : List (ImportFile A S × ImportFile A S))
+        (took took' shown shown' other other' : List ℕ) (sums : Sums) (r : Refusal)
+        → Imports a b (GivesText 65535 (D.gave sdp) (D.gave sdp_later) (D.ended sdp_later))
+        (WasRead (gave_by S.gave) (ended_by S.ended)) files took took' shown shown' sums
+        → IsImportRefusal a b (IsRead (D.gave sdp) (D.gave sdp_later) (D.ended sdp_later))
+        (GivesText 65535 (D.gave sdp) (D.gave sdp_later) (D.ended sdp_later))
+        (WasRead (gave_by S.gave) (ended_by S.ended)) files other other' r → ⊥ }
+{}
+
+/// The same of a run of `inspect_streams` (`inspected` there), whatever the octets, over files that
+/// have fewer records each than `receive` takes.
+pub fn inspect_streams_unrefused<S: ByteSource>()
+    ensures { (wanted : StreamWanted) (form : StreamForm) (sdp : Option (List ℕ))
+        (ways : List (Result Flows Refusal)) (files : List (S × S))
+        (shown printed other other' : List ℕ) (r : Refusal)
+        → TellsStreams wanted form sdp ways (WasRead S.gave S.ended) files None shown printed
+        → HaveFew ways (all_read S.gave files)
+        → IsStreamsRefusal wanted form sdp ways (WasRead S.gave S.ended) files other other' r → ⊥ }
 {}
