@@ -1,5 +1,5 @@
 //! A sink of frames in memory.
-ghost use Rattle.std.specs.Prelude.{◌≡◌, ◌++◌, ◌∷◌, [], map, OnErr, OnOk};
+ghost use Rattle.std.specs.Prelude.{◌≡◌, ◌-◌, ◌++◌, ◌∷◌, [], map, IsErr, OnErr, OnOk};
 ghost use Rattle.st_format.specs.Device.{CountsFaults};
 ghost use Rattle.following.specs.Memory.{shown_of};
 
@@ -30,6 +30,7 @@ impl<A: Allocator + Copy> MemoryFrames<A> {
     pub fn new(alloc: A, fails_in: u64) -> MemoryFrames<A>
         ensures none { ⟦<MemoryFrames<A> as FrameSink>⟧.shown result ≡ [] }
         ensures unfailed { ⟦<MemoryFrames<A> as FrameSink>⟧.failures result ≡ 0 }
+        ensures fails { result.fails_in ≡ fails_in }
     {
         MemoryFrames {
             alloc,
@@ -54,6 +55,7 @@ impl<A: Allocator + Copy> MemoryFrames<A> {
         ensures left { OnErr result
             (map shown_of self.new.frames.items ≡ map shown_of self.old.frames.items) }
         ensures failures { self.new.failures ≡ self.old.failures }
+        ensures call { self.new.fails_in ≡ self.old.fails_in }
     {
         let Ok(frame) = frame.try_copy(self.alloc) else {
             return Err(FrameSinkFault);
@@ -70,11 +72,17 @@ impl<A: Allocator + Copy> FrameSink for MemoryFrames<A> {
 
     ghost failures = { λ k. k.failures };
 
-    fn show<B: Allocator>(
-        &mut self,
-        timestamp: u32,
-        frame: &Frame<B>,
-    ) -> Result<(), FrameSinkFault> {
+    fn show<B: Allocator>(&mut self, timestamp: u32, frame: &Frame<B>) -> Result<(), FrameSinkFault>
+        ensures shown { OnOk result (map shown_of self.new.frames.items
+            ≡ map shown_of self.old.frames.items
+            ++ record { timestamp = timestamp; frame = frame.now } ∷ []) }
+        ensures kept { OnErr result
+            (map shown_of self.new.frames.items ≡ map shown_of self.old.frames.items) }
+        ensures counted { CountsFaults self.old.failures self.new.failures result }
+        // The call that was told fails, and else one where memory is refused.
+        ensures when { self.old.fails_in ≡ 1 → IsErr result }
+        ensures next { self.new.fails_in ≡ self.old.fails_in - 1 }
+    {
         let fails = self.fails_in == 1;
         self.fails_in = self.fails_in.saturating_sub(1);
         if !fails && self.keep(timestamp, frame).is_ok() {
