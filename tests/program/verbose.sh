@@ -279,7 +279,7 @@ convert no-such-file v.pic|3|device|no-such-file, octet 0; wanted to read there:
 END
 # shellcheck disable=SC2046
 run -v send --out v.cap $(words 10001)
-adds 'ten thousand pictures and one, sent' 1 '' 'send 2 TooManyPictures' 'the pictures; wanted at most 10000 pictures'
+adds 'ten thousand pictures and one, sent' 1 '' 'send 2 TooManyPictures' 'the pictures; wanted at most 10000 pictures, of a stream 4294967295'
 head -c 65536 /dev/zero >long.sdp
 run migrate -v --sdp long.sdp --out v.cap old.cap
 adds 'a long SDP' 1 '' 'migrate 1 SdpTooLong' 'long.sdp, octet 65536; wanted at most 65535 octets'

@@ -17,7 +17,7 @@ impl Refusal {
             Refusal::ReceiveSdp => "at most 16777216 octets",
             Refusal::ReceiveNoSdp => "an SDP in the capture, or --sdp",
             Refusal::SendFormats => "a picture of the first one's format",
-            Refusal::SendPictures => "at most 10000 pictures",
+            Refusal::SendPictures => "at most 10000 pictures, of a stream 4294967295",
             Refusal::MergeUnlike => "a receiver that was opened as the left one",
             Refusal::ProcessJob => {
                 "limit:nominal, limit:video, gain:G, ycc444, ycc422, wipe:columns:P:S, \
