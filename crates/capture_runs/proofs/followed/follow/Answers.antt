@@ -22,3 +22,9 @@ pub returns-in_err-follow_files-clause-owed : goal.returns-in_err-follow_files-c
 returns-in_err-follow_files-clause-owed c =
     let p = err_from_is_err_and c.from_residual.result c.from_residual.ensures.1 in
     rw (p.1, p.2) c.in_err-follow_files.ensures.failures
+
+pub returns-in_err-follow_files-clause-before : goal.returns-in_err-follow_files-clause-before
+returns-in_err-follow_files-clause-before c =
+    let p = err_from_is_err_and c.from_residual.result c.from_residual.ensures.1 in
+    rw (p.1, p.2)
+    (rw (c.text_of.ensures, c.as_slice.ensures.value) at c.in_err-follow_files.ensures.before)
