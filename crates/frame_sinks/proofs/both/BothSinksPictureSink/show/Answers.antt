@@ -41,4 +41,6 @@ returns-clause-failed g c =
     (λ is. inr (c.in_ok-show.ensures.taken, is)) c.show-2.ensures.failed
 
 pub returns-in_err-show-clause-failed : goal.returns-in_err-show-clause-failed
-returns-in_err-show-clause-failed g c = inl (c.in_err-show.ensures.failed, refl)
+returns-in_err-show-clause-failed g c =
+    let p = err_from_is_err_and c.from_residual.result c.from_residual.ensures.1 in
+    rw (p.1) (inl (c.in_err-show.ensures.failed, refl))

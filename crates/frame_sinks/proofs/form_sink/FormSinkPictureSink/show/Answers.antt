@@ -1,4 +1,5 @@
 use Rattle.std.proofs.Common.{Some, ap, refl}
+use Rattle.std.proofs.lemmas.Result.{err_from_is_err_and}
 use Rattle.frame_sinks.proofs.Written.{fails_frame, takes_frame}
 use Rattle.follow_engine.proofs.Grows.{grows_none}
 use Rattle.st_format.specs.declared.format.Format.{Format}
@@ -14,9 +15,14 @@ returns-clause-taken g c =
     (ap (λ (f : Format). Some f) c.format.ensures.value) kept.filling kept.fill kept.held
 
 pub returns-in_err-picture-clause-failed : goal.returns-in_err-picture-clause-failed
-returns-in_err-picture-clause-failed g c = grows_none _ _
+returns-in_err-picture-clause-failed g c =
+    let p = err_from_is_err_and c.from_residual.result c.from_residual.ensures.1 in
+    rw (p.1) (grows_none _ _)
 
 pub returns-in_err-write_next-clause-failed : goal.returns-in_err-write_next-clause-failed
 returns-in_err-write_next-clause-failed g c =
-    fails_frame g.K.ByteSink.took c.args.self.now _ c.write_next.new.sink c.in_ok-picture.picture _
-    c.in_ok-picture.ensures.picture c.in_err-write_next.ensures.part refl
+    let p = err_from_is_err_and c.from_residual-in_err-write_next.result
+    c.from_residual-in_err-write_next.ensures.1 in
+    rw (p.1)
+    (fails_frame g.K.ByteSink.took c.args.self.now _ c.write_next.new.sink c.in_ok-picture.picture _
+    c.in_ok-picture.ensures.picture c.in_err-write_next.ensures.part refl)
