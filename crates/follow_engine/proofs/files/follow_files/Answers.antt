@@ -158,7 +158,7 @@ pub returns-in_err-said-clause-before : goal.returns-in_err-said-clause-before
 returns-in_err-said-clause-before g c =
     let p = err_from_is_err_and c.from_residual-in_err-said.result
     c.from_residual-in_err-said.ensures.1 in
-    rw (p.1, p.2) (if_refused _ c.in_err-said.field-0.0 (inl (refl, refl)))
+    rw (p.1, p.2) tt
 
 pub returns-in_err-said-clause-part : goal.returns-in_err-said-clause-part
 returns-in_err-said-clause-part g c =
@@ -170,7 +170,7 @@ pub returns-in_err-datagram-clause-before : goal.returns-in_err-datagram-clause-
 returns-in_err-datagram-clause-before g c =
     let p = err_from_is_err_and c.from_residual-in_err-datagram.result
     c.from_residual-in_err-datagram.ensures.1 in
-    rw (p.1, p.2) (if_refused _ c.in_err-datagram.field-0.0 (inl (refl, refl)))
+    rw (p.1, p.2) tt
 
 pub returns-in_err-datagram-clause-part : goal.returns-in_err-datagram-clause-part
 returns-in_err-datagram-clause-part g c =
