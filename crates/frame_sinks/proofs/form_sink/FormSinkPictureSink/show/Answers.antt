@@ -24,5 +24,7 @@ returns-in_err-write_next-clause-failed g c =
     let p = err_from_is_err_and c.from_residual-in_err-write_next.result
     c.from_residual-in_err-write_next.ensures.1 in
     rw (p.1)
-    (fails_frame g.K.ByteSink.took c.args.self.now _ c.write_next.new.sink c.in_ok-picture.picture _
+    (fails_frame g.K.ByteSink.took c.args.self.now
+    (record c.args.self.now { sink = c.write_next.new.sink }) c.write_next.new.sink
+    c.in_ok-picture.picture (record { timestamp = 0; frame = c.args.frame.now })
     c.in_ok-picture.ensures.picture c.in_err-write_next.ensures.part refl)
