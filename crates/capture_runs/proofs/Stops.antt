@@ -58,6 +58,20 @@ stops_files w sdp ways files filling fill o k l took took' over (inr is) =
       filed = under.2;
     }
 
+-- the same by other names of the text and of the ways
+pub stops_same : {A B : Type 0} (w : FollowAsked) (sdp sdp' : Option (List ℕ))
+    (ways ways' : List (Result Flows Refusal)) (files : List (Side B Replayed × Side B Replayed))
+    (k l : FollowSinks A) (took took' : List ℕ) → sdp ≡ sdp' → ways ≡ ways'
+    → StopsShort w sdp ways (SideRead replayed_gave replayed_ended) files TakesAllOver k l
+    took took'
+    → StopsShort w sdp' ways' (SideRead replayed_gave replayed_ended) files TakesAllOver k l
+    took took'
+stops_same w sdp sdp' ways ways' files k l took took' text way is =
+    subst (λ (x : Option (List ℕ)). StopsShort w x ways'
+    (SideRead replayed_gave replayed_ended) files TakesAllOver k l took took') text
+    (subst (λ (x : List (Result Flows Refusal)). StopsShort w sdp x
+    (SideRead replayed_gave replayed_ended) files TakesAllOver k l took took') way is)
+
 -- settled they hold the same
 pub settled_stops : {A : Type 0} (w : FollowAsked) (sdp : Option (List ℕ))
     (ways : List (Result Flows Refusal)) (files : List (Side A Replayed × Side A Replayed))
