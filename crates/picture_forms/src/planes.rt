@@ -12,10 +12,6 @@ use st_format::{ByteSink, DeviceFault};
 /// How many samples go at once.
 pub(crate) const PIECE: usize = 2048;
 
-/// How many of a large plane: as many octets as a buffer of a device holds, so that they go past it
-/// and aren't copied once more.
-const LARGE_PIECE: usize = 131_072;
-
 /// How a sample stands in a file.
 #[derive(Clone, Copy)]
 pub(crate) enum Spelling {
@@ -177,37 +173,22 @@ pub(crate) fn write_plane<K: ByteSink>(
     ensures counted { CountsFaults (K.failures sink.old) (K.failures sink.new) result }
     ensures names { K.names sink.new ≡ K.names sink.old }
 {
-    if count < LARGE_PIECE {
-        let mut piece = [0u8; 2 * PIECE];
-        write_pieces(sink, spelling, samples, stride, count, PIECE, &mut piece)
-    } else {
-        let mut piece = [0u8; 2 * LARGE_PIECE];
-        write_pieces(
-            sink,
-            spelling,
-            samples,
-            stride,
-            count,
-            LARGE_PIECE,
-            &mut piece,
-        )
-    }
+    let mut piece = [0u8; 2 * PIECE];
+    write_pieces(sink, spelling, samples, stride, count, &mut piece)
 }
 
-/// The same, in pieces of at most so many samples, which are spelled into `piece`.
+/// The same, in pieces that are spelled into `piece`.
 fn write_pieces<K: ByteSink>(
     sink: &mut K,
     spelling: Spelling,
     samples: &[u16],
     stride: Stride,
     count: usize,
-    most: usize,
     piece: &mut [u8],
 ) -> Result<(), DeviceFault>
     requires inside { Inside samples.now stride.first stride.step count }
     requires fit { All (λ v. v < sample_limit spelling) samples.now }
-    requires some { 0 < most }
-    requires room { length piece.old ≡ 2 * most }
+    requires room { length piece.old ≡ 4096 }
     ensures ok { OnOk result (Writes (K.held sink.old) (K.held sink.new)
         (K.took sink.old) (K.took sink.new)
         (every_text spelling samples.now stride.first stride.step 0 count)) }
@@ -219,7 +200,7 @@ fn write_pieces<K: ByteSink>(
 {
     let mut done = 0;
     while done < count {
-        let n = (count - done).min(most);
+        let n = (count - done).min(PIECE);
         let size = spelling.size() * n;
         write_piece(sink, spelling, samples, stride, done, n, &mut piece[..size])?;
         done += n;

@@ -1,6 +1,5 @@
 use Rattle.std.proofs.Common.{◌≤◌, ◌*◌, ◌∙◌, ℕ, List, length, drop, refl, arith}
 use Rattle.std.proofs.lemmas.List.{length-append, length-drop, length-take-le}
-use Rattle.std.proofs.lemmas.Nat.{mul-le}
 use Rattle.std.proofs.lemmas.Result.{err_from_is_err_and}
 use Rattle.picture_forms.proofs.Written.{none_written, piece_cut, piece_written}
 use Rattle.picture_forms.proofs.planes.write_pieces.Goals as goal
@@ -31,10 +30,9 @@ loop-done-preserved g c =
     let size : ℕ = c.size.result * c.min-n.result in
     let piece : List ℕ = c.loop-done.piece in
     let n : ℕ = c.min-n.result in
-    let few : n ≤ c.args.most = omega (arith, c.min-n.ensures) in
-    let all : size ≤ 2 * c.args.most =
-    mul-le c.size.result n 2 c.args.most c.size.ensures.few.1 few in
-    let fits : size ≤ length piece = omega (arith, c.loop-done.invariant.room, all) in
+    let few : n ≤ 2048 = omega (arith, c.min-n.ensures) in
+    let fits : size ≤ length piece =
+    grind (arith, c.loop-done.invariant.room, c.size.ensures.few) in
     record {
       within = omega (arith, c.min-n.ensures);
       written =

@@ -1,4 +1,4 @@
-use Rattle.std.proofs.Common.{◌≡◌, ◌≤◌, ◌-◌, ◌*◌, length}
+use Rattle.std.proofs.Common.{◌≡◌, ◌≤◌, ◌-◌, length}
 use Rattle.picture_forms.specs.Planes.{every_text}
 use Rattle.picture_forms.specs.Writing.{Writes}
 use Rattle.picture_forms.proofs.planes.write_pieces.Given as goal
@@ -18,7 +18,7 @@ invariant-loop-done g l = Writing
     (every_text l.spelling l.samples l.stride.first l.stride.step 0 l.done))
     (g.K.ByteSink.failures l.sink ≡ g.K.ByteSink.failures l.initial.sink)
     (g.K.ByteSink.names l.sink ≡ g.K.ByteSink.names l.initial.sink)
-    (length l.piece ≡ 2 * l.most)
+    (length l.piece ≡ 4096)
 
 abbrev pub decreases-loop-done : goal.decreases-loop-done
 decreases-loop-done g l = l.count - l.done
