@@ -68,7 +68,7 @@ pub(crate) fn left_out<A: Allocator, S: ByteSource>(files: &[ImportFile<A, S>]) 
 /// What is known of the octets of a file, by where its reader stands. A caller's proof learns it
 /// from here; nothing is done.
 #[inline(always)]
-pub(crate) fn know<A: Allocator, S: ByteSource>(file: &ImportFile<A, S>)
+pub fn know<A: Allocator, S: ByteSource>(file: &ImportFile<A, S>)
     ensures known { IsKnown S.gave S.ended file.now }
     ensures by_flows { IsReadByFlows file.now }
 {

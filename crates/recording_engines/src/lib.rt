@@ -11,5 +11,6 @@ mod opening;
 mod ways;
 
 pub use file::ImportFile;
+pub use files::know;
 pub use importing::{FlowWords, ImportCounts, flows_each, flows_of, import};
 pub use ways::ways_each;

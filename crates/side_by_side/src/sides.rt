@@ -13,7 +13,7 @@ ghost use Rattle.st_format.specs.Turns.{CountsTurn, IsEnd, IsWithin, TakesTurn, 
 use crate::giving::{tell_next, told};
 use crate::side::Side;
 use crate::steering::Steering;
-use recording_engines::ImportFile;
+use recording_engines::know;
 use recording_reader::ReadingFault;
 use st_format::{ByteSource, DatagramSource, SourceFault, Turn};
 use std::alloc::Allocator;
@@ -164,18 +164,6 @@ fn know_all<A: Allocator, S: ByteSource>(sides: &[Side<A, S>])
     };
     know(&first.file);
     know_all(rest);
-}
-
-/// The same of one.
-fn know<A: Allocator, S: ByteSource>(file: &ImportFile<A, S>)
-    ensures known { IsKnown S.gave S.ended file.now }
-    ensures by_flows { IsReadByFlows file.now }
-{
-    match file {
-        ImportFile::Closed(_) => {}
-        ImportFile::Open(reader) => reader.history(),
-        ImportFile::Taken => {}
-    }
 }
 
 impl<A: Allocator, S: ByteSource> DatagramSource for SideBySide<A, S> {
