@@ -5,7 +5,7 @@ use Rattle.std.specs.Prelude.{IfOk, MatchResult}
 use Rattle.std.proofs.Common.{ap, append-nil, append_assoc, refl, subst, sym}
 use Rattle.capture_runs.specs.Followed.{FollowsFiles, IsListed}
 use Rattle.capture_runs.specs.Outputs.{AreSinksOver, FollowSinks, IsFilesOver, IsReportOver}
-use Rattle.capture_runs.specs.Outputs.{SameOutputs, TakesAllOver, TakesFiles, TakesReport}
+use Rattle.capture_runs.specs.Outputs.{FilesFrames, SameOutputs, TakesAllOver, TakesReport}
 use Rattle.capture_runs.specs.Outputs.{directory_under, files_failures, files_under, outputs_under}
 use Rattle.capture_runs.specs.Outputs.{pictures_failures, report_failures, report_under}
 use Rattle.capture_runs.specs.Outputs.{sinks_failures, written_failures}
@@ -27,13 +27,14 @@ use Rattle.follow_engine.specs.Sides.{SideRead}
 use Rattle.follow_engine.specs.declared.opening.FollowAsked.{FollowAsked}
 use Rattle.follow_engine.specs.declared.telling.FollowTotals.{FollowTotals}
 use Rattle.following.specs.Following.{Handed}
-use Rattle.frame_sinks.specs.Files.{TakesFile, files_for}
+use Rattle.frame_sinks.specs.Files.{FilesFrame, files_for}
 use Rattle.frame_sinks.specs.Pictures.{form_stream, pictures_of}
 use Rattle.frame_sinks.specs.Sinks.{TakesBoth, TakesFrame, TakesLines, frames_report}
 use Rattle.frame_sinks.specs.declared.files_sink.FilesSink.{FilesSink}
 use Rattle.frame_sinks.specs.declared.filling.Filling.{Filling}
 use Rattle.frame_sinks.specs.declared.form_sink.FormSink.{FormSink}
 use Rattle.frame_sinks.specs.declared.report_sink.ReportSink.{ReportSink}
+use Rattle.frame_sinks.specs.declared.settling.Settling.{Settling}
 use Rattle.frame_sinks.proofs.Filed.{all_filed}
 use Rattle.frame_sinks.proofs.Shown.{all_both, all_lines}
 use Rattle.frame_sinks.proofs.Streams.{all_written}
@@ -87,17 +88,18 @@ sink_wrote : {A : Type 0} (filling : Filling) (fill : Option (List ℕ)) (f : Fi
     → file_took m.sink.file
     ≡ file_took f ++ form_stream None (pictures_of filling fill None hs)
 sink_wrote filling fill f k m hs is all =
+    let s : Settling _ = k.settling in
     took_unplaced m.sink ∙ all_written octets_under k m hs all
-    ∙ ap (λ (t : List ℕ). t ++ form_stream k.format (pictures_of k.filling k.fill k.held hs))
+    ∙ ap (λ (t : List ℕ). t ++ form_stream k.format (pictures_of s.filling s.fill s.held hs))
     (sym (took_unplaced k.sink))
     ∙ ap (λ (x : FileOutput). file_took x
-    ++ form_stream k.format (pictures_of k.filling k.fill k.held hs)) is.0
-    ∙ ap (λ (x : Filling). file_took f ++ form_stream k.format (pictures_of x k.fill k.held hs))
+    ++ form_stream k.format (pictures_of s.filling s.fill s.held hs)) is.0
+    ∙ ap (λ (x : Filling). file_took f ++ form_stream k.format (pictures_of x s.fill s.held hs))
     is.1
     ∙ ap (λ (x : Option (List ℕ)). file_took f
-    ++ form_stream k.format (pictures_of filling x k.held hs)) is.2
+    ++ form_stream k.format (pictures_of filling x s.held hs)) is.2
     ∙ ap (λ (x : Option Format). file_took f
-    ++ form_stream x (pictures_of filling fill k.held hs)) is.3
+    ++ form_stream x (pictures_of filling fill s.held hs)) is.3
     ∙ ap (λ (x : Option Values). file_took f
     ++ form_stream None (pictures_of filling fill x hs)) is.4
 
@@ -135,7 +137,7 @@ took_report (Some f) (Some k) l hs is all =
 
 files_wrote : {A : Type 0} (filling : Filling) (fill : Option (List ℕ)) (d : PictureDirectory)
     (k m : FilesSink PictureDirectory A) (hs : List Handed)
-    → IsFilesOver filling fill (Some d) (Some k) → TakesAll (TakesFile files_under) k hs m
+    → IsFilesOver filling fill (Some d) (Some k) → TakesAll (FilesFrame files_under) k hs m
     → files_under m.files
     ≡ files_under d ++ files_for hs (pictures_of filling fill None hs)
 files_wrote filling fill d k m hs is all =
@@ -151,20 +153,20 @@ files_wrote filling fill d k m hs is all =
 took_files : {A : Type 0} (filling : Filling) (fill : Option (List ℕ))
     (pictures : Option PictureDirectory) (k l : Option (FilesSink PictureDirectory A))
     (hs : List Handed) → IsFilesOver filling fill pictures k
-    → TakesAll (TakesIn (TakesFile files_under)) k hs l
-    → TakesFiles filling fill hs pictures (directory_under l)
+    → TakesAll (TakesIn (FilesFrame files_under)) k hs l
+    → FilesFrames filling fill hs pictures (directory_under l)
 took_files filling fill None k l hs is all =
-    ap directory_under (none_stays (TakesFile files_under) k l hs is all)
+    ap directory_under (none_stays (FilesFrame files_under) k l hs is all)
 took_files filling fill (Some d) None l hs is all = absurd is
 took_files filling fill (Some d) (Some k) l hs is all =
-    let r = some_took (TakesFile files_under) k l hs all in
+    let r = some_took (FilesFrame files_under) k l hs all in
     subst (λ (x : Option (FilesSink PictureDirectory _)).
-    TakesFiles filling fill hs (Some d) (directory_under x)) (sym r.1)
+    FilesFrames filling fill hs (Some d) (directory_under x)) (sym r.1)
     (files_wrote filling fill d k r.0 hs is r.2)
 
 -- ---- frames that are listed
 
-listed : (hs frames : List Handed) → TakesAll IsListed frames hs (frames ++ hs)
+pub listed : (hs frames : List Handed) → TakesAll IsListed frames hs (frames ++ hs)
 listed [] frames = append-nil frames
 listed (h ∷ hs) frames = (
   frames ++ h ∷ [],
@@ -172,6 +174,25 @@ listed (h ∷ hs) frames = (
   subst (λ (l : List Handed). TakesAll IsListed (frames ++ h ∷ []) hs l)
       (append_assoc frames (h ∷ []) hs) (listed hs (frames ++ h ∷ [])),
 )
+
+-- the files below sinks all of which took these frames
+pub all_under : {A : Type 0} (filling : Filling) (fill : Option (List ℕ)) (o : FollowOutputs)
+    (k l : FollowSinks A) (hs : List Handed) → AreSinksOver filling fill o k
+    → TakesAll TakesAllOver k hs l
+    → TakesPictures filling fill hs o.out (file_under l.first)
+    × TakesReport hs o.report (report_under l.second.first)
+    × FilesFrames filling fill hs o.pictures (directory_under l.second.second)
+all_under filling fill o k l hs over is =
+    let both =
+    all_both (TakesIn (TakesFrame octets_under)) (TakesBoth (TakesIn (TakesLines octets_under))
+    (TakesIn (FilesFrame files_under))) k l hs is in
+    let others =
+    all_both (TakesIn (TakesLines octets_under)) (TakesIn (FilesFrame files_under)) k.second
+    l.second hs both.1 in (
+      took_pictures filling fill o.out k.first l.first hs over.0 both.0,
+      took_report o.report k.second.first l.second.first hs over.1 others.0,
+      took_files filling fill o.pictures k.second.second l.second.second hs over.2 others.1,
+    )
 
 pub follows_files : {A B : Type 0} (w : FollowAsked) (sdp : Option (List ℕ))
     (ways : List (Result Flows Refusal)) (files : List (Side B Replayed × Side B Replayed))
@@ -183,12 +204,7 @@ pub follows_files : {A B : Type 0} (w : FollowAsked) (sdp : Option (List ℕ))
     → FollowsFiles w sdp ways files filling fill o (outputs_under l) took took'
 follows_files w sdp ways files filling fill o k l took took' totals over is =
     let frames : List Handed = frames_of_events (followed_events w is.opening is.entries) in
-    let both =
-    all_both (TakesIn (TakesFrame octets_under)) (TakesBoth (TakesIn (TakesLines octets_under))
-    (TakesIn (TakesFile files_under))) k l frames is.shown in
-    let others =
-    all_both (TakesIn (TakesLines octets_under)) (TakesIn (TakesFile files_under)) k.second l.second
-    frames both.1 in
+    let under = all_under filling fill o k l frames over is.shown in
     record {
       frames = frames;
       totals = totals;
@@ -196,19 +212,21 @@ follows_files w sdp ways files filling fill o k l took took' totals over is =
           record {
             opening = is.opening;
             entries = is.entries;
+            size = is.size;
             no_window = is.no_window;
             source_is = is.source_is;
             announced = is.announced;
             goes = is.goes;
+            has_text = is.has_text;
+            by_flows = is.by_flows;
+            few = is.few;
             printed = is.printed;
             shown = listed frames [];
             told_totals = is.told_totals;
           };
-      written = took_pictures filling fill o.out k.first l.first frames over.0 both.0;
-      reported =
-          took_report o.report k.second.first l.second.first frames over.1 others.0;
-      filed =
-          took_files filling fill o.pictures k.second.second l.second.second frames over.2 others.1;
+      written = under.0;
+      reported = under.1;
+      filed = under.2;
     }
 
 -- the same by other names of the text and of the ways
@@ -300,7 +318,7 @@ accounts_file r a a' b b' m m' c c' before after is =
 
 -- ---- a file that is settled
 
-settled_pictures : (filling : Filling) (fill : Option (List ℕ)) (frames : List Handed)
+pub settled_pictures : (filling : Filling) (fill : Option (List ℕ)) (frames : List Handed)
     (out mid new : Option FileOutput) → TakesPictures filling fill frames out mid
     → SameFile mid new → TakesPictures filling fill frames out new
 settled_pictures filling fill frames None None new is same = same
@@ -309,7 +327,7 @@ settled_pictures filling fill frames (Some f) None new is same = absurd is
 settled_pictures filling fill frames (Some f) (Some g) None is same = absurd same
 settled_pictures filling fill frames (Some f) (Some g) (Some h) is same = same.0 ∙ is
 
-settled_report : (frames : List Handed) (out mid new : Option FileOutput)
+pub settled_report : (frames : List Handed) (out mid new : Option FileOutput)
     → TakesReport frames out mid → SameFile mid new → TakesReport frames out new
 settled_report frames None None new is same = same
 settled_report frames None (Some g) new is same = absurd cc
@@ -344,7 +362,7 @@ settled_follows w sdp ways files filling fill out mid new took took' is same = r
   written = settled_pictures filling fill is.frames out.out mid.out new.out is.written same.0;
   reported = settled_report is.frames out.report mid.report new.report is.reported same.1;
   filed =
-      subst (λ (x : Option PictureDirectory). TakesFiles filling fill is.frames out.pictures x)
+      subst (λ (x : Option PictureDirectory). FilesFrames filling fill is.frames out.pictures x)
       (sym same.2) is.filed;
 }
 
@@ -368,12 +386,13 @@ done_settled (Ok fill) w sdp ways files filling out mid new took took' same is =
     settled_follows w sdp ways files filling fill out mid new took took' is same
 done_settled (Err f) w sdp ways files filling out mid new took took' same is = tt
 
-pub refused_settled : {V : Type 0} (opened : Result V Fault) (P Q : Type 0) (r : Refusal)
-    (old mid new : FollowOutputs) → SameOutputs mid new
-    → MatchResult opened (λ _. P) (λ g. (g ≡ Refused r) × (mid ≡ old) × Q)
-    → MatchResult opened (λ _. P) (λ g. (g ≡ Refused r) × SameOutputs old new × Q)
-refused_settled (Ok v) P Q r old mid new same is = is
-refused_settled (Err g) P Q r old mid new same is =
+pub refused_settled : {V : Type 0} (opened : Result V Fault) (P P' : V → Type 0) (Q : Type 0)
+    (r : Refusal) (old mid new : FollowOutputs) → SameOutputs mid new
+    → ((v : V) → P v → P' v)
+    → MatchResult opened P (λ g. (g ≡ Refused r) × (mid ≡ old) × Q)
+    → MatchResult opened P' (λ g. (g ≡ Refused r) × SameOutputs old new × Q)
+refused_settled (Ok v) P P' Q r old mid new same then is = then v is
+refused_settled (Err g) P P' Q r old mid new same then is =
     (is.0, subst (λ (x : FollowOutputs). SameOutputs x new) is.1 same, is.2)
 
 pub owed_settled : {V W : Type 0} (opened : Result V Fault) (o : Result W Fault) (a a' c c' : ℕ)

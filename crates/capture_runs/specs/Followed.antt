@@ -1,7 +1,7 @@
 -- What `follow` opens on this machine, and refuses before it reads files (own).
 use Rattle.std.specs.Prelude.{◌≡◌, ◌⊎◌, ℕ, Bool, List, [], ◌∷◌, ◌++◌, IsTrue, Option, Result}
 use Rattle.std.specs.List.{AllByRecursion}
-use Rattle.capture_runs.specs.Outputs.{TakesFiles, TakesReport}
+use Rattle.capture_runs.specs.Outputs.{FilesFrames, TakesReport}
 use Rattle.capture_runs.specs.Pictured.{IsFillRefusal, TakesPictures}
 use Rattle.capture_runs.specs.Refused.{IsFlowRefusal, IsTooLong}
 use Rattle.capture_runs.specs.Replayed.{replayed_ended, replayed_gave}
@@ -9,7 +9,7 @@ use Rattle.capture_runs.specs.declared.opening.Files.{Files}
 use Rattle.capture_runs.specs.declared.outputs.FollowOutputs.{FollowOutputs}
 use Rattle.capture_runs.specs.declared.replayed.Replayed.{Replayed}
 use Rattle.flow.specs.declared.flows.Flows.{Flows}
-use Rattle.follow_engine.specs.Followed.{FollowsWhole}
+use Rattle.follow_engine.specs.Followed.{FollowsWhole, StopsShort}
 use Rattle.follow_engine.specs.Opened.{AllClosedSides}
 use Rattle.follow_engine.specs.Refused.{IsWordRefusal}
 use Rattle.follow_engine.specs.Sides.{SideRead}
@@ -53,4 +53,18 @@ pub record FollowsFiles {A : Type 0} (w : FollowAsked) (sdp : Option (List ℕ))
       frames took took' totals
   pub written : TakesPictures filling fill frames outputs.out outputs'.out
   pub reported : TakesReport frames outputs.report outputs'.report
-  pub filed : TakesFiles filling fill frames outputs.pictures outputs'.pictures
+  pub filed : FilesFrames filling fill frames outputs.pictures outputs'.pictures
+
+-- The run was refused: nothing was printed and written; or of the frames that left the stream of
+-- these files before, up to some record, all was told, and just that was written of them which is
+-- written of a stream that ends there.
+pub record StopsFiles {A : Type 0} (w : FollowAsked) (sdp : Option (List ℕ))
+    (ways : List (Result Flows Refusal)) (files : List (Side A Replayed × Side A Replayed))
+    (filling : Filling) (fill : Option (List ℕ)) (outputs outputs' : FollowOutputs)
+    (took took' : List ℕ) : Type 0 where
+  pub frames : List Handed
+  pub stops : StopsShort w sdp ways (SideRead replayed_gave replayed_ended) files IsListed []
+      frames took took'
+  pub written : TakesPictures filling fill frames outputs.out outputs'.out
+  pub reported : TakesReport frames outputs.report outputs'.report
+  pub filed : FilesFrames filling fill frames outputs.pictures outputs'.pictures

@@ -11,7 +11,7 @@ use Rattle.devices.specs.Passed.{IsInPlace, IsUnplaced, file_took, writing_failu
 use Rattle.devices.specs.declared.file_output.FileOutput.{FileOutput}
 use Rattle.following.specs.Following.{Handed}
 use Rattle.follow_engine.specs.Shown.{TakesIn}
-use Rattle.frame_sinks.specs.Files.{TakesFile, files_for}
+use Rattle.frame_sinks.specs.Files.{FilesFrame, files_for}
 use Rattle.frame_sinks.specs.Pictures.{pictures_of}
 use Rattle.frame_sinks.specs.Sinks.{TakesBoth, TakesFrame, TakesLines, frames_report}
 use Rattle.frame_sinks.specs.declared.both.BothSinks.{BothSinks}
@@ -65,11 +65,11 @@ TakesReport frames (Some f) (Some g) = file_took g ≡ file_took f ++ frames_rep
 
 -- The files that took their names in a directory are those of the pictures of these frames, where
 -- there is one; and no others.
-abbrev pub TakesFiles : Filling → Option (List ℕ) → List Handed → Option PictureDirectory
+abbrev pub FilesFrames : Filling → Option (List ℕ) → List Handed → Option PictureDirectory
     → Option PictureDirectory → Type 0
-TakesFiles filling fill frames None e = e ≡ None
-TakesFiles filling fill frames (Some d) None = ⊥
-TakesFiles filling fill frames (Some d) (Some e) = filed_files e.directory
+FilesFrames filling fill frames None e = e ≡ None
+FilesFrames filling fill frames (Some d) None = ⊥
+FilesFrames filling fill frames (Some d) (Some e) = filed_files e.directory
     ≡ filed_files d.directory ++ files_for frames (pictures_of filling fill None frames)
 
 abbrev pub pictures_failures : PictureDirectory → ℕ
@@ -136,7 +136,7 @@ outputs_under k = outputs_of (file_under k.first) (report_under k.second.first)
 -- all of them took a frame
 abbrev pub TakesAllOver : {A : Type 0} → FollowSinks A → Handed → FollowSinks A → Type 0
 TakesAllOver k h l = TakesBoth (TakesIn (TakesFrame octets_under))
-    (TakesBoth (TakesIn (TakesLines octets_under)) (TakesIn (TakesFile files_under))) k h l
+    (TakesBoth (TakesIn (TakesLines octets_under)) (TakesIn (FilesFrame files_under))) k h l
 
 abbrev pub sinks_failures : {A : Type 0} → FollowSinks A → ℕ
 sinks_failures k = failures_in failures_under k.first

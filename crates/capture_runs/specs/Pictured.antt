@@ -38,8 +38,8 @@ abbrev pub IsSinkOver : {A : Type 0} → Filling → Option (List ℕ) → Optio
     → Option (FormSink UnplacedOutput A) → Type 0
 IsSinkOver filling fill None k = k ≡ None
 IsSinkOver filling fill (Some f) None = ⊥
-IsSinkOver filling fill (Some f) (Some k) = (k.sink.file ≡ f) × (k.filling ≡ filling)
-    × (k.fill ≡ fill) × (k.format ≡ None) × (k.held ≡ None)
+IsSinkOver filling fill (Some f) (Some k) = (k.sink.file ≡ f) × (k.settling.filling ≡ filling)
+    × (k.settling.fill ≡ fill) × (k.format ≡ None) × (k.settling.held ≡ None)
 
 -- the file below a sink
 abbrev pub file_under : {A : Type 0} → Option (FormSink UnplacedOutput A) → Option FileOutput

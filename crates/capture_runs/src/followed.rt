@@ -3,6 +3,7 @@ ghost use Rattle.std.specs.Prelude.{◌≡◌, ◌∷◌, [], Err, IfErr, IfOk, 
 ghost use Rattle.std.specs.List.{zip};
 ghost use Rattle.std.specs.Option.{option_copied};
 ghost use Rattle.capture_runs.specs.Followed.{AreNewSides, FollowsFiles, IsFollowOpening};
+ghost use Rattle.capture_runs.specs.Followed.{StopsFiles};
 ghost use Rattle.capture_runs.specs.Opened.{AreUnread, said_text};
 ghost use Rattle.capture_runs.specs.Outputs.{AreApart, AreInPlace, AreLeft, AreUnplaced};
 ghost use Rattle.capture_runs.specs.Outputs.{AreUnwritten, SameOutputs, TakesAllOver};
@@ -10,12 +11,12 @@ ghost use Rattle.capture_runs.specs.Outputs.{sinks_failures, written_failures};
 ghost use Rattle.capture_runs.specs.Pictured.{IsFillGiven};
 ghost use Rattle.capture_runs.specs.Replayed.{replayed_ended, replayed_failures, replayed_gave};
 ghost use Rattle.devices.specs.Passed.{output_failures, output_took};
-ghost use Rattle.follow_engine.specs.Followed.{FollowsWhole};
+ghost use Rattle.follow_engine.specs.Followed.{FollowsWhole, StopsShort};
 ghost use Rattle.follow_engine.specs.Refused.{IsFollowRefusal};
 ghost use Rattle.follow_engine.specs.Sides.{SideRead};
 ghost use Rattle.follow_engine.specs.declared.telling.FollowTotals.{FollowTotals};
 ghost use Rattle.recording_engines.specs.Ways.{AreWaysBy};
-ghost use Rattle.run_outcome.specs.Fault.{Accounts, counts};
+ghost use Rattle.run_outcome.specs.Fault.{Accounts, IfRefused, counts};
 ghost use Rattle.run_outcome.specs.Refusing.{OfRefusal};
 ghost use Rattle.run_outcome.specs.declared.fault.Fault.TheVariants.{Refused};
 ghost use Rattle.side_by_side.specs.Sides.{failures_each};
@@ -119,10 +120,14 @@ impl FollowCommand<'_> {
             (output_took self.old.output) (output_took self.new.output))) }
         ensures unplaced { AreUnplaced self.new.outputs }
         ensures refusal { IfErr result (λ f. OfRefusal f (λ r. MatchResult self.old.opened
-            (λ _. IsFollowRefusal self.old.asked.frames self.old.asked.ssrc.now
+            (λ values. IsFollowRefusal self.old.asked.frames self.old.asked.ssrc.now
             (said_text self.old.files.said) self.old.files.ways.items
             (SideRead replayed_gave replayed_ended)
-            (zip self.old.sides.items self.new.sides.items) r)
+            (zip self.old.sides.items self.new.sides.items) r
+            × StopsFiles self.old.asked (said_text self.old.files.said) self.old.files.ways.items
+            (zip self.old.sides.items self.new.sides.items) self.old.filling values
+            self.old.outputs self.new.outputs
+            (output_took self.old.output) (output_took self.new.output))
             (λ g. (g ≡ Refused r) × (self.new.outputs ≡ self.old.outputs)
             × (output_took self.new.output ≡ output_took self.old.output)))) }
         ensures owed { MatchResult self.old.opened (λ _. Accounts result
@@ -243,6 +248,9 @@ fn follow_into<'a>(
     ensures refusal { IfErr result (λ f. OfRefusal f (IsFollowRefusal asked.entry.frames
         asked.entry.ssrc.now (said_text files.old.said) files.old.ways.items
         (SideRead replayed_gave replayed_ended) (zip sides.old.items sides.new.items))) }
+    ensures before { IfErr result (λ f. IfRefused f (StopsFiles asked.entry
+        (said_text files.old.said) files.old.ways.items (zip sides.old.items sides.new.items)
+        filling fill outputs.old outputs.new (output_took output.old) (output_took output.new))) }
     ensures owed { Accounts result (counts (failures_each replayed_failures sides.old.items)
         (failures_each replayed_failures sides.new.items)
         ∷ counts (written_failures outputs.old) (written_failures outputs.new)
@@ -272,6 +280,10 @@ fn follow(
     ensures refusal { IfErr result (λ f. OfRefusal f (IsFollowRefusal asked.entry.frames
         asked.entry.ssrc.now (said_text files.old.said) files.old.ways.items
         (SideRead replayed_gave replayed_ended) (zip sides.old.items sides.new.items))) }
+    ensures before { IfErr result (λ f. IfRefused f (StopsShort asked.entry
+        (said_text files.old.said) files.old.ways.items (SideRead replayed_gave replayed_ended)
+        (zip sides.old.items sides.new.items) TakesAllOver
+        sinks.old sinks.new (output_took output.old) (output_took output.new))) }
     ensures owed { Accounts result (counts (failures_each replayed_failures sides.old.items)
         (failures_each replayed_failures sides.new.items)
         ∷ counts (sinks_failures sinks.old) (sinks_failures sinks.new)
@@ -329,10 +341,14 @@ impl<'a> Command for FollowCommand<'a> {
         (output_took old.output) (output_took new.output)) };
 
     // A refusal of the words, of a file that is to be written, of the SDP or of the words for
-    // flows, where nothing is printed or written; or else one of what was read.
-    ghost is_refused = { λ old new r. MatchResult old.opened (λ _. IsFollowRefusal
+    // flows, where nothing is printed or written; or else one of what was read, behind all that is
+    // printed and written of the frames that left before.
+    ghost is_refused = { λ old new r. MatchResult old.opened (λ values. IsFollowRefusal
         old.asked.frames old.asked.ssrc.now (said_text old.files.said) old.files.ways.items
-        (SideRead replayed_gave replayed_ended) (zip old.sides.items new.sides.items) r)
+        (SideRead replayed_gave replayed_ended) (zip old.sides.items new.sides.items) r
+        × StopsFiles old.asked (said_text old.files.said) old.files.ways.items
+        (zip old.sides.items new.sides.items) old.filling values old.outputs new.outputs
+        (output_took old.output) (output_took new.output))
         (λ f. (f ≡ Refused r) × SameOutputs old.outputs new.outputs
         × (output_took new.output ≡ output_took old.output)) };
 

@@ -1,9 +1,9 @@
 //! A directory that `follow` writes pictures into, where one is named.
-ghost use Rattle.std.specs.Prelude.{◌≡◌, ◌≤◌, ◌+◌, ◌++◌, ◌∷◌, [], IfErr, OnOk, length};
+ghost use Rattle.std.specs.Prelude.{◌≡◌, ◌≤◌, ◌+◌, ◌++◌, ◌∷◌, [], IfErr, OnErr, OnOk, length};
 ghost use Rattle.arrayvec.specs.ArrayString.{array_string_len};
 ghost use Rattle.capture_runs.specs.Outputs.{AreNoPictures};
 ghost use Rattle.devices.specs.Filed.{directory_failures, filed_files};
-ghost use Rattle.frame_sinks.specs.Files.{picture_name};
+ghost use Rattle.frame_sinks.specs.Files.{stamped_name};
 ghost use Rattle.media_file.specs.PictureFile.{picture_text};
 ghost use Rattle.run_outcome.specs.Fault.{Accounts, IfRefused, counts};
 
@@ -38,7 +38,7 @@ impl PictureFiles for PictureDirectory<'_> {
 
 /// The name of a timestamp's file, which always has room.
 fn name_of(timestamp: u32) -> ArrayString<NAME>
-    ensures { result.bytes ≡ picture_name timestamp }
+    ensures { result.bytes ≡ stamped_name timestamp }
 {
     let mut name = ArrayString::<NAME>::new();
     let mut digits = Buffer::new();
@@ -66,6 +66,7 @@ fn write_file<A: Allocator>(
 ) -> Result<(), Fault>
     ensures filed { OnOk result (filed_files directory.new
         ≡ filed_files directory.old ++ (name.now, picture_text picture.now) ∷ []) }
+    ensures unfiled { OnErr result (filed_files directory.new ≡ filed_files directory.old) }
     ensures unrefused { IfErr result (λ f. IfRefused f ⊥) }
     ensures failures { Accounts result (counts (directory_failures directory.old)
         (directory_failures directory.new) ∷ []) }

@@ -1,9 +1,10 @@
 -- A stream that is begun, and files that were opened for it.
 use Rattle.std.proofs.Common.{◌≡◌, ℕ, List, [], ◌∷◌, Option, None, Some, refl, sym, ap, subst, ◌∙◌}
-use Rattle.std.proofs.Common.{Result, ◌++◌, length}
+use Rattle.std.proofs.Common.{Result, ◌++◌, arith, length}
 use Rattle.std.proofs.lemmas.List.{length-map}
 use Rattle.std.specs.List.{AllByRecursion}
 use Rattle.flow.specs.declared.flows.Flows.{Flows}
+use Rattle.media_file.specs.Records.{Entry}
 use Rattle.capture_engines.specs.Files.{other_ways}
 use Rattle.path_receiver.specs.Took.{datagrams_since}
 use Rattle.recording_engines.specs.Files.{IsUnread}
@@ -100,6 +101,13 @@ follows_entries gave ended takes source source' r r' old new took took' sides no
     subst (λ (l : List (Side _ _)). FollowsEntries gave ended takes r r' old new took took' l) is
     (record {
       entries = given.entries;
+      few =
+          omega (
+            arith,
+            follows.few,
+            ap (λ (l : List (List ℕ)). length l) ds,
+            length-map given.entries (λ (e : Entry). e.octets),
+          );
       goes = λ octets read.
           subst (λ (st : Steering). GoesWhole st (strands_of source'.sides octets) given.entries)
           steering (given.goes octets read);
@@ -115,7 +123,7 @@ follows_entries gave ended takes source source' r r' old new took took' sides no
 abbrev noted : Running → Following → Running
 noted r s = without r (frames_in r.follower) s
 
-totals_same : (r : Running) (s : Following) → s.size ≡ r.follower.size
+pub totals_same : (r : Running) (s : Following) → s.size ≡ r.follower.size
     → totals_text (noted r s) ≡ totals_text (ended r)
 totals_same r s same =
     ap (λ (n : ℕ). totals_text (noted r (record s { size = n }))) same

@@ -11,3 +11,9 @@ pub mod Blamed
 pub mod Beginnings
 pub mod Noting
 pub mod Openings
+pub mod Grows
+pub mod Cut
+pub mod First
+pub mod Counted
+pub mod Numbers
+pub mod Short

@@ -7,6 +7,7 @@ use Rattle.following.specs.Restarts.{since_behind}
 use Rattle.following.specs.Tally.{tally_after}
 use Rattle.following.specs.declared.answer.Followed.{Followed}
 use Rattle.following.specs.declared.tally.FollowTally.{FollowTally}
+use Rattle.st_format.specs.Device.{GrowsPart}
 use Rattle.follow_engine.specs.Events.{IsAnewAt, Running, anew_with, late_with, no_answers, noted_by}
 use Rattle.follow_engine.specs.Events.{running_from, timed}
 use Rattle.follow_engine.specs.Line.{ended_in}
@@ -82,3 +83,12 @@ wanted_by took took' said n size late m need printed is first second =
     printed ∙ ap (λ (l : Option FollowLine). took ++ ended_in l) is
     ∙ ap (λ (k : ℕ). took ++ ended_in (wanted k late m)) first
     ∙ ap (λ (k : ℕ). took ++ ended_in (wanted size late k)) second
+
+-- so of a first part of it
+pub part_wanted : (took took' : List ℕ) (said : Option FollowLine) (n size late m need : ℕ)
+    → GrowsPart took took' (ended_in said) → said ≡ wanted n late m → n ≡ size → m ≡ need
+    → GrowsPart took took' (ended_in (wanted size late need))
+part_wanted took took' said n size late m need part is first second =
+    subst (λ (l : List ℕ). GrowsPart took took' l)
+    (ap ended_in is ∙ ap (λ (k : ℕ). ended_in (wanted k late m)) first
+    ∙ ap (λ (k : ℕ). ended_in (wanted size late k)) second) part

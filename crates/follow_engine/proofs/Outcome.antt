@@ -9,8 +9,9 @@ use Rattle.capture_engines.specs.Taking.{AnnouncesStream, said_behind}
 use Rattle.following.specs.Follower.{opened}
 use Rattle.following.specs.Following.{Handed}
 use Rattle.media_file.specs.Records.{Entry}
+use Rattle.path_receiver.specs.Opening.{IsWindowSize, Opening}
 use Rattle.recording_engines.proofs.Same.{no_less, no_more, same_head}
-use Rattle.recording_engines.specs.Files.{IsKnown}
+use Rattle.recording_engines.specs.Files.{IsKnown, IsReadByFlows}
 use Rattle.recording_engines.specs.Joining.{Strand}
 use Rattle.recording_reader.specs.Files.{text_of_file}
 use Rattle.run_outcome.specs.Sources.{IsSourceText}
@@ -33,7 +34,7 @@ use Rattle.follow_engine.specs.declared.opening.FollowAsked.{FollowAsked}
 use Rattle.follow_engine.specs.declared.running.Run.{Run}
 use Rattle.follow_engine.specs.declared.telling.FollowTotals.{FollowTotals}
 use Rattle.follow_engine.proofs.Tells.{takes_both}
-use Rattle.follow_engine.proofs.Whole.{all_taken, first_said}
+use Rattle.follow_engine.proofs.Whole.{all_taken, first_said, taken_by}
 
 -- ---- the end
 
@@ -92,7 +93,7 @@ outcome_by takes eager r ds t old mid new took took' took'' totals is told ends 
 -- ---- the text
 
 -- the text by which the stream was begun is the one that is given, or that of the first file
-said_text : {A S : Type 0} (gave : S → List ℕ) (ended : S → Type 0)
+pub said_text : {A S : Type 0} (gave : S → List ℕ) (ended : S → Type 0)
     (ways : List (Result Flows Refusal)) (sdp : Option (List ℕ)) (first : List ℕ)
     (olds mids news : List (Side A S)) (octets : List (List ℕ)) (text : List ℕ)
     → AreOpened gave ended ways olds mids → IsFirstText first mids
@@ -121,6 +122,30 @@ said_text gave ended ways None first (x ∷ xs) (m ∷ ms) (n ∷ ns) (o ∷ os)
     let text_is : text_of_file o ≡ text = cc in
     sym (first_said gave ended ways first o x m n xs ms ns opened head is known.0 read.0) ∙ text_is
 
+-- a text was given, or there is a file
+no_text : {A S : Type 0} (gave : S → List ℕ) (ended : S → Type 0)
+    (ways : List (Result Flows Refusal)) (first : List ℕ) (olds mids news : List (Side A S))
+    → AreOpened gave ended ways olds mids → IsFirstText first mids
+    → begun_each news ≡ begun_each mids → zip olds news ≡ [] → first ≡ []
+no_text gave ended ways first [] [] news opened is same none = is
+no_text gave ended ways first [] (m ∷ ms) news opened is same none = absurd opened
+no_text gave ended ways first (x ∷ xs) [] news opened is same none = absurd opened
+no_text gave ended ways first (x ∷ xs) (m ∷ ms) [] opened is same none =
+    absurd (no_less (begun_at m.file) (begun_each ms) same)
+no_text gave ended ways first (x ∷ xs) (m ∷ ms) (n ∷ ns) opened is same none = absurd cc
+
+nothing_said : (o : Opening) (text : List ℕ) → text ≡ [] → AnnouncesStream text o → ⊥
+nothing_said o text none says =
+    let announced : AnnouncesStream [] o =
+    subst (λ (t : List ℕ). AnnouncesStream t o) none says in
+    absurd announced.described
+
+text_there : (o : Opening) (sdp : Option (List ℕ)) (first : List ℕ) → sdp ≡ None → first ≡ []
+    → AnnouncesStream (text_by sdp first) o → ⊥
+text_there o sdp first none empty says =
+    nothing_said o (text_by sdp first)
+    (ap (λ (x : Option (List ℕ)). text_by x first) none ∙ empty) says
+
 -- ---- the run
 
 whole_goes : (st st' : Steering) (ss ss' : List Strand) (es : List Entry) → st ≡ st' → ss ≡ ss'
@@ -136,12 +161,13 @@ pub follows_whole : {A S K : Type 0} (gave : S → List ℕ) (ended : S → Type
     (took took' took'' : List ℕ) (totals : FollowTotals) → IsSourceText w.ssrc.now ssrc
     → HasBegun w ssrc (text_by sdp first) r → AreOpened gave ended ways olds mids
     → IsFirstText first mids → begun_each news ≡ begun_each mids
-    → AllByRecursion (λ x. IsKnown gave ended x.file) news
+    → AllByRecursion (λ x. IsKnown gave ended x.file) news → IsWindowSize w.frames
+    → AllByRecursion (λ x. IsReadByFlows x.file) news
     → FollowsEntries gave ended takes r t old mid took took' news
     → EndsStream takes t mid new took' took'' totals
     → FollowsWhole w sdp ways (SideRead gave ended) (zip olds news) takes old new took took'' totals
 follows_whole gave ended takes w ssrc sdp ways first olds mids news r t old mid new took took' took''
-    totals source begun opened_so is same known follows ends =
+    totals source begun opened_so is same known size kind follows ends =
     let o = begun.opens.opening in
     let ds : List (List ℕ) = datagrams_in follows.entries in
     let from : Running = running_from (opened o w.frames 900000) in
@@ -155,6 +181,7 @@ follows_whole gave ended takes w ssrc sdp ways first olds mids news r t old mid 
     record {
       opening = o;
       entries = follows.entries;
+      size = size;
       no_window = begun.opens.no_window;
       source_is = subst (λ (x : Option ℕ). IsSourceText w.ssrc.now x) (sym begun.opens.source)
           source;
@@ -169,6 +196,13 @@ follows_whole gave ended takes w ssrc sdp ways first olds mids news r t old mid 
           (begun.run.steering
           ∙ ap (λ (x : Running). steering_of x.follower.opening) begun.opens.is) taken.strands
           (follows.goes octets taken.given);
+      has_text = λ none empty.
+          text_there o sdp first none
+          (no_text gave ended ways first olds mids news opened_so is same empty)
+          begun.opens.announced;
+      by_flows = λ octets read.
+          taken_by gave ended ways olds mids news octets opened_so same known kind read;
+      few = follows.few;
       printed = by.printed;
       shown = by.shown;
       told_totals = by.totals_are;

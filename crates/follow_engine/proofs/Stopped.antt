@@ -1,6 +1,6 @@
 -- What stops files that are followed, and the text of the first one.
-use Rattle.std.proofs.Common.{◌≡◌, ℕ, ◌⊎◌, inl, inr, List, [], ◌∷◌, Option, None, Some, Result, refl}
-use Rattle.std.proofs.Common.{sym, ap, subst, ◌∙◌}
+use Rattle.std.proofs.Common.{◌≡◌, ◌≤◌, ℕ, ◌⊎◌, inl, inr, List, [], ◌∷◌, Option, None, Some}
+use Rattle.std.proofs.Common.{Result, refl, sym, ap, subst, ◌∙◌}
 use Rattle.std.specs.List.{AllByRecursion, zip}
 use Rattle.std.specs.Prelude.{MatchOption}
 use Rattle.flow.specs.declared.flows.Flows.{Flows}
@@ -10,6 +10,7 @@ use Rattle.media_file.specs.declared.fault.FileFault.TheVariants.{TooManyRecords
 use Rattle.recording_engines.proofs.FileFaults.{of_file}
 use Rattle.recording_engines.proofs.Same.{no_more, same_head, same_tail}
 use Rattle.recording_engines.specs.Files.{IsAt, IsKnown, ended_by, gave_by}
+use Rattle.recording_engines.specs.Joining.{Strand}
 use Rattle.recording_engines.specs.declared.file.ImportFile.{ImportFile}
 use Rattle.recording_engines.specs.declared.file.ImportFile.TheVariants.{Closed, Open, Taken}
 use Rattle.recording_reader.specs.FileReader.{FileReader, HasGivenFile, IsKnownBy}
@@ -23,14 +24,16 @@ use Rattle.run_outcome.specs.declared.fault.Fault.TheVariants.{Device, Memory, R
 use Rattle.run_outcome.specs.declared.refusal.Refusal.{Refusal}
 use Rattle.run_outcome.specs.declared.refusal.Refusal.TheVariants as refusal
 use Rattle.st_format.specs.History.{IsRead}
+use Rattle.side_by_side.specs.InOrder.{record_count}
 use Rattle.side_by_side.specs.Side.{Begun, begun_at}
 use Rattle.side_by_side.specs.Sides.{IsStopped, OneSideAt, begun_each}
 use Rattle.side_by_side.specs.declared.side.Side.{Side}
 use Rattle.follow_engine.specs.Opened.{AreOpened, IsFirstText}
-use Rattle.follow_engine.specs.Refused.{FirstRefuses, IsFileRefusal, IsFirstRefusal, StopsFollowing}
-use Rattle.follow_engine.specs.Refused.{fault_in}
+use Rattle.follow_engine.specs.Order.{most_datagrams}
+use Rattle.follow_engine.specs.Refused.{AreTooMany, FirstRefuses, IsFileRefusal, IsFirstRefusal}
+use Rattle.follow_engine.specs.Refused.{StopsFollowing, StopsRead, fault_in}
 use Rattle.follow_engine.specs.Sides.{SideRead}
-use Rattle.follow_engine.proofs.Whole.{begun_by, first_said, same_fault}
+use Rattle.follow_engine.proofs.Whole.{all_taken, begun_by, first_said, same_fault}
 use Rattle.run_outcome.specs.LowerFaults.{reading_fault}
 
 -- ---- the text of the first
@@ -64,17 +67,18 @@ first_by gave ended ways (Some t) text olds news r opened first is = absurd is
 -- ---- the fault of one
 
 stops_by : {A S : Type 0} (f : Fault) (reading : ReadingFault) (sides : List (Side A S))
-    → f ≡ reading_fault reading → OneSideAt reading sides → OfRefusal f (StopsFollowing sides)
-stops_by (Refused r) reading sides told at = inl (reading, sym told, at)
-stops_by Device reading sides told at = tt
-stops_by Memory reading sides told at = tt
+    (count : ℕ) → f ≡ reading_fault reading → OneSideAt reading sides
+    → OfRefusal f (StopsFollowing count sides)
+stops_by (Refused r) reading sides count told at = inl (reading, sym told, at)
+stops_by Device reading sides count told at = tt
+stops_by Memory reading sides count told at = tt
 
 -- a source stays at the fault of one
 pub stops_at : {A S : Type 0} (f : Fault) (at : Option ReadingFault) (reading : ReadingFault)
-    (sides : List (Side A S)) → f ≡ fault_in at → at ≡ Some reading → IsStopped at sides
-    → OfRefusal f (StopsFollowing sides)
-stops_at f at reading sides told stays stopped =
-    stops_by f reading sides (told ∙ ap fault_in stays)
+    (sides : List (Side A S)) (count : ℕ) → f ≡ fault_in at → at ≡ Some reading
+    → IsStopped at sides → OfRefusal f (StopsFollowing count sides)
+stops_at f at reading sides count told stays stopped =
+    stops_by f reading sides count (told ∙ ap fault_in stays)
     (subst (λ (x : Option ReadingFault). IsStopped x sides) stays stopped)
 
 fault_reader : {S : Type 0} (gave : S → List ℕ) (ended : S → Type 0) (b : Begun)
@@ -129,9 +133,17 @@ one_stops gave ended ways (x ∷ xs) (m ∷ ms) (n ∷ ns) f r opened same known
 pub stops_files : {A S : Type 0} (gave : S → List ℕ) (ended : S → Type 0)
     (ways : List (Result Flows Refusal)) (olds mids news : List (Side A S)) (r : Refusal)
     → AreOpened gave ended ways olds mids → begun_each news ≡ begun_each mids
-    → AllByRecursion (λ x. IsKnown gave ended x.file) news → StopsFollowing news r
+    → AllByRecursion (λ x. IsKnown gave ended x.file) news → StopsRead gave ended news r
     → OneFileIs (λ w s. IsFileRefusal (SideRead gave ended s) r) ways (zip olds news)
-    ⊎ (r ≡ refusal.Capture TooManyRecords)
+    ⊎ ((r ≡ refusal.Capture TooManyRecords)
+    × AreTooMany ways (SideRead gave ended) (zip olds news))
 stops_files gave ended ways olds mids news r opened same known (inl (f, told, at)) =
     inl (one_stops gave ended ways olds mids news f r opened same known told at)
-stops_files gave ended ways olds mids news r opened same known (inr many) = inr many
+stops_files gave ended ways olds mids news r opened same known (inr many) =
+    inr (
+      many.0,
+      λ octets read.
+          let taken = all_taken gave ended ways olds mids news octets opened same read in
+          subst (λ (l : List Strand). most_datagrams ≤ record_count l) taken.strands
+          (many.1 octets taken.given),
+    )

@@ -258,7 +258,7 @@ turn_anew takes eager r r' r'' octets ts old mid new took took' took'' is at tur
 
 -- ---- what came
 
-since_by : (rest before now : List (Path × List ℕ)) → now ≡ before ++ rest
+pub since_by : (rest before now : List (Path × List ℕ)) → now ≡ before ++ rest
     → datagrams_since before now ≡ map (λ (d : Path × List ℕ). d.1) rest
 since_by rest before now e =
     ap (λ (ds : List (Path × List ℕ)). datagrams_since before ds) e
@@ -305,6 +305,22 @@ so_quiet takes eager before now then r r' old new took took' so comes =
     subst (λ (l : List (Path × List ℕ)). FollowedSo takes eager before l r r' old new took took')
     (sym (comes ∙ append-nil now)) so
 
+-- a datagram more came
+came_more : (before now then rest : List (Path × List ℕ)) (path : Path) (octets : List ℕ)
+    → now ≡ before ++ rest → then ≡ now ++ (path, octets) ∷ []
+    → then ≡ before ++ (rest ++ (path, octets) ∷ [])
+came_more before now then rest path octets came comes =
+    comes ∙ ap (λ (l : List (Path × List ℕ)). l ++ (path, octets) ∷ []) came
+    ∙ append_assoc before rest ((path, octets) ∷ [])
+
+pub since_more : (before now then rest : List (Path × List ℕ)) (path : Path) (octets : List ℕ)
+    → now ≡ before ++ rest → then ≡ now ++ (path, octets) ∷ []
+    → datagrams_since before then ≡ datagrams_since before now ++ octets ∷ []
+since_more before now then rest path octets came comes =
+    since_by (rest ++ (path, octets) ∷ []) before then
+    (came_more before now then rest path octets came comes) ∙ octets_more rest path octets
+    ∙ ap (λ (l : List (List ℕ)). l ++ octets ∷ []) (sym (since_by rest before now came))
+
 -- a datagram
 pub so_datagram : {K : Type 0} (takes : K → Handed → K → Type 0) (eager : Bool)
     (before now then : List (Path × List ℕ)) (r r' r'' : Running) (old mid new : K)
@@ -316,16 +332,11 @@ pub so_datagram : {K : Type 0} (takes : K → Handed → K → Type 0) (eager : 
 so_datagram takes eager before now then r r' r'' old mid new took took' took'' path octets so comes
     turn =
     let ds : List (List ℕ) = datagrams_since before now in
-    let rest : List (Path × List ℕ) = so.rest ++ (path, octets) ∷ [] in
-    let came : then ≡ before ++ rest =
-    comes ∙ ap (λ (l : List (Path × List ℕ)). l ++ (path, octets) ∷ []) so.came
-    ∙ append_assoc before so.rest ((path, octets) ∷ []) in
     let more : datagrams_since before then ≡ ds ++ octets ∷ [] =
-    since_by rest before then came ∙ octets_more so.rest path octets
-    ∙ ap (λ (l : List (List ℕ)). l ++ octets ∷ []) (sym (since_by so.rest before now so.came)) in
+    since_more before now then so.rest path octets so.came comes in
     record {
-      rest = rest;
-      came = came;
+      rest = so.rest ++ (path, octets) ∷ [];
+      came = came_more before now then so.rest path octets so.came comes;
       running =
           turn.running ∙ ap (λ (x : Running). behind eager x octets) so.running
           ∙ sym (behind_more eager r ds octets) ∙ ap (behind_all eager r) (sym more);

@@ -2,14 +2,15 @@
 use Rattle.std.proofs.Common.{◌≡◌, ℕ, List, [], ◌∷◌, Option, Some, Result, refl, sym, ap}
 use Rattle.std.proofs.Common.{subst}
 use Rattle.std.proofs.Common.{◌∙◌, map}
-use Rattle.std.specs.List.{AllZip, zip}
+use Rattle.std.specs.List.{AllByRecursion, AllZip, zip}
+use Rattle.std.specs.Prelude.{IsSome}
 use Rattle.flow.specs.declared.flows.Flows.{Flows}
 use Rattle.capture_engines.specs.Files.{first_way, flows_in, other_ways}
 use Rattle.media_file.specs.Records.{Entry}
 use Rattle.recording_engines.proofs.Same.{no_less, no_more, same_head, same_tail}
-use Rattle.recording_engines.specs.Files.{IsKnown, ended_by, gave_by}
+use Rattle.recording_engines.specs.Files.{IsKnown, IsReadByFlows, ended_by, gave_by}
 use Rattle.recording_engines.specs.Joining.{Strand}
-use Rattle.recording_engines.specs.Strands.{strand_in}
+use Rattle.recording_engines.specs.Strands.{IsTakenBy, strand_in}
 use Rattle.recording_engines.specs.declared.file.ImportFile.{ImportFile}
 use Rattle.recording_engines.specs.declared.file.ImportFile.TheVariants.{Closed, Open, Taken}
 use Rattle.recording_reader.specs.FileReader.{FileReader}
@@ -24,7 +25,7 @@ use Rattle.side_by_side.specs.Side.{Begun, begun_at}
 use Rattle.side_by_side.specs.Sides.{FileGave, SideGave, begun_each, strand_of, strands_of}
 use Rattle.side_by_side.specs.declared.side.Side.{Side}
 use Rattle.follow_engine.specs.Opened.{AreOpened, IsFirstText}
-use Rattle.follow_engine.specs.Order.{datagrams_in, strands_by}
+use Rattle.follow_engine.specs.Order.{AreTakenBy, datagrams_in, strands_by}
 use Rattle.follow_engine.specs.Sides.{SideRead}
 use Rattle.run_outcome.specs.LowerFaults.{reading_fault}
 
@@ -91,6 +92,48 @@ all_taken gave ended ways (x ∷ xs) (m ∷ ms) (n ∷ ns) (o ∷ os) opened sam
     let one = taken_file gave ended b o n.file (head ∙ opened.0.is.begun) read.0 in
     let rest = all_taken gave ended (other_ways ways) xs ms ns os opened.1 tail read.1 in
     record { given = (one.given, rest.given); strands = cons one.strand rest.strands }
+
+-- ---- recordings
+
+-- what was read of a file is taken by its flows
+taken_by_file : {A S : Type 0} (gave : S → List ℕ) (ended : S → Type 0) (b : Begun)
+    (octets : List ℕ) (f : ImportFile A S) → begun_at f ≡ Some b → IsKnown gave ended f
+    → IsReadByFlows f → IsRead b.before (gave_by gave f) (ended_by ended f) octets
+    → IsTakenBy b.flows octets
+taken_by_file gave ended b octets (Closed s) begun known kind read = absurd cc
+taken_by_file gave ended b octets (Open r) begun known kind read =
+    let same : begun_by r.flows r.before.gave r.text ≡ b = cc in
+    let from =
+    subst (λ (before : List ℕ). IsRead before (gave r.source) (ended r.source) octets)
+    (sym (ap (λ (x : Begun). x.before) same)) read in
+    λ recording.
+    subst (λ (f : Option Flows). IsSome f) (ap (λ (x : Begun). x.flows) same)
+    (kind (sym (known octets from).kind ∙ recording))
+taken_by_file gave ended b octets Taken begun known kind read = absurd cc
+
+pub taken_by : {A S : Type 0} (gave : S → List ℕ) (ended : S → Type 0)
+    (ways : List (Result Flows Refusal)) (olds mids news : List (Side A S))
+    (octets : List (List ℕ)) → AreOpened gave ended ways olds mids
+    → begun_each news ≡ begun_each mids
+    → AllByRecursion (λ x. IsKnown gave ended x.file) news
+    → AllByRecursion (λ x. IsReadByFlows x.file) news
+    → AllZip (SideRead gave ended) (zip olds news) octets → AreTakenBy ways octets
+taken_by gave ended ways [] [] [] [] opened same known kind read = tt
+taken_by gave ended ways [] [] [] (o ∷ os) opened same known kind read = absurd read
+taken_by gave ended ways [] [] (n ∷ ns) octets opened same known kind read =
+    absurd (no_more (begun_at n.file) (begun_each ns) same)
+taken_by gave ended ways [] (m ∷ ms) news octets opened same known kind read = absurd opened
+taken_by gave ended ways (x ∷ xs) [] news octets opened same known kind read = absurd opened
+taken_by gave ended ways (x ∷ xs) (m ∷ ms) [] octets opened same known kind read =
+    absurd (no_less (begun_at m.file) (begun_each ms) same)
+taken_by gave ended ways (x ∷ xs) (m ∷ ms) (n ∷ ns) [] opened same known kind read = absurd read
+taken_by gave ended ways (x ∷ xs) (m ∷ ms) (n ∷ ns) (o ∷ os) opened same known kind read =
+    let head = same_head (begun_at n.file) (begun_at m.file) (begun_each ns) (begun_each ms) same in
+    let tail = same_tail (begun_at n.file) (begun_at m.file) (begun_each ns) (begun_each ms) same in
+    let b : Begun = begun_by (flows_in (first_way ways)) (gave_by gave x.file) opened.0.text in (
+      taken_by_file gave ended b o n.file (head ∙ opened.0.is.begun) known.0 kind.0 read.0,
+      taken_by gave ended (other_ways ways) xs ms ns os opened.1 tail known.1 kind.1 read.1,
+    )
 
 -- ---- the text of the first
 

@@ -1,5 +1,7 @@
 -- Which refusal ends a run of `follow` (own).
-use Rattle.std.specs.Prelude.{◌≡◌, ℕ, ◌⊎◌, List, [], ◌∷◌, Option, None, Some, MatchOption, Result}
+use Rattle.std.specs.Prelude.{◌≡◌, ◌≤◌, ℕ, ◌⊎◌, List, [], ◌∷◌, Option, None, Some, MatchOption}
+use Rattle.std.specs.Prelude.{Result}
+use Rattle.std.specs.List.{AllZip}
 use Rattle.flow.specs.declared.flows.Flows.{Flows}
 use Rattle.capture_engines.specs.Received.{OneFileIs, StopsFile}
 use Rattle.media_file.specs.declared.fault.FileFault.TheVariants.{TooManyRecords}
@@ -15,9 +17,11 @@ use Rattle.run_outcome.specs.declared.refusal.Refusal.TheVariants as refusal
 use Rattle.sdp_format.specs.Bytes.{lines}
 use Rattle.sdp_format.specs.Grammar.{IsTextFault}
 use Rattle.sdp_format.specs.Sections.{video_sections}
-use Rattle.side_by_side.specs.Sides.{OneSideAt}
+use Rattle.side_by_side.specs.InOrder.{record_count}
+use Rattle.side_by_side.specs.Sides.{OneSideAt, SideGave, strands_of}
 use Rattle.side_by_side.specs.declared.side.Side.{Side}
 use Rattle.run_outcome.specs.LowerFaults.{reading_fault}
+use Rattle.follow_engine.specs.Order.{most_datagrams, strands_by}
 
 -- ---- the words
 
@@ -52,20 +56,38 @@ abbrev pub fault_in : Option ReadingFault → Fault
 fault_in None = Device
 fault_in (Some f) = reading_fault f
 
--- what stops files that are read: one is at its fault; or there are more records than are counted
-abbrev pub StopsFollowing : {A S : Type 0} → List (Side A S) → Refusal → Type 0
-StopsFollowing sides r = ((f : ReadingFault) × (reading_fault f ≡ Refused r) × OneSideAt f sides)
-    ⊎ (r ≡ refusal.Capture TooManyRecords)
+-- what stops files that are read, behind so many datagrams: one is at its fault; or no more are
+-- counted
+abbrev pub StopsFollowing : {A S : Type 0} → ℕ → List (Side A S) → Refusal → Type 0
+StopsFollowing count sides r =
+    ((f : ReadingFault) × (reading_fault f ≡ Refused r) × OneSideAt f sides)
+    ⊎ ((r ≡ refusal.Capture TooManyRecords) × (most_datagrams ≤ count))
+
+-- so by what was read of them: they have as many records as are counted
+abbrev pub StopsRead : {A S : Type 0} → (S → List ℕ) → (S → Type 0) → List (Side A S) → Refusal
+    → Type 0
+StopsRead gave ended sides r =
+    ((f : ReadingFault) × (reading_fault f ≡ Refused r) × OneSideAt f sides)
+    ⊎ ((r ≡ refusal.Capture TooManyRecords)
+    × ((octets : List (List ℕ)) → AllZip (SideGave gave ended) sides octets
+    → most_datagrams ≤ record_count (strands_of sides octets)))
 
 -- so of what was read: one file has this as its first fault
 abbrev pub IsFileRefusal : (List ℕ → Type 0) → Refusal → Type 0
 IsFileRefusal told r = (f : ReadingFault) × (reading_fault f ≡ Refused r)
     × ((octets : List ℕ) → told octets → IsFileFault f octets)
 
+-- files have as many records as are counted, or more
+abbrev pub AreTooMany : {S : Type 0} → List (Result Flows Refusal) → (S → List ℕ → Type 0)
+    → List S → Type 0
+AreTooMany ways told files = (octets : List (List ℕ)) → AllZip told files octets
+    → most_datagrams ≤ record_count (strands_by ways octets)
+
 -- ---- the run
 
 -- The refusals of `follow`, in their order: of the words; of the SDP text that is given; of a file
--- before its records; of the first file's SDP text, where none is given; of a file's records.
+-- before its records; of the first file's SDP text, where none is given; of a file's records, or
+-- of too many of them.
 abbrev pub IsFollowRefusal : {S : Type 0} → ℕ → List ℕ → Option (List ℕ)
     → List (Result Flows Refusal) → (S → List ℕ → Type 0) → List S → Refusal → Type 0
 IsFollowRefusal frames ssrc sdp ways told files r = IsWordRefusal frames ssrc r
@@ -73,4 +95,4 @@ IsFollowRefusal frames ssrc sdp ways told files r = IsWordRefusal frames ssrc r
     ⊎ (OneFileIs (λ w s. StopsFile w (told s) r) ways files
     ⊎ (MatchOption sdp (FirstRefuses told files r) (λ _. ⊥)
     ⊎ (OneFileIs (λ w s. IsFileRefusal (told s) r) ways files
-    ⊎ (r ≡ refusal.Capture TooManyRecords)))))
+    ⊎ ((r ≡ refusal.Capture TooManyRecords) × AreTooMany ways told files)))))

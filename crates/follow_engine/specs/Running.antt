@@ -8,7 +8,7 @@ use Rattle.side_by_side.specs.declared.steering.Steering.{Steering}
 use Rattle.follow_engine.specs.Events.{Anew, Event, Running, anew, behind, events_at}
 use Rattle.follow_engine.specs.Events.{frames_of_events}
 use Rattle.follow_engine.specs.Events.{leaving, turn_left, turn_taken, without}
-use Rattle.follow_engine.specs.Shown.{TakesAll}
+use Rattle.follow_engine.specs.Shown.{GrowsSome, TakesAll, TakesSome}
 use Rattle.follow_engine.specs.Telling.{events_text}
 use Rattle.follow_engine.specs.declared.running.Run.{Run}
 
@@ -38,6 +38,13 @@ pub record Told {K : Type 0} (takes : K → Handed → K → Type 0) (old new : 
     (events : List Event) : Type 0 where
   pub printed : took' ≡ took ++ events_text events
   pub shown : TakesAll takes old (frames_of_events events) new
+
+-- Some first of events were told, and no more: a first part of their lines was printed, and some
+-- first of the frames among them were shown.
+pub record TellsSome {K : Type 0} (takes fails : K → Handed → K → Type 0) (old new : K)
+    (took took' : List ℕ) (events : List Event) : Type 0 where
+  pub printed : GrowsSome took took' (events_text events)
+  pub shown : TakesSome takes fails old (frames_of_events events) new
 
 -- These frames left a stream, and were told.
 pub record LeavesWith {K : Type 0} (takes : K → Handed → K → Type 0) (r r' : Running)

@@ -1,6 +1,6 @@
 -- Files as `follow` reads them, as they were before a run, and as they are behind it; and a stream
 -- that was begun.
-use Rattle.std.specs.Prelude.{◌≡◌, ℕ, ⊤, List, ◌++◌, Option, None, Some}
+use Rattle.std.specs.Prelude.{◌≡◌, ◌<◌, ℕ, ⊤, List, ◌++◌, Option, None, Some, length}
 use Rattle.std.specs.List.{AllZip}
 use Rattle.media_file.specs.Records.{Entry}
 use Rattle.recording_engines.specs.Files.{ended_by, gave_by}
@@ -10,11 +10,12 @@ use Rattle.side_by_side.specs.Strands.{GoesWhole}
 use Rattle.side_by_side.specs.declared.side.Side.{Side}
 use Rattle.st_format.specs.History.{IsRead}
 use Rattle.following.specs.Following.{Handed}
-use Rattle.follow_engine.specs.Events.{behind_all, ended, events_end, events_in, frames_of_events}
-use Rattle.follow_engine.specs.Order.{datagrams_in}
+use Rattle.follow_engine.specs.Events.{Event, behind_all, ended, events_end, events_in}
+use Rattle.follow_engine.specs.Events.{frames_of_events}
+use Rattle.follow_engine.specs.Order.{GoesFirst, datagrams_in, most_datagrams}
 use Rattle.follow_engine.specs.Opened.{OpensRun}
 use Rattle.follow_engine.specs.Running.{IsRun, Told, running_of}
-use Rattle.follow_engine.specs.Shown.{TakesAll}
+use Rattle.follow_engine.specs.Shown.{GrowsSome, TakesAll, TakesSome}
 use Rattle.follow_engine.specs.Telling.{events_text, totals_of, totals_text}
 use Rattle.follow_engine.specs.declared.opening.FollowAsked.{FollowAsked}
 use Rattle.follow_engine.specs.declared.running.Run.{Run}
@@ -50,6 +51,7 @@ text_by (Some given) first = given
 pub record FollowsSides {A S K : Type 0} (takes : K → Handed → K → Type 0)
     (source source' : Sides A S) (r r' : Run A) (old new : K) (took took' : List ℕ) : Type 0 where
   pub over : AllOver source'.sides
+  pub few : length (datagrams_since source.came source'.came) < most_datagrams
   pub running : running_of r' ≡ behind_all r.is_eager (running_of r)
       (datagrams_since source.came source'.came)
   pub told : Told takes old new took took' (events_in r.is_eager (running_of r)
@@ -61,11 +63,29 @@ pub record FollowsEntries {A S K : Type 0} (gave : S → List ℕ) (ended : S �
     (takes : K → Handed → K → Type 0) (r r' : Run A) (old new : K) (took took' : List ℕ)
     (sides : List (Side A S)) : Type 0 where
   pub entries : List Entry
+  pub few : length entries < most_datagrams
   pub goes : (octets : List (List ℕ)) → AllZip (SideGave gave ended) sides octets
       → GoesWhole r.steering (strands_of sides octets) entries
   pub running : running_of r' ≡ behind_all r.is_eager (running_of r) (datagrams_in entries)
   pub told : Told takes old new took took' (events_in r.is_eager (running_of r)
       (datagrams_in entries))
+
+-- Of the datagrams of the records that go first of files this holds, of what happens to a stream of
+-- them.
+pub record FollowsUpTo {A S : Type 0} (gave : S → List ℕ) (ended : S → Type 0) (r : Run A)
+    (sides : List (Side A S)) (Tells : List Event → Type 0) : Type 0 where
+  pub entries : List Entry
+  pub goes : (octets : List (List ℕ)) → AllZip (SideGave gave ended) sides octets
+      → GoesFirst r.steering (strands_of sides octets) entries
+  pub told : Tells (events_in r.is_eager (running_of r) (datagrams_in entries))
+
+-- Some first of the frames left that were in, and of what became of the stream a first part was
+-- told.
+pub record EndsSome {A K : Type 0} (takes fails : K → Handed → K → Type 0) (r : Run A)
+    (old new : K) (took took' : List ℕ) : Type 0 where
+  pub printed : GrowsSome took took' (events_text (events_end (running_of r))
+      ++ totals_text (ended (running_of r)))
+  pub shown : TakesSome takes fails old (frames_of_events (events_end (running_of r))) new
 
 -- All frames left that were in, and what became of the stream was told.
 pub record EndsStream {A K : Type 0} (takes : K → Handed → K → Type 0) (r : Run A) (old new : K)

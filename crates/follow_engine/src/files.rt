@@ -1,17 +1,17 @@
 //! The engine of `follow`.
-ghost use Rattle.std.specs.Prelude.{◌≡◌, ◌≤◌, ◌∷◌, [], IfErr, IfOk, MatchOption, OnOk, length};
-ghost use Rattle.std.specs.Prelude.{take};
+ghost use Rattle.std.specs.Prelude.{◌≡◌, ◌≤◌, ◌∷◌, [], IfErr, IfOk, MatchOption, OnErr};
+ghost use Rattle.std.specs.Prelude.{OnOk, length, take};
 ghost use Rattle.std.specs.List.{AllByRecursion, zip};
 ghost use Rattle.std.specs.Option.{option_copied};
-ghost use Rattle.follow_engine.specs.Followed.{FollowsWhole};
+ghost use Rattle.follow_engine.specs.Followed.{FollowsPart, FollowsWhole, StopsShort};
 ghost use Rattle.follow_engine.specs.Opened.{AllClosedSides, AreOpened, IsFirstText, StopsOne};
 ghost use Rattle.follow_engine.specs.Refused.{IsFirstRefusal, IsFollowRefusal, IsOpeningRefusal};
-ghost use Rattle.follow_engine.specs.Refused.{StopsFollowing};
-ghost use Rattle.follow_engine.specs.Running.{IsRun};
-ghost use Rattle.follow_engine.specs.Sides.{EndsStream, FollowsEntries, HasBegun, HasBegunIn};
-ghost use Rattle.follow_engine.specs.Sides.{SideRead, text_by};
+ghost use Rattle.follow_engine.specs.Refused.{StopsRead};
+ghost use Rattle.follow_engine.specs.Running.{IsRun, TellsSome, Told};
+ghost use Rattle.follow_engine.specs.Sides.{EndsSome, EndsStream, FollowsEntries, FollowsUpTo};
+ghost use Rattle.follow_engine.specs.Sides.{HasBegun, HasBegunIn, SideRead, text_by};
 ghost use Rattle.path_receiver.specs.Opening.{IsWindowSize};
-ghost use Rattle.recording_engines.specs.Files.{IsKnown};
+ghost use Rattle.recording_engines.specs.Files.{IsKnown, IsReadByFlows};
 ghost use Rattle.run_outcome.specs.Fault.{Accounts, IfRefused, counts};
 ghost use Rattle.run_outcome.specs.Refusing.{OfRefusal};
 ghost use Rattle.side_by_side.specs.Sides.{IsBegun, begun_each, failures_each};
@@ -48,8 +48,9 @@ use std::mem;
 /// # Errors
 ///
 /// A refusal, in this order: of the words; of the SDP text that is given; of a file, before its
-/// records; of the first file's text; of a file's records, behind what was told and shown of those
-/// before the fault. And else that a device failed or memory was wanted.
+/// records; of the first file's text; of a file's records, or that they are 2^64 or more, behind
+/// what was told and shown of those before the fault. And else that a device failed or memory was
+/// wanted.
 pub fn follow_files<A, S, P, O>(
     alloc: A,
     asked: FollowAsked<'_>,
@@ -73,6 +74,15 @@ where
     ensures refusal { IfErr result (λ f. OfRefusal f (IsFollowRefusal asked.entry.frames
         asked.entry.ssrc.now (option_copied sdp.entry) ways.now
         (SideRead S.gave S.ended) (zip sides.old.items sides.new.items))) }
+    // Behind a refusal nothing was told, or all of what came before it; and where a device failed
+    // or memory was wanted a first part of what is told.
+    ensures before { IfErr result (λ f. IfRefused f (StopsShort asked.entry
+        (option_copied sdp.entry) ways.now (SideRead S.gave S.ended)
+        (zip sides.old.items sides.new.items) P.takes
+        pictures.old pictures.new (O.took output.old) (O.took output.new))) }
+    ensures part { OnErr result (FollowsPart asked.entry (option_copied sdp.entry) ways.now
+        (SideRead S.gave S.ended) (zip sides.old.items sides.new.items) P.takes P.fails
+        pictures.old pictures.new (O.took output.old) (O.took output.new)) }
     ensures failures { Accounts result (counts (failures_each S.failures sides.old.items)
         (failures_each S.failures sides.new.items)
         ∷ counts (P.failures pictures.old) (P.failures pictures.new)
@@ -215,10 +225,18 @@ fn follow_opened<A: Allocator + Copy, S: ByteSource + Drop, P: PictureSink, O: B
     ensures len { length sides.new.items ≡ length sides.old.items }
     ensures begun { begun_each sides.new.items ≡ begun_each sides.old.items }
     ensures known { AllByRecursion (λ s. IsKnown S.gave S.ended s.file) sides.new.items }
+    ensures by_flows { AllByRecursion (λ s. IsReadByFlows s.file) sides.new.items }
     ensures run { OnOk result (IsRun run.new) }
     ensures followed { OnOk result (FollowsEntries S.gave S.ended P.takes run.old run.new
         pictures.old pictures.new (O.took output.old) (O.took output.new) sides.new.items) }
-    ensures stopped { IfErr result (λ f. OfRefusal f (StopsFollowing sides.new.items)) }
+    ensures stopped { IfErr result (λ f. OfRefusal f
+        (StopsRead S.gave S.ended sides.new.items)) }
+    ensures before { IfErr result (λ f. IfRefused f (FollowsUpTo S.gave S.ended run.old
+        sides.new.items (Told P.takes pictures.old pictures.new
+        (O.took output.old) (O.took output.new)))) }
+    ensures part { OnErr result (FollowsUpTo S.gave S.ended run.old sides.new.items
+        (TellsSome P.takes P.fails pictures.old pictures.new
+        (O.took output.old) (O.took output.new))) }
     ensures failures { Accounts result (counts (failures_each S.failures sides.old.items)
         (failures_each S.failures sides.new.items)
         ∷ counts (P.failures pictures.old) (P.failures pictures.new)
@@ -251,6 +269,8 @@ fn end_stream<A: Allocator + Copy, P: PictureSink, O: ByteSink>(
     requires { IsRun run.old }
     ensures ended { IfOk result (λ t. EndsStream P.takes run.old pictures.old pictures.new
         (O.took output.old) (O.took output.new) t) }
+    ensures part { OnErr result (EndsSome P.takes P.fails run.old pictures.old pictures.new
+        (O.took output.old) (O.took output.new)) }
     ensures unrefused { IfErr result (λ f. IfRefused f ⊥) }
     ensures failures { Accounts result (counts (P.failures pictures.old)
         (P.failures pictures.new)

@@ -1,17 +1,20 @@
 //! Lines of output.
-ghost use Rattle.std.specs.Prelude.{◌≡◌, ◌++◌, ◌∷◌, [], IfErr, IfSome, OnOk};
-ghost use Rattle.follow_engine.specs.Line.{ended_line};
+ghost use Rattle.std.specs.Prelude.{◌≡◌, ◌≤◌, ◌<◌, ◌+◌, ◌++◌, ◌∷◌, [], IfErr, OnErr, OnOk, length};
+ghost use Rattle.std.specs.Fmt.{decimal};
+ghost use Rattle.arrayvec.specs.ArrayString.{array_string_len};
+ghost use Rattle.follow_engine.specs.Line.{ended_line, line_text};
+ghost use Rattle.follow_engine.specs.declared.line.FollowLine.TheVariants.{Left, Totals};
 ghost use Rattle.run_outcome.specs.Fault.{Accounts, IfRefused, counts};
+ghost use Rattle.st_format.specs.Device.{GrowsPart};
 
 use crate::telling::FollowTotals;
 use arrayvec::ArrayString;
 use frame_assembly::Counts;
+use itoa::Buffer;
 use run_outcome::Fault;
 use st_format::{ByteSink, write_whole};
-use std::fmt::{self, Display, Write};
 
-/// Room for any line, in octets. That each fits is not proved: one that didn't would be told as
-/// want of memory.
+/// Room for any line, in octets: at most five numbers, of at most 20 digits each, and words.
 const LINE: usize = 160;
 
 /// What a run says. A timestamp is in 90 kHz ticks.
@@ -30,53 +33,94 @@ pub(crate) enum FollowLine {
     WantsMore,
 }
 
-impl Display for FollowLine {
-    ghost use Rattle.std.specs.Prelude.{Some};
-    ghost use Rattle.follow_engine.specs.Line.{line_text};
+/// The text of a line with its end, which always has room.
+fn text_of(line: FollowLine) -> ArrayString<LINE>
+    ensures { result.bytes ≡ ended_line line }
+{
+    let mut text = ArrayString::<LINE>::new();
+    add_line(&mut text, line);
+    add(&mut text, "\n");
+    text
+}
 
-    ghost output = { λ line. Some (line_text line) };
-
-    fn fmt<W: fmt::Write>(&self, f: &mut fmt::Formatter<W>) -> fmt::Result {
-        match self {
-            FollowLine::Left(timestamp, counts, late) => write!(
-                f,
-                "frame {timestamp} present {} missing {} contested {} late {late}",
-                counts.present, counts.missing, counts.contested
-            ),
-            FollowLine::Anew(timestamp) => write!(f, "anew {timestamp}"),
-            FollowLine::Totals(totals) => write!(
-                f,
-                "frames {} kept {} late {} far {} refused {}",
-                totals.frames, totals.kept, totals.late, totals.far, totals.refused
-            ),
-            FollowLine::Wants(frames) => write!(f, "late wants window {frames}"),
-            FollowLine::WantsMore => f.write_str("late wants more than window 16"),
-        }
+/// Adds a line behind no text. There is room for its end then.
+fn add_line(text: &mut ArrayString<LINE>, line: FollowLine)
+    requires { array_string_len text.old ≡ 0 }
+    ensures text { text.new.bytes ≡ text.old.bytes ++ line_text line }
+    ensures room { array_string_len text.new < LINE }
+{
+    match line {
+        FollowLine::Left(timestamp, counts, late) => add_left(text, timestamp, counts, late),
+        FollowLine::Anew(timestamp) => add_number(text, "anew ", u64::from(timestamp)),
+        FollowLine::Totals(totals) => add_totals(text, totals),
+        FollowLine::Wants(frames) => add_number(text, "late wants window ", frames as u64),
+        FollowLine::WantsMore => add(text, "late wants more than window 16"),
     }
 }
 
-/// The text of a value and an end of line behind it; none where that has no room.
-fn line_of<D: Display + Drop>(value: D) -> Option<ArrayString<LINE>>
-    ensures { IfSome result (λ line. IfSome (D.output value)
-        (λ octets. line.bytes ≡ octets ++ 10 ∷ [])) }
+/// Adds the line of a frame that left.
+fn add_left(text: &mut ArrayString<LINE>, timestamp: u32, counts: Counts, late: u64)
+    requires { array_string_len text.old ≡ 0 }
+    ensures text { text.new.bytes ≡ text.old.bytes ++ line_text (Left timestamp counts late) }
+    ensures room { array_string_len text.new < LINE }
 {
-    let mut line = ArrayString::<LINE>::new();
-    match line.writeln(value) {
-        Ok(()) => Some(line),
-        Err(_) => None,
+    add_number(text, "frame ", u64::from(timestamp));
+    add_number(text, " present ", counts.present);
+    add_number(text, " missing ", counts.missing);
+    add_number(text, " contested ", counts.contested);
+    add_number(text, " late ", late);
+}
+
+/// Adds the line of the totals.
+fn add_totals(text: &mut ArrayString<LINE>, totals: FollowTotals)
+    requires { array_string_len text.old ≡ 0 }
+    ensures text { text.new.bytes ≡ text.old.bytes ++ line_text (Totals totals) }
+    ensures room { array_string_len text.new < LINE }
+{
+    add_number(text, "frames ", totals.frames);
+    add_number(text, " kept ", totals.kept);
+    add_number(text, " late ", totals.late);
+    add_number(text, " far ", totals.far);
+    add_number(text, " refused ", totals.refused);
+}
+
+/// Adds a word and a number in decimal digits to a text that has the room.
+fn add_number(text: &mut ArrayString<LINE>, word: &str, number: u64)
+    requires { array_string_len text.old + (length word.now + 20) ≤ LINE }
+    ensures text { text.new.bytes ≡ text.old.bytes ++ (word.now ++ decimal number) }
+    ensures room { array_string_len text.new ≤ array_string_len text.old + (length word.now + 20) }
+{
+    let mut digits = Buffer::new();
+    add(text, word);
+    add(text, digits.format(number));
+}
+
+/// Adds a word to a text that has the room.
+fn add(text: &mut ArrayString<LINE>, word: &str)
+    requires { array_string_len text.old + length word.now ≤ LINE }
+    ensures text { text.new.bytes ≡ text.old.bytes ++ word.now }
+    ensures len { array_string_len text.new ≡ array_string_len text.old + length word.now }
+{
+    match text.try_push_str(word) {
+        Ok(()) => (),
+        Err(_) => unreachable!(),
     }
 }
 
 /// Prints a line and its end by one call, so that lines of several runs into one pipe stay whole.
+/// Nothing else than the device fails: no memory is wanted.
 pub(crate) fn print<O: ByteSink>(line: FollowLine, output: &mut O) -> Result<(), Fault>
     ensures printed { OnOk result (O.took output.new ≡ O.took output.old ++ ended_line line) }
+    ensures part { OnErr result
+        (GrowsPart (O.took output.old) (O.took output.new) (ended_line line)) }
+    ensures device { IfErr result (λ f. f ≡ Fault.Device) }
     ensures unrefused { IfErr result (λ f. IfRefused f ⊥) }
     ensures failures { Accounts result (counts (O.failures output.old) (O.failures output.new)
         ∷ []) }
 {
-    let Some(text) = line_of(line) else {
-        return Err(Fault::Memory);
-    };
-    write_whole(output, text.as_bytes())?;
-    Ok(())
+    let text = text_of(line);
+    match write_whole(output, text.as_bytes()) {
+        Ok(()) => Ok(()),
+        Err(_) => Err(Fault::Device),
+    }
 }

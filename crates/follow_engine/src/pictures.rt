@@ -39,6 +39,8 @@ pub struct NoPictures;
 impl PictureSink for NoPictures {
     ghost takes = { λ k _ l. l ≡ k };
 
+    ghost fails = { λ _ _ _. ⊥ };
+
     ghost failures = { λ _. 0 };
 
     fn show<A: Allocator>(&mut self, _: u32, _: &Frame<A>) -> Result<(), Fault> {

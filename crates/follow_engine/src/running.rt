@@ -1,11 +1,13 @@
 //! A stream that is followed.
-ghost use Rattle.std.specs.Prelude.{◌≡◌, ◌≤◌, ◌<◌, ◌∷◌, [], Some, IfErr, IfOk, IsFalse, IsTrue};
-ghost use Rattle.std.specs.Prelude.{OnOk, length};
-ghost use Rattle.follow_engine.specs.Events.{IsAnewAt, anew_with, is_anew, late_with, noted_by};
-ghost use Rattle.follow_engine.specs.Events.{running_from, time_of, timed};
+ghost use Rattle.std.specs.Prelude.{◌≡◌, ◌≤◌, ◌<◌, ◌∷◌, ◌++◌, [], Some, IfErr, IfOk, IsFalse};
+ghost use Rattle.std.specs.Prelude.{IsTrue, OnErr, OnOk, length};
+ghost use Rattle.follow_engine.specs.Events.{Anew, IsAnewAt, anew_with, events_at, is_anew};
+ghost use Rattle.follow_engine.specs.Events.{late_with, leaving, noted_by, running_from, time_of};
+ghost use Rattle.follow_engine.specs.Events.{timed, turn_left};
 ghost use Rattle.follow_engine.specs.Running.{BeginsAnew, Finishes, IsRun, LeavesWith, TakesTurn};
-ghost use Rattle.follow_engine.specs.Running.{TellsTurn, running_of};
+ghost use Rattle.follow_engine.specs.Running.{TellsSome, TellsTurn, running_of};
 ghost use Rattle.following.specs.Follower.{opened};
+ghost use Rattle.following.specs.Following.{frames_in};
 ghost use Rattle.following.specs.Restarts.{is_restart};
 ghost use Rattle.following.specs.Turned.{handed_as};
 ghost use Rattle.run_outcome.specs.Fault.{Accounts, IfRefused, counts};
@@ -136,6 +138,9 @@ impl<A: Allocator + Copy> Run<A> {
         ensures left { OnOk result (LeavesWith P.takes (running_of self.old) (running_of self.new)
             (handed_as handed self.old.frame) pictures.old pictures.new
             (O.took output.old) (O.took output.new)) }
+        ensures part { OnErr result (TellsSome P.takes P.fails pictures.old pictures.new
+            (O.took output.old) (O.took output.new)
+            (leaving self.old.late (handed_as handed self.old.frame))) }
         ensures unrefused { IfErr result (λ f. IfRefused f ⊥) }
         ensures failures { Accounts result (counts (P.failures pictures.old)
             (P.failures pictures.new)
@@ -162,6 +167,9 @@ impl<A: Allocator + Copy> Run<A> {
         ensures left { OnOk result (LeavesWith P.takes (running_of self.old) (running_of self.new)
             (handed_as (Some timestamp) self.old.frame) pictures.old pictures.new
             (O.took output.old) (O.took output.new)) }
+        ensures part { OnErr result (TellsSome P.takes P.fails pictures.old pictures.new
+            (O.took output.old) (O.took output.new)
+            (leaving self.old.late (handed_as (Some timestamp) self.old.frame))) }
         ensures unrefused { IfErr result (λ f. IfRefused f ⊥) }
         ensures failures { Accounts result (counts (P.failures pictures.old)
             (P.failures pictures.new)
@@ -191,6 +199,9 @@ impl<A: Allocator + Copy> Run<A> {
         ensures eager { self.new.is_eager ≡ self.old.is_eager }
         ensures finished { OnOk result (Finishes P.takes self.old self.new pictures.old pictures.new
             (O.took output.old) (O.took output.new)) }
+        ensures part { OnErr result (TellsSome P.takes P.fails pictures.old pictures.new
+            (O.took output.old) (O.took output.new)
+            (leaving self.old.late (frames_in self.old.follower))) }
         ensures unrefused { IfErr result (λ f. IfRefused f ⊥) }
         ensures failures { Accounts result (counts (P.failures pictures.old)
             (P.failures pictures.new)
@@ -214,6 +225,9 @@ impl<A: Allocator + Copy> Run<A> {
         ensures eager { self.new.is_eager ≡ self.old.is_eager }
         ensures begun { OnOk result (BeginsAnew P.takes timestamp self.old self.new
             pictures.old pictures.new (O.took output.old) (O.took output.new)) }
+        ensures part { OnErr result (TellsSome P.takes P.fails pictures.old pictures.new
+            (O.took output.old) (O.took output.new)
+            (leaving self.old.late (frames_in self.old.follower) ++ Anew timestamp ∷ [])) }
         ensures unrefused { IfErr result (λ f. IfRefused f ⊥) }
         ensures failures { Accounts result (counts (P.failures pictures.old)
             (P.failures pictures.new)
@@ -239,6 +253,9 @@ impl<A: Allocator + Copy> Run<A> {
         ensures turned { OnOk result (TellsTurn P.takes self.old.is_eager (running_of self.old)
             (running_of self.new) octets.now pictures.old pictures.new
             (O.took output.old) (O.took output.new)) }
+        ensures part { OnErr result (TellsSome P.takes P.fails pictures.old pictures.new
+            (O.took output.old) (O.took output.new)
+            (turn_left self.old.is_eager (running_of self.old) octets.now)) }
         ensures anew { IfOk result (λ at. IsAnewAt (is_anew (running_of self.old) octets.now)
             (time_of octets.now) at) }
         ensures unrefused { IfErr result (λ f. IfRefused f ⊥) }
@@ -266,6 +283,9 @@ impl<A: Allocator + Copy> Run<A> {
         ensures took { OnOk result (TakesTurn P.takes self.old.is_eager (running_of self.old)
             (running_of self.new) octets.now pictures.old pictures.new
             (O.took output.old) (O.took output.new)) }
+        ensures part { OnErr result (TellsSome P.takes P.fails pictures.old pictures.new
+            (O.took output.old) (O.took output.new)
+            (events_at self.old.is_eager (running_of self.old) octets.now)) }
         ensures unrefused { IfErr result (λ f. IfRefused f ⊥) }
         ensures failures { Accounts result (counts (P.failures pictures.old)
             (P.failures pictures.new)

@@ -1,7 +1,7 @@
 //! Showing a frame that leaves, and telling it.
-ghost use Rattle.std.specs.Prelude.{◌∷◌, [], IfErr, OnOk};
+ghost use Rattle.std.specs.Prelude.{◌≡◌, ◌∷◌, [], Err, IfErr, OnErr, OnOk};
 ghost use Rattle.follow_engine.specs.Events.{Left};
-ghost use Rattle.follow_engine.specs.Running.{Told};
+ghost use Rattle.follow_engine.specs.Running.{TellsSome, Told};
 ghost use Rattle.run_outcome.specs.Fault.{Accounts, IfRefused, counts};
 
 use crate::line::{FollowLine, print};
@@ -12,7 +12,7 @@ use st_format::ByteSink;
 use std::alloc::Allocator;
 
 /// Shows a frame that leaves, and then prints its line, with how many datagrams came late since the
-/// one before.
+/// one before. Memory is wanted only where the pictures want it.
 pub(crate) fn show_frame<A: Allocator, P: PictureSink, O: ByteSink>(
     timestamp: u32,
     frame: &Frame<A>,
@@ -23,6 +23,11 @@ pub(crate) fn show_frame<A: Allocator, P: PictureSink, O: ByteSink>(
     ensures told { OnOk result (Told P.takes pictures.old pictures.new
         (O.took output.old) (O.took output.new)
         (Left (record { timestamp = timestamp; frame = frame.now }) late ∷ [])) }
+    ensures part { OnErr result (TellsSome P.takes P.fails pictures.old pictures.new
+        (O.took output.old) (O.took output.new)
+        (Left (record { timestamp = timestamp; frame = frame.now }) late ∷ [])) }
+    ensures memory { result ≡ Err Fault.Memory → P.fails pictures.old
+        (record { timestamp = timestamp; frame = frame.now }) pictures.new }
     ensures unrefused { IfErr result (λ f. IfRefused f ⊥) }
     ensures failures { Accounts result (counts (P.failures pictures.old)
         (P.failures pictures.new)

@@ -1,9 +1,11 @@
 //! Following the datagrams of files that are read side by side.
-ghost use Rattle.std.specs.Prelude.{◌≡◌, ◌≤◌, ◌∷◌, [], IfErr, OnOk, length};
+ghost use Rattle.std.specs.Prelude.{◌≡◌, ◌≤◌, ◌∷◌, [], IfErr, OnErr, OnOk, length};
+ghost use Rattle.follow_engine.specs.Events.{events_in};
 ghost use Rattle.follow_engine.specs.Refused.{StopsFollowing, fault_in};
-ghost use Rattle.follow_engine.specs.Running.{IsRun};
+ghost use Rattle.follow_engine.specs.Running.{IsRun, TellsSome, Told, running_of};
 ghost use Rattle.follow_engine.specs.Sides.{FollowsSides};
-ghost use Rattle.run_outcome.specs.Fault.{Accounts, counts};
+ghost use Rattle.path_receiver.specs.Took.{datagrams_since};
+ghost use Rattle.run_outcome.specs.Fault.{Accounts, IfRefused, counts};
 ghost use Rattle.run_outcome.specs.Refusing.{OfRefusal};
 ghost use Rattle.side_by_side.specs.Sides.{AllUnfailed, IsStopped, begun_each};
 ghost use Rattle.side_by_side.specs.Sides.{failures_each};
@@ -40,7 +42,15 @@ pub(crate) fn follow_sides<A: Allocator + Copy, S: ByteSource, P: PictureSink, O
     ensures run { OnOk result (IsRun run.new) }
     ensures followed { OnOk result (FollowsSides P.takes source.old source.new run.old run.new
         pictures.old pictures.new (O.took output.old) (O.took output.new)) }
-    ensures stopped { IfErr result (λ f. OfRefusal f (StopsFollowing source.new.sides)) }
+    ensures stopped { IfErr result (λ f. OfRefusal f (StopsFollowing
+        (length (datagrams_since source.old.came source.new.came)) source.new.sides)) }
+    // What came before a file's fault is told whole; and where a device failed a first part of it.
+    ensures before { IfErr result (λ f. IfRefused f (Told P.takes pictures.old pictures.new
+        (O.took output.old) (O.took output.new) (events_in run.old.is_eager (running_of run.old)
+        (datagrams_since source.old.came source.new.came)))) }
+    ensures part { OnErr result (TellsSome P.takes P.fails pictures.old pictures.new
+        (O.took output.old) (O.took output.new) (events_in run.old.is_eager (running_of run.old)
+        (datagrams_since source.old.came source.new.came))) }
     ensures failures { Accounts result (counts (failures_each S.failures source.old.sides)
         (failures_each S.failures source.new.sides)
         ∷ counts (P.failures pictures.old) (P.failures pictures.new)

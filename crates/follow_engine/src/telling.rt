@@ -1,9 +1,11 @@
 //! What is told at the end of a stream.
-ghost use Rattle.std.specs.Prelude.{◌≡◌, ◌∷◌, ◌++◌, [], IfErr, IfOk, OnOk};
+ghost use Rattle.std.specs.Prelude.{◌≡◌, ◌∷◌, ◌++◌, [], IfErr, IfOk, OnErr, OnOk};
 ghost use Rattle.follow_engine.specs.Line.{ended_in};
 ghost use Rattle.follow_engine.specs.Running.{running_of};
+ghost use Rattle.follow_engine.specs.Shown.{GrowsSome};
 ghost use Rattle.follow_engine.specs.Telling.{totals_of, totals_text, wanted};
 ghost use Rattle.run_outcome.specs.Fault.{Accounts, IfRefused, counts};
+ghost use Rattle.st_format.specs.Device.{GrowsPart};
 
 use crate::line::{FollowLine, print};
 use crate::running::Run;
@@ -35,6 +37,9 @@ pub(crate) fn tell_totals<A: Allocator, O: ByteSink>(
     ensures totals { IfOk result (λ t. t ≡ totals_of (running_of run.now)) }
     ensures printed { OnOk result (O.took output.new
         ≡ O.took output.old ++ totals_text (running_of run.now)) }
+    ensures part { OnErr result (GrowsSome (O.took output.old) (O.took output.new)
+        (totals_text (running_of run.now))) }
+    ensures device { IfErr result (λ f. f ≡ Fault.Device) }
     ensures unrefused { IfErr result (λ f. IfRefused f ⊥) }
     ensures failures { Accounts result (counts (O.failures output.old) (O.failures output.new)
         ∷ []) }
@@ -71,6 +76,9 @@ fn wanted(size: usize, late: u64, need: usize) -> Option<FollowLine>
 /// Prints a line, if there is one.
 fn tell<O: ByteSink>(line: Option<FollowLine>, output: &mut O) -> Result<(), Fault>
     ensures printed { OnOk result (O.took output.new ≡ O.took output.old ++ ended_in line) }
+    ensures part { OnErr result (GrowsPart (O.took output.old) (O.took output.new)
+        (ended_in line)) }
+    ensures device { IfErr result (λ f. f ≡ Fault.Device) }
     ensures unrefused { IfErr result (λ f. IfRefused f ⊥) }
     ensures failures { Accounts result (counts (O.failures output.old) (O.failures output.new)
         ∷ []) }

@@ -3,7 +3,7 @@ use Rattle.std.proofs.Common.{◌≡◌, ◌∙◌, ℕ, List, [], ◌∷◌, �
 use Rattle.std.proofs.Common.{ap, append-nil, append_assoc, sym}
 use Rattle.follow_engine.specs.Shown.{TakesAll}
 use Rattle.following.specs.Following.{Handed}
-use Rattle.frame_sinks.specs.Files.{TakesFile, file_for, files_for}
+use Rattle.frame_sinks.specs.Files.{FilesFrame, file_for, files_for}
 use Rattle.frame_sinks.specs.Pictures.{held_by, picture_of, pictures_of}
 use Rattle.frame_sinks.specs.declared.files_sink.FilesSink.{FilesSink}
 use Rattle.frame_sinks.specs.declared.filling.Filling.{Filling}
@@ -16,7 +16,7 @@ abbrev rest_of : List Handed → Filling → Option (List ℕ) → Option Values
 rest_of hs filling fill held = files_for hs (pictures_of filling fill held hs)
 
 pub all_filed : {F A : Type 0} (files : F → List (List ℕ × List ℕ)) (k l : FilesSink F A)
-    (hs : List Handed) → TakesAll (TakesFile files) k hs l
+    (hs : List Handed) → TakesAll (FilesFrame files) k hs l
     → files l.files ≡ files k.files
     ++ files_for hs (pictures_of k.settling.filling k.settling.fill k.settling.held hs)
 all_filed files k l [] is =
@@ -44,7 +44,7 @@ pub takes_file : {F A : Type 0} (files : F → List (List ℕ × List ℕ)) (k l
     → p ≡ picture_of k.settling.fill k.settling.held h.frame
     → files l.files ≡ files k.files ++ file_for h.timestamp p ∷ []
     → l.settling.filling ≡ m.filling → l.settling.fill ≡ m.fill
-    → l.settling.held ≡ held_by m.filling p → TakesFile files k h l
+    → l.settling.held ≡ held_by m.filling p → FilesFrame files k h l
 takes_file files k l m p h filling fill held is filed filled by kept = record {
   filed =
       filed ∙ ap (λ (x : Values). files k.files ++ file_for h.timestamp x ∷ []) is;

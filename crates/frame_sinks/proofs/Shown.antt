@@ -1,9 +1,11 @@
 -- Frames that sinks take one after the other.
 use Rattle.std.proofs.Common.{◌≡◌, ◌∙◌, ◌+◌, ◌<◌, ℕ, inl, inr, List, [], ◌∷◌, ◌++◌, Result, Ok, Err}
 use Rattle.std.proofs.Common.{ap, append-nil, append_assoc, arith, subst, sym}
-use Rattle.follow_engine.specs.Shown.{TakesAll}
+use Rattle.std.proofs.lemmas.Grind.{flat_map-append}
+use Rattle.follow_engine.proofs.Grows.{grows_first, grows_then}
+use Rattle.follow_engine.specs.Shown.{GrowsSome, TakesAll}
 use Rattle.following.specs.Following.{Handed}
-use Rattle.frame_sinks.specs.Sinks.{TakesBoth, TakesLines, frames_report, lines_of}
+use Rattle.frame_sinks.specs.Sinks.{FailsLines, TakesBoth, TakesLines, frames_report, lines_of}
 use Rattle.frame_sinks.specs.declared.both.BothSinks.{BothSinks}
 use Rattle.frame_sinks.specs.declared.report_sink.ReportSink.{ReportSink}
 use Rattle.run_outcome.specs.Fault.{Accounts, Blames, counts}
@@ -20,6 +22,17 @@ all_lines took k l (h ∷ hs) is =
     all_lines took is.0 l hs is.2
     ∙ ap (λ (t : List ℕ). t ++ frames_report hs) is.1
     ∙ append_assoc (took k.sink) (lines_of h) (frames_report hs)
+
+-- of one at which the sink failed a first part came
+pub cut_lines : {K : Type 0} (took : K → List ℕ) (k m l : ReportSink K) (hs : List Handed)
+    (h : Handed) → TakesAll (TakesLines took) k hs m → FailsLines took m h l
+    → GrowsSome (took k.sink) (took l.sink) (frames_report (hs ++ h ∷ []))
+cut_lines took k m l hs h is cut =
+    subst (λ (t : List ℕ). GrowsSome (took k.sink) (took l.sink) t)
+    (sym (flat_map-append lines_of hs (h ∷ [])))
+    (grows_then (took k.sink) (took m.sink) (took l.sink) (frames_report hs)
+    (frames_report (h ∷ [])) (all_lines took k m hs is)
+    (grows_first (took m.sink) (took l.sink) (lines_of h) [] cut))
 
 -- each of two sinks took them
 pub all_both : {P Q : Type 0} (p : P → Handed → P → Type 0) (q : Q → Handed → Q → Type 0)

@@ -3,13 +3,15 @@ use Rattle.std.proofs.Common.{◌≡◌, ◌∙◌, ℕ, true, List, [], ◌∷�
 use Rattle.std.proofs.Common.{ap, append-nil, append_assoc, refl, subst, sym}
 use Rattle.std.proofs.lemmas.Bool.{cond-true}
 use Rattle.std.specs.List.{AllByRecursion, flat_map}
-use Rattle.follow_engine.specs.Shown.{TakesAll}
+use Rattle.follow_engine.proofs.Grows.{grows_first, grows_then}
+use Rattle.follow_engine.specs.Shown.{GrowsSome, TakesAll}
 use Rattle.following.specs.Following.{Handed}
 use Rattle.frame_sinks.specs.Pictures.{form_head, form_stream, head_as, head_for, held_by}
 use Rattle.frame_sinks.specs.Pictures.{picture_of, pictures_of}
-use Rattle.frame_sinks.specs.Sinks.{TakesFrame}
+use Rattle.frame_sinks.specs.Sinks.{FailsFrame, TakesFrame, text_for}
 use Rattle.frame_sinks.specs.declared.filling.Filling.{Filling}
 use Rattle.frame_sinks.specs.declared.form_sink.FormSink.{FormSink}
+use Rattle.frame_sinks.specs.declared.settling.Settling.{Settling}
 use Rattle.frame_sinks.proofs.Written.{picture_format}
 use Rattle.picture_forms.specs.Layouts.{IsRgb, IsYcc, frame_text, pixmap_text, y4m_head, y4m_text}
 use Rattle.settled_forms.specs.Settled.{form_by, form_text}
@@ -24,35 +26,63 @@ use Rattle.st_format.specs.Picture.{Values}
 abbrev rest_of : List Handed → Option Format → Filling → Option (List ℕ) → Option Values → List ℕ
 rest_of hs begun filling fill held = form_stream begun (pictures_of filling fill held hs)
 
+-- so of a sink
+abbrev rest_by : {K A : Type 0} → FormSink K A → List Handed → List ℕ
+rest_by k hs = rest_of hs k.format k.settling.filling k.settling.fill k.settling.held
+
 -- of a sink that took a frame
 behind_one : {K A : Type 0} (took : K → List ℕ) (k m : FormSink K A) (h : Handed)
-    (hs : List Handed) → TakesFrame took k h m
-    → rest_of hs m.format m.filling m.fill m.held
-    ≡ rest_of hs (Some h.frame.format) k.filling k.fill
-    (held_by k.filling (picture_of k.fill k.held h.frame))
+    (hs : List Handed) → TakesFrame took k h m → rest_by k (h ∷ hs) ≡ text_for k h ++ rest_by m hs
 behind_one took k m h hs is =
-    ap (λ (x : Option Format). rest_of hs x m.filling m.fill m.held) is.format
-    ∙ ap (λ (x : Filling). rest_of hs (Some h.frame.format) x m.fill m.held) is.filling
-    ∙ ap (λ (x : Option (List ℕ)). rest_of hs (Some h.frame.format) k.filling x m.held) is.fill
-    ∙ ap (λ (x : Option Values). rest_of hs (Some h.frame.format) k.filling k.fill x) is.held
+    let s : Settling _ = k.settling in
+    let n : Settling _ = m.settling in
+    let p : Values = picture_of s.fill s.held h.frame in
+    let held : Option Values = held_by s.filling p in
+    ap (λ (f : Format). (head_for k.format f ++ form_text p)
+    ++ rest_of hs (Some f) s.filling s.fill held) (picture_format s.fill s.held h.frame)
+    ∙ ap (λ (t : List ℕ). text_for k h ++ t)
+    (sym (ap (λ (x : Option Format). rest_of hs x n.filling n.fill n.held) is.format
+    ∙ ap (λ (x : Filling). rest_of hs (Some h.frame.format) x n.fill n.held) is.filling
+    ∙ ap (λ (x : Option (List ℕ)). rest_of hs (Some h.frame.format) s.filling x n.held) is.fill
+    ∙ ap (λ (x : Option Values). rest_of hs (Some h.frame.format) s.filling s.fill x) is.held))
 
 pub all_written : {K A : Type 0} (took : K → List ℕ) (k l : FormSink K A) (hs : List Handed)
     → TakesAll (TakesFrame took) k hs l
     → took l.sink ≡ took k.sink
-    ++ form_stream k.format (pictures_of k.filling k.fill k.held hs)
+    ++ form_stream k.format (pictures_of k.settling.filling k.settling.fill k.settling.held hs)
 all_written took k l [] is =
     ap (λ (m : FormSink _ _). took m.sink) is ∙ sym (append-nil (took k.sink))
 all_written took k l (h ∷ hs) is =
     let m : FormSink _ _ = is.0 in
-    let p : Values = picture_of k.fill k.held h.frame in
-    let held : Option Values = held_by k.filling p in
-    let text : List ℕ = head_for k.format h.frame.format ++ form_text p in
     all_written took m l hs is.2
-    ∙ ap (λ (t : List ℕ). t ++ rest_of hs m.format m.filling m.fill m.held) is.1.written
-    ∙ append_assoc (took k.sink) text (rest_of hs m.format m.filling m.fill m.held)
-    ∙ ap (λ (t : List ℕ). took k.sink ++ (text ++ t)) (behind_one took k m h hs is.1)
-    ∙ ap (λ (f : Format). took k.sink ++ ((head_for k.format f ++ form_text p)
-    ++ rest_of hs (Some f) k.filling k.fill held)) (sym (picture_format k.fill k.held h.frame))
+    ∙ ap (λ (t : List ℕ). t ++ rest_by m hs) is.1.written
+    ∙ append_assoc (took k.sink) (text_for k h) (rest_by m hs)
+    ∙ ap (λ (t : List ℕ). took k.sink ++ t) (sym (behind_one took k m h hs is.1))
+
+-- of one at which the sink failed a first part was written
+cut_one : {K A : Type 0} (took : K → List ℕ) (k l : FormSink K A) (h : Handed)
+    → FailsFrame took k h l → GrowsSome (took k.sink) (took l.sink) (rest_by k (h ∷ []))
+cut_one took k l h is =
+    let s : Settling _ = k.settling in
+    let p : Values = picture_of s.fill s.held h.frame in
+    subst (λ (f : Format). GrowsSome (took k.sink) (took l.sink)
+    ((head_for k.format f ++ form_text p) ++ []))
+    (sym (picture_format s.fill s.held h.frame))
+    (grows_first (took k.sink) (took l.sink) (text_for k h) [] is)
+
+pub cut_written : {K A : Type 0} (took : K → List ℕ) (k m l : FormSink K A) (hs : List Handed)
+    (h : Handed) → TakesAll (TakesFrame took) k hs m → FailsFrame took m h l
+    → GrowsSome (took k.sink) (took l.sink) (form_stream k.format
+    (pictures_of k.settling.filling k.settling.fill k.settling.held (hs ++ h ∷ [])))
+cut_written took k m l [] h is cut =
+    cut_one took k l h (subst (λ (x : FormSink _ _). FailsFrame took x h l) is cut)
+cut_written took k m l (g ∷ hs) h is cut =
+    let n : FormSink _ _ = is.0 in
+    let more : List Handed = hs ++ h ∷ [] in
+    subst (λ (t : List ℕ). GrowsSome (took k.sink) (took l.sink) t)
+    (sym (behind_one took k n g more is.1))
+    (grows_then (took k.sink) (took n.sink) (took l.sink) (text_for k g) (rest_by n more)
+    is.1.written (cut_written took n m l hs h is.2 cut))
 
 -- ---- pictures of one format
 

@@ -1,14 +1,16 @@
 -- What stands before a picture, and what a frame is settled over, by what was tested of formats.
 use Rattle.std.proofs.Common.{◌≡◌, ◌∙◌, ℕ, Bool, true, false, List, [], ◌++◌, Option, None, Some}
-use Rattle.std.proofs.Common.{ap, append-nil, arith, drop, length, refl, sym, take}
+use Rattle.std.proofs.Common.{ap, append-nil, arith, drop, length, refl, subst, sym, take}
 use Rattle.std.proofs.lemmas.List.{drop_all, take_all}
 use Rattle.std.proofs.lemmas.Bool.{cond-false, cond-true}
+use Rattle.follow_engine.specs.Shown.{GrowsSome}
 use Rattle.following.specs.Following.{Handed}
 use Rattle.frame_sinks.specs.Fills.{fill_of}
 use Rattle.frame_sinks.specs.Pictures.{form_head, head_for, held_by, is_of, picture_of}
-use Rattle.frame_sinks.specs.Sinks.{TakesFrame}
+use Rattle.frame_sinks.specs.Sinks.{FailsFrame, TakesFrame, text_for}
 use Rattle.frame_sinks.specs.declared.filling.Filling.{Filling}
 use Rattle.frame_sinks.specs.declared.form_sink.FormSink.{FormSink}
+use Rattle.frame_sinks.specs.declared.settling.Settling.{Settling}
 use Rattle.picture_engine.specs.Views.{settled_with}
 use Rattle.picture_forms.specs.Faults.{CountsFault, IsDevice}
 use Rattle.picture_forms.specs.declared.fault.FormFault.{FormFault}
@@ -103,32 +105,45 @@ samples_back len items lent is same =
     ap (λ (t : List ℕ). take len (lent ++ t)) none
     ∙ ap (λ (t : List ℕ). take len t) (append-nil lent) ∙ take_all len lent (omega arith)
 
--- A sink found room, which made m of it; its sink of octets took the picture; and that was kept.
-pub takes_frame : {K A : Type 0} (took : K → List ℕ) (k m l : FormSink K A) (sink : K)
-    (p : Values) (h : Handed) → m.sink ≡ k.sink → m.filling ≡ k.filling → m.fill ≡ k.fill
-    → m.format ≡ k.format → m.held ≡ k.held
-    → took sink ≡ took m.sink
-    ++ (head_for m.format h.frame.format ++ form_text (picture_of m.fill m.held h.frame))
-    → p ≡ picture_of m.fill m.held h.frame → l.sink ≡ sink → l.filling ≡ m.filling
-    → l.fill ≡ m.fill → l.format ≡ Some h.frame.format → l.held ≡ held_by m.filling p
-    → TakesFrame took k h l
-takes_frame took k m l sink p h same filling fill format held written is sunk filled by begun kept =
-    let f : Format = h.frame.format in
-    let now : Values = picture_of m.fill m.held h.frame in
-    let was : Values = picture_of k.fill k.held h.frame in
-    let picture : now ≡ was =
-    ap (λ (x : Option (List ℕ)). picture_of x m.held h.frame) fill
-    ∙ ap (λ (x : Option Values). picture_of k.fill x h.frame) held in
-    record {
-      written =
-          ap took sunk ∙ written
-          ∙ ap (λ (x : _). took x ++ (head_for m.format f ++ form_text now)) same
-          ∙ ap (λ (x : Option Format). took k.sink ++ (head_for x f ++ form_text now)) format
-          ∙ ap (λ (x : Values). took k.sink ++ (head_for k.format f ++ form_text x)) picture;
-      format = begun;
-      held =
-          kept ∙ ap (λ (x : Filling). held_by x p) filling
-          ∙ ap (λ (x : Values). held_by k.filling x) (is ∙ picture);
-      filling = filled ∙ filling;
-      fill = by ∙ fill;
-    }
+-- what is written of a frame is so of its picture
+frame_format_is : {K A : Type 0} (k : FormSink K A) (p : Values) (h : Handed)
+    → p ≡ picture_of k.settling.fill k.settling.held h.frame → p.format ≡ h.frame.format
+frame_format_is k p h is =
+    ap (λ (v : Values). v.format) is
+    ∙ picture_format k.settling.fill k.settling.held h.frame
+
+frame_text_is : {K A : Type 0} (k : FormSink K A) (p : Values) (h : Handed)
+    → p ≡ picture_of k.settling.fill k.settling.held h.frame
+    → head_for k.format p.format ++ form_text p ≡ text_for k h
+frame_text_is k p h is =
+    ap (λ (f : Format). head_for k.format f ++ form_text p) (frame_format_is k p h is)
+    ∙ ap (λ (v : Values). head_for k.format h.frame.format ++ form_text v) is
+
+-- A sink failed at a frame, whose picture was settled: its sink of octets took a first part.
+pub fails_frame : {K A : Type 0} (took : K → List ℕ) (k l : FormSink K A) (sink : K) (p : Values)
+    (h : Handed) → p ≡ picture_of k.settling.fill k.settling.held h.frame
+    → GrowsSome (took k.sink) (took sink) (head_for k.format p.format ++ form_text p)
+    → l.sink ≡ sink → FailsFrame took k h l
+fails_frame took k l sink p h is part sunk =
+    subst (λ (t : List ℕ). GrowsSome (took k.sink) (took l.sink) t) (frame_text_is k p h is)
+    (subst (λ (x : _). GrowsSome (took k.sink) (took x) (head_for k.format p.format ++ form_text p))
+    (sym sunk) part)
+
+-- A sink settled a frame, which made m of what it is settled with; its sink of octets took the
+-- picture; and that was kept.
+pub takes_frame : {K A : Type 0} (took : K → List ℕ) (k l : FormSink K A) (m : Settling A)
+    (sink : K) (p : Values) (h : Handed) → m.filling ≡ k.settling.filling
+    → m.fill ≡ k.settling.fill → m.held ≡ k.settling.held
+    → p ≡ picture_of k.settling.fill k.settling.held h.frame
+    → took sink ≡ took k.sink ++ (head_for k.format p.format ++ form_text p)
+    → l.sink ≡ sink → l.format ≡ Some p.format → l.settling.filling ≡ m.filling
+    → l.settling.fill ≡ m.fill → l.settling.held ≡ held_by m.filling p → TakesFrame took k h l
+takes_frame took k l m sink p h filling fill held is written sunk begun filled by kept = record {
+  written = ap took sunk ∙ written ∙ ap (λ (t : List ℕ). took k.sink ++ t) (frame_text_is k p h is);
+  format = begun ∙ ap (λ (f : Format). Some f) (frame_format_is k p h is);
+  held =
+      kept ∙ ap (λ (x : Filling). held_by x p) filling
+      ∙ ap (λ (x : Values). held_by k.settling.filling x) is;
+  filling = filled ∙ filling;
+  fill = by ∙ fill;
+}

@@ -9,12 +9,12 @@ use Rattle.media_file.specs.PictureFile.{picture_text}
 use Rattle.st_format.specs.Picture.{Values}
 
 -- the name of a timestamp's file: its decimal digits and `.pic`
-abbrev pub picture_name : ℕ → List ℕ
-picture_name timestamp = decimal timestamp ++ codes ".pic"
+abbrev pub stamped_name : ℕ → List ℕ
+stamped_name timestamp = decimal timestamp ++ codes ".pic"
 
 -- the file of a picture: its name, and its octets
 abbrev pub file_for : ℕ → Values → List ℕ × List ℕ
-file_for timestamp p = (picture_name timestamp, picture_text p)
+file_for timestamp p = (stamped_name timestamp, picture_text p)
 
 -- those of frames, of which these are the pictures
 abbrev pub files_for : List Handed → List Values → List (List ℕ × List ℕ)
@@ -24,7 +24,7 @@ files_for (h ∷ hs) [] = []
 
 -- It took a frame: one file more has its name, that of the frame's picture; and it holds what the
 -- next one is settled over.
-pub record TakesFile {F A : Type 0} (files : F → List (List ℕ × List ℕ)) (k : FilesSink F A)
+pub record FilesFrame {F A : Type 0} (files : F → List (List ℕ × List ℕ)) (k : FilesSink F A)
     (h : Handed) (l : FilesSink F A) : Type 0 where
   pub filed : files l.files ≡ files k.files
       ++ file_for h.timestamp (picture_of k.settling.fill k.settling.held h.frame) ∷ []

@@ -15,9 +15,11 @@ pub struct BothSinks<P: PictureSink + Drop, Q: PictureSink + Drop> {
 }
 
 impl<P: PictureSink + Drop, Q: PictureSink + Drop> PictureSink for BothSinks<P, Q> {
-    ghost use Rattle.frame_sinks.specs.Sinks.{TakesBoth};
+    ghost use Rattle.frame_sinks.specs.Sinks.{FailsBoth, TakesBoth};
 
     ghost takes = { λ k h l. TakesBoth P.takes Q.takes k h l };
+
+    ghost fails = { λ k h l. FailsBoth P.fails P.takes Q.fails k h l };
 
     ghost failures = { λ k. P.failures k.first + Q.failures k.second };
 

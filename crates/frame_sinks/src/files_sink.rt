@@ -1,5 +1,5 @@
 //! A sink of frames that writes the picture of each as a file of its own.
-ghost use Rattle.std.specs.Prelude.{◌≡◌, ◌++◌, ◌∷◌, [], IfErr, ℕ, List, None, OnOk};
+ghost use Rattle.std.specs.Prelude.{◌≡◌, ◌++◌, ◌∷◌, [], IfErr, ℕ, List, None, OnErr, OnOk};
 ghost use Rattle.frame_sinks.specs.Files.{file_for};
 ghost use Rattle.run_outcome.specs.Fault.{Accounts, IfRefused, counts};
 
@@ -20,10 +20,11 @@ pub trait PictureFiles {
     ghost failures: { Self → ℕ };
 
     /// Writes a picture as the file of a timestamp, in place of one that has the name. An `Err` is
-    /// that a device failed or memory was wanted.
+    /// that a device failed or memory was wanted: no file took its name then.
     fn put<A: Allocator>(&mut self, timestamp: u32, picture: &Picture<A>) -> Result<(), Fault>
         ensures filed { OnOk result
             (files self.new ≡ files self.old ++ file_for timestamp picture.now ∷ []) }
+        ensures unfiled { OnErr result (files self.new ≡ files self.old) }
         ensures unrefused { IfErr result (λ f. IfRefused f ⊥) }
         ensures failures { Accounts result (counts (failures self.old) (failures self.new) ∷ []) };
 }
@@ -62,9 +63,11 @@ impl<F: PictureFiles + Drop, A: Allocator + Copy> FilesSink<F, A> {
 }
 
 impl<F: PictureFiles + Drop, A: Allocator + Copy> PictureSink for FilesSink<F, A> {
-    ghost use Rattle.frame_sinks.specs.Files.{TakesFile};
+    ghost use Rattle.frame_sinks.specs.Files.{FilesFrame};
 
-    ghost takes = { λ k h l. TakesFile F.files k h l };
+    ghost takes = { λ k h l. FilesFrame F.files k h l };
+
+    ghost fails = { λ k _ l. F.files l.files ≡ F.files k.files };
 
     ghost failures = { λ k. F.failures k.files };
 

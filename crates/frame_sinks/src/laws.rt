@@ -1,17 +1,18 @@
 //! Laws of sinks of pictures. Each is the contract of a function that does nothing.
-ghost use Rattle.std.specs.Prelude.{◌≡◌, ◌++◌, ◌∷◌, ℕ, List, None, Option, Result};
+ghost use Rattle.std.specs.Prelude.{◌≡◌, ◌++◌, ◌∷◌, [], ℕ, List, None, Option, Result};
 ghost use Rattle.std.specs.List.{AllByRecursion, flat_map};
 ghost use Rattle.flow.specs.declared.flows.Flows.{Flows};
 ghost use Rattle.follow_engine.specs.Events.{frames_of_events};
 ghost use Rattle.follow_engine.specs.Followed.{FollowsWhole, followed_events};
-ghost use Rattle.follow_engine.specs.Shown.{TakesAll};
+ghost use Rattle.follow_engine.specs.Shown.{GrowsSome, TakesAll};
 ghost use Rattle.follow_engine.specs.Sides.{SideRead};
 ghost use Rattle.follow_engine.specs.declared.opening.FollowAsked.{FollowAsked};
 ghost use Rattle.follow_engine.specs.declared.telling.FollowTotals.{FollowTotals};
 ghost use Rattle.following.specs.Following.{Handed};
-ghost use Rattle.frame_sinks.specs.Files.{TakesFile, files_for};
+ghost use Rattle.frame_sinks.specs.Files.{FilesFrame, files_for};
 ghost use Rattle.frame_sinks.specs.Pictures.{form_stream, pictures_of};
-ghost use Rattle.frame_sinks.specs.Sinks.{TakesBoth, TakesFrame, TakesLines, frames_report};
+ghost use Rattle.frame_sinks.specs.Sinks.{FailsFrame, FailsLines, TakesBoth, TakesFrame};
+ghost use Rattle.frame_sinks.specs.Sinks.{TakesLines, frames_report};
 ghost use Rattle.frame_sinks.specs.declared.both.BothSinks.{BothSinks};
 ghost use Rattle.frame_sinks.specs.declared.files_sink.FilesSink.{FilesSink};
 ghost use Rattle.frame_sinks.specs.declared.form_sink.FormSink.{FormSink};
@@ -32,7 +33,17 @@ use std::alloc::Allocator;
 pub fn written<K: ByteSink, A: Allocator>()
     ensures { (k l : FormSink K A) (hs : List Handed) → TakesAll (TakesFrame K.took) k hs l
         → K.took l.sink ≡ K.took k.sink
-        ++ form_stream k.format (pictures_of k.filling k.fill k.held hs) }
+        ++ form_stream k.format
+        (pictures_of k.settling.filling k.settling.fill k.settling.held hs) }
+{}
+
+/// Where it failed at a last frame, what is written is a first part of the stream of the pictures
+/// of all of them, that one among them.
+pub fn cut<K: ByteSink, A: Allocator>()
+    ensures { (k m l : FormSink K A) (hs : List Handed) (h : Handed) →
+        TakesAll (TakesFrame K.took) k hs m → FailsFrame K.took m h l →
+        GrowsSome (K.took k.sink) (K.took l.sink) (form_stream k.format
+        (pictures_of k.settling.filling k.settling.fill k.settling.held (hs ++ h ∷ []))) }
 {}
 
 /// So where files are followed: what is written is the stream of the pictures of all frames that
@@ -43,8 +54,8 @@ pub fn follows<K: ByteSink, A: Allocator, B: Allocator, S: ByteSource>()
         (totals : FollowTotals) →
         (is : FollowsWhole w sdp ways (SideRead S.gave S.ended) files (TakesFrame K.took) k l
         printed printed' totals) → K.took l.sink ≡ K.took k.sink
-        ++ form_stream k.format (pictures_of k.filling k.fill k.held
-        (frames_of_events (followed_events w is.opening is.entries))) }
+        ++ form_stream k.format (pictures_of k.settling.filling k.settling.fill
+        k.settling.held (frames_of_events (followed_events w is.opening is.entries))) }
 {}
 
 /// A stream of pictures of one format is a YUV4MPEG2 file of them where they are YCbCr, and where
@@ -65,10 +76,18 @@ pub fn reported<K: ByteSink>()
         → K.took l.sink ≡ K.took k.sink ++ frames_report hs }
 {}
 
+/// Where it failed at a last frame, what is written is a first part of what a report has of all of
+/// them.
+pub fn reported_cut<K: ByteSink>()
+    ensures { (k m l : ReportSink K) (hs : List Handed) (h : Handed) →
+        TakesAll (TakesLines K.took) k hs m → FailsLines K.took m h l →
+        GrowsSome (K.took k.sink) (K.took l.sink) (frames_report (hs ++ h ∷ [])) }
+{}
+
 /// The files that have their names of frames that a sink takes one after the other are those of the
 /// frames' pictures, octet for octet, each by the name of its timestamp.
 pub fn filed<F: PictureFiles + Drop, A: Allocator>()
-    ensures { (k l : FilesSink F A) (hs : List Handed) → TakesAll (TakesFile F.files) k hs l
+    ensures { (k l : FilesSink F A) (hs : List Handed) → TakesAll (FilesFrame F.files) k hs l
         → F.files l.files ≡ F.files k.files
         ++ files_for hs (pictures_of k.settling.filling k.settling.fill k.settling.held hs) }
 {}

@@ -16,9 +16,11 @@ pub struct ReportSink<K: ByteSink + Drop> {
 }
 
 impl<K: ByteSink + Drop> PictureSink for ReportSink<K> {
-    ghost use Rattle.frame_sinks.specs.Sinks.{TakesLines};
+    ghost use Rattle.frame_sinks.specs.Sinks.{FailsLines, TakesLines};
 
     ghost takes = { λ k h l. TakesLines K.took k h l };
+
+    ghost fails = { λ k h l. FailsLines K.took k h l };
 
     ghost failures = { λ k. K.failures k.sink };
 

@@ -132,24 +132,25 @@ module _ {S K A : Type 0} (told : S → List ℕ → Type 0) (took : K → List 
 
     new_stream : k.format ≡ None
         → took l.sink ≡ took k.sink
-        ++ form_stream None (pictures_of k.filling k.fill k.held shown)
+        ++ form_stream None (pictures_of k.settling.filling k.settling.fill k.settling.held shown)
     new_stream begun =
         all_written took k l shown is.shown
         ∙ ap (λ (b : Option Format). took k.sink
-        ++ form_stream b (pictures_of k.filling k.fill k.held shown)) begun
+        ++ form_stream b (pictures_of k.settling.filling k.settling.fill k.settling.held shown))
+        begun
 
     pub one_stream_text : (h : Handed) (hs : List Handed)
         → NoneAnew w.is_eager (running_from (opened is.opening w.frames 900000))
         (datagrams_in is.entries)
         → shown ≡ h ∷ hs → IsYcc is.opening.format.sampling → k.format ≡ None
         → took l.sink ≡ took k.sink ++ y4m_text is.opening.format
-        (pictures_of k.filling k.fill k.held (h ∷ hs))
+        (pictures_of k.settling.filling k.settling.fill k.settling.held (h ∷ hs))
     one_stream_text h hs plain are ycc begun =
         new_stream begun
         ∙ ap (λ (xs : List Handed). took k.sink
-        ++ form_stream None (pictures_of k.filling k.fill k.held xs)) are
+        ++ form_stream None (pictures_of k.settling.filling k.settling.fill k.settling.held xs)) are
         ∙ ap (λ (t : List ℕ). took k.sink ++ t)
-        (format_text is.opening.format k.filling k.fill k.held h hs ycc
+        (format_text is.opening.format k.settling.filling k.settling.fill k.settling.held h hs ycc
         (λ x m. frame_format w is.opening is.entries x plain
         (subst (λ (xs : List Handed). IsMember x xs) (sym are) m)))
 
@@ -163,7 +164,8 @@ module _ {S K A : Type 0} (told : S → List ℕ → Type 0) (took : K → List 
     sink_ycc wanted text format p ps capture sent bring awaits time ycc begun =
         new_stream begun
         ∙ ap (λ (t : List ℕ). took k.sink ++ t)
-        (ycc_text wanted text format capture k.filling k.fill k.held shown p ps sent awaits.whole
+        (ycc_text wanted text format capture k.settling.filling k.settling.fill
+        k.settling.held shown p ps sent awaits.whole
         (sent_frames told (TakesFrame took) w sdp ways files k l printed printed' totals is wanted
         text format (p ∷ ps) capture sent bring awaits time) ycc)
 
@@ -176,7 +178,8 @@ module _ {S K A : Type 0} (told : S → List ℕ → Type 0) (took : K → List 
     sink_rgb wanted text format ps capture sent bring awaits time rgb begun =
         new_stream begun
         ∙ ap (λ (t : List ℕ). took k.sink ++ t)
-        (rgb_text wanted text format capture k.filling k.fill k.held shown ps sent awaits.whole
+        (rgb_text wanted text format capture k.settling.filling k.settling.fill
+        k.settling.held shown ps sent awaits.whole
         (sent_frames told (TakesFrame took) w sdp ways files k l printed printed' totals is wanted
         text format ps capture sent bring awaits time) rgb)
 

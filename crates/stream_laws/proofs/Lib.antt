@@ -5,3 +5,4 @@ pub mod NoneLate
 pub mod SenderTimes
 pub mod Leaving
 pub mod FollowedText
+pub mod NoFollowRefusals

@@ -13,8 +13,9 @@
 //! - So what was sent and followed is the pictures' file, octet for octet: `sent_and_followed`, and
 //!   as a file of the command `sent_and_followed_file`; or each picture's own file:
 //!   `sent_and_followed_pictures`.
+//! - Where `follow` succeeds no refusal speaks against what it read: `follow_unrefused`.
 ghost use Rattle.std.specs.Prelude.{◌≡◌, ◌∷◌, ◌++◌, ℕ, List, None, Option, Result, Some};
-ghost use Rattle.std.specs.List.{flat_map};
+ghost use Rattle.std.specs.List.{AllZip, flat_map};
 ghost use Rattle.capture_engines.specs.Files.{files_datagrams};
 ghost use Rattle.capture_engines.specs.Sending.{run_sender};
 ghost use Rattle.capture_engines.specs.declared.sender.Sending.{Sending};
@@ -31,6 +32,7 @@ ghost use Rattle.follow_engine.specs.Events.{frames_of_events, running_from};
 ghost use Rattle.follow_engine.specs.Followed.{FollowsWhole, followed_events, followed_run};
 ghost use Rattle.follow_engine.specs.Order.{datagrams_in, strands_by};
 ghost use Rattle.follow_engine.specs.Plain.{NoneAnew};
+ghost use Rattle.follow_engine.specs.Refused.{IsFollowRefusal};
 ghost use Rattle.follow_engine.specs.Sides.{SideRead};
 ghost use Rattle.follow_engine.specs.Telling.{totals_of};
 ghost use Rattle.follow_engine.specs.declared.opening.FollowAsked.{FollowAsked};
@@ -48,6 +50,7 @@ ghost use Rattle.packet_plan.specs.Sender.{Sender};
 ghost use Rattle.path_receiver.specs.Opening.{Opening};
 ghost use Rattle.picture_forms.specs.Layouts.{IsRgb, IsYcc, pixmap_text, y4m_text};
 ghost use Rattle.run_laws.specs.Sent.{IsSentFile};
+ghost use Rattle.run_laws.specs.Streams.{HaveFew};
 ghost use Rattle.run_outcome.specs.declared.refusal.Refusal.{Refusal};
 ghost use Rattle.side_by_side.specs.Strands.{GoesWhole};
 ghost use Rattle.side_by_side.specs.declared.side.Side.{Side};
@@ -58,6 +61,7 @@ ghost use Rattle.st_format.specs.declared.format.Format.{Format};
 ghost use Rattle.stream_laws.specs.Brought.{AreWhole, AwaitsPictures, BringDatagrams, GoesInTime};
 ghost use Rattle.stream_laws.specs.Brought.{IsInTime, LosesNone};
 
+use follow_engine::PictureSink;
 use st_format::{ByteSink, ByteSource};
 use std::alloc::Allocator;
 
@@ -101,7 +105,7 @@ pub fn one_y4m_stream<K: ByteSink, A: Allocator, B: Allocator, S: ByteSource>()
         frames_of_events (followed_events w is.opening is.entries) ≡ first ∷ others →
         IsYcc is.opening.format.sampling → k.format ≡ None →
         K.took l.sink ≡ K.took k.sink ++ y4m_text is.opening.format
-        (pictures_of k.filling k.fill k.held (first ∷ others)) }
+        (pictures_of k.settling.filling k.settling.fill k.settling.held (first ∷ others)) }
 {}
 
 /// The datagrams that go into a stream, where its files go side by side up to their ends, are those
@@ -216,4 +220,15 @@ pub fn sent_and_followed_pictures<B: Allocator>()
         IsInTime w is.follows.opening wanted.base is.follows.entries →
         filed_files directory'.directory ≡ filed_files directory.directory
         ++ files_for (pictures_from (run_sender format wanted) 0 pictures) pictures }
+{}
+
+/// Against what a run of `follow_files` read no refusal speaks, where it succeeds (`followed`
+/// there), over files that have fewer records each than `receive` takes.
+pub fn follow_unrefused<A: Allocator, S: ByteSource, P: PictureSink>()
+    ensures { (w : FollowAsked) (sdp : Option (List ℕ)) (ways : List (Result Flows Refusal))
+        (files : List (Side A S × Side A S)) (octets : List (List ℕ)) (old new : P)
+        (took took' : List ℕ) (totals : FollowTotals) (r : Refusal) →
+        FollowsWhole w sdp ways (SideRead S.gave S.ended) files P.takes old new took took' totals →
+        AllZip (SideRead S.gave S.ended) files octets → HaveFew ways octets →
+        IsFollowRefusal w.frames w.ssrc.now sdp ways (SideRead S.gave S.ended) files r → ⊥ }
 {}

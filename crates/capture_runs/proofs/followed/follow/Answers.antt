@@ -1,5 +1,7 @@
 use Rattle.std.proofs.lemmas.Result.{err_from_is_err_and}
 use Rattle.capture_runs.proofs.FileUnder.{follows_same}
+use Rattle.capture_runs.proofs.Stops.{stops_same}
+use Rattle.follow_engine.proofs.Cut.{refused_map}
 use Rattle.capture_runs.proofs.followed.follow.Goals as goal
 
 pub returns-clause-followed : goal.returns-clause-followed
@@ -22,3 +24,11 @@ pub returns-in_err-follow_files-clause-owed : goal.returns-in_err-follow_files-c
 returns-in_err-follow_files-clause-owed c =
     let p = err_from_is_err_and c.from_residual.result c.from_residual.ensures.1 in
     rw (p.1, p.2) c.in_err-follow_files.ensures.failures
+
+pub returns-in_err-follow_files-clause-before : goal.returns-in_err-follow_files-clause-before
+returns-in_err-follow_files-clause-before c =
+    let p = err_from_is_err_and c.from_residual.result c.from_residual.ensures.1 in
+    rw (p.1, p.2)
+    (refused_map _ _ c.in_err-follow_files.field-0.0
+    (stops_same c.args.asked _ _ _ _ _ c.args.sinks.now c.follow_files.new.pictures _ _
+    c.text_of.ensures c.as_slice.ensures.value) c.in_err-follow_files.ensures.before)

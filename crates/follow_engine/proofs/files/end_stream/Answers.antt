@@ -1,5 +1,6 @@
 use Rattle.std.proofs.lemmas.Result.{err_from_is_err_and}
 use Rattle.follow_engine.proofs.Beginnings.{ends_stream}
+use Rattle.follow_engine.proofs.Short.{ends_early, ends_late}
 use Rattle.follow_engine.proofs.Blamed.{blames_later}
 use Rattle.follow_engine.proofs.files.end_stream.Goals as goal
 
@@ -22,3 +23,23 @@ returns-clause-ended g c =
     c.finish.new.pictures (took c.args.output.now) (took c.finish.new.output)
     (took c.tell_totals.new.output) c.in_ok-totals.totals c.in_ok-finish.ensures.finished
     c.in_ok-totals.ensures.printed c.in_ok-totals.ensures.totals
+
+pub returns-in_err-finish-clause-part : goal.returns-in_err-finish-clause-part
+returns-in_err-finish-clause-part g c =
+    let p = err_from_is_err_and c.from_residual.result c.from_residual.ensures.1 in
+    let took = g.O.ByteSink.took in
+    rw (p.1)
+    (ends_early g.P.PictureSink.takes g.P.PictureSink.fails c.args.run.now c.args.pictures.now
+    c.finish.new.pictures (took c.args.output.now) (took c.finish.new.output)
+    c.in_err-finish.ensures.part)
+
+pub returns-in_err-totals-clause-part : goal.returns-in_err-totals-clause-part
+returns-in_err-totals-clause-part g c =
+    let p = err_from_is_err_and c.from_residual-in_err-totals.result
+    c.from_residual-in_err-totals.ensures.1 in
+    let took = g.O.ByteSink.took in
+    rw (p.1)
+    (ends_late g.P.PictureSink.takes g.P.PictureSink.fails c.args.run.now c.finish.new.self
+    c.args.pictures.now c.finish.new.pictures (took c.args.output.now)
+    (took c.finish.new.output) (took c.tell_totals.new.output) c.in_ok-finish.ensures.finished
+    c.in_err-totals.ensures.part)

@@ -1,4 +1,4 @@
-use Rattle.std.proofs.Common.{◌∙◌, inl, inr}
+use Rattle.std.proofs.Common.{◌∙◌, inl, inr, refl}
 use Rattle.std.proofs.lemmas.Result.{err_from_is_err_and}
 use Rattle.std.specs.Option.{option_copied}
 use Rattle.std.specs.Prelude.{take}
@@ -6,7 +6,9 @@ use Rattle.run_outcome.proofs.Refusals.{none_refused, of_refusal_map}
 use Rattle.side_by_side.specs.Sides.{failures_each}
 use Rattle.follow_engine.proofs.Beginnings.{opened_begun}
 use Rattle.follow_engine.proofs.Blamed.{blames_end, blames_files, blames_from, blames_none}
+use Rattle.follow_engine.proofs.Cut.{if_refused, refused_map, unrefused_if}
 use Rattle.follow_engine.proofs.Outcome.{follows_whole}
+use Rattle.follow_engine.proofs.Short.{ends_part, follows_part, follows_short}
 use Rattle.follow_engine.proofs.Stopped.{first_by, stops_files}
 use Rattle.follow_engine.proofs.files.follow_files.Goals as goal
 
@@ -48,9 +50,9 @@ returns-in_err-run-clause-refusal g c =
     rw (p.1, p.2)
     (of_refusal_map c.in_err-run.field-0.0
     (λ r is. inr (inr (inr (inl (first_by g.S.ByteSource.gave g.S.ByteSource.ended c.args.ways.now
-    (option_copied c.args.sdp) (take c.in_ok-count.count c.open_files.new.text) c.args.sides.now.items
-    c.open_files.new.sides.items r c.in_ok-count.ensures.opened c.in_ok-count.ensures.first
-    is))))) c.in_err-run.ensures.refusal)
+    (option_copied c.args.sdp) (take c.in_ok-count.count c.open_files.new.text)
+    c.args.sides.now.items c.open_files.new.sides.items r c.in_ok-count.ensures.opened
+    c.in_ok-count.ensures.first is))))) c.in_err-run.ensures.refusal)
 
 pub returns-in_err-run-clause-failures : goal.returns-in_err-run-clause-failures
 returns-in_err-run-clause-failures g c =
@@ -127,4 +129,134 @@ returns-clause-followed g c =
     c.follow_opened.new.pictures c.end_stream.new.pictures (took c.args.output.now)
     (took c.follow_opened.new.output) (took c.end_stream.new.output) c.in_ok-totals.totals
     c.in_ok-ssrc.ensures.source c.in_ok-run.ensures.begun c.in_ok-count.ensures.opened
-    c.in_ok-count.ensures.first begun.begun begun.known begun.followed c.in_ok-totals.ensures.ended
+    c.in_ok-count.ensures.first begun.begun begun.known c.in_ok-ssrc.ensures.frames begun.by_flows
+    begun.followed c.in_ok-totals.ensures.ended
+
+pub returns-in_err-ssrc-clause-before : goal.returns-in_err-ssrc-clause-before
+returns-in_err-ssrc-clause-before g c =
+    let p = err_from_is_err_and c.from_residual.result c.from_residual.ensures.1 in
+    rw (p.1, p.2) (if_refused _ c.in_err-ssrc.field-0.0 (inl (refl, refl)))
+
+pub returns-in_err-ssrc-clause-part : goal.returns-in_err-ssrc-clause-part
+returns-in_err-ssrc-clause-part g c =
+    let p = err_from_is_err_and c.from_residual.result c.from_residual.ensures.1 in
+    rw (p.1) (inl (refl, refl))
+
+pub returns-in_err-given-clause-before : goal.returns-in_err-given-clause-before
+returns-in_err-given-clause-before g c =
+    let p = err_from_is_err_and c.from_residual-in_err-given.result
+    c.from_residual-in_err-given.ensures.1 in
+    rw (p.1, p.2) (if_refused _ c.in_err-given.field-0.0 (inl (refl, refl)))
+
+pub returns-in_err-given-clause-part : goal.returns-in_err-given-clause-part
+returns-in_err-given-clause-part g c =
+    let p = err_from_is_err_and c.from_residual-in_err-given.result
+    c.from_residual-in_err-given.ensures.1 in
+    rw (p.1) (inl (refl, refl))
+
+pub returns-in_err-said-clause-before : goal.returns-in_err-said-clause-before
+returns-in_err-said-clause-before g c =
+    let p = err_from_is_err_and c.from_residual-in_err-said.result
+    c.from_residual-in_err-said.ensures.1 in
+    rw (p.1, p.2) tt
+
+pub returns-in_err-said-clause-part : goal.returns-in_err-said-clause-part
+returns-in_err-said-clause-part g c =
+    let p = err_from_is_err_and c.from_residual-in_err-said.result
+    c.from_residual-in_err-said.ensures.1 in
+    rw (p.1) (inl (refl, refl))
+
+pub returns-in_err-datagram-clause-before : goal.returns-in_err-datagram-clause-before
+returns-in_err-datagram-clause-before g c =
+    let p = err_from_is_err_and c.from_residual-in_err-datagram.result
+    c.from_residual-in_err-datagram.ensures.1 in
+    rw (p.1, p.2) tt
+
+pub returns-in_err-datagram-clause-part : goal.returns-in_err-datagram-clause-part
+returns-in_err-datagram-clause-part g c =
+    let p = err_from_is_err_and c.from_residual-in_err-datagram.result
+    c.from_residual-in_err-datagram.ensures.1 in
+    rw (p.1) (inl (refl, refl))
+
+pub returns-in_err-count-clause-before : goal.returns-in_err-count-clause-before
+returns-in_err-count-clause-before g c =
+    let p = err_from_is_err_and c.from_residual-in_err-count.result
+    c.from_residual-in_err-count.ensures.1 in
+    rw (p.1, p.2) (if_refused _ c.in_err-count.field-0.0 (inl (refl, refl)))
+
+pub returns-in_err-count-clause-part : goal.returns-in_err-count-clause-part
+returns-in_err-count-clause-part g c =
+    let p = err_from_is_err_and c.from_residual-in_err-count.result
+    c.from_residual-in_err-count.ensures.1 in
+    rw (p.1) (inl (refl, refl))
+
+pub returns-in_err-run-clause-before : goal.returns-in_err-run-clause-before
+returns-in_err-run-clause-before g c =
+    let p = err_from_is_err_and c.from_residual-in_err-run.result
+    c.from_residual-in_err-run.ensures.1 in
+    rw (p.1, p.2) (if_refused _ c.in_err-run.field-0.0 (inl (refl, refl)))
+
+pub returns-in_err-run-clause-part : goal.returns-in_err-run-clause-part
+returns-in_err-run-clause-part g c =
+    let p = err_from_is_err_and c.from_residual-in_err-run.result
+    c.from_residual-in_err-run.ensures.1 in
+    rw (p.1) (inl (refl, refl))
+
+pub returns-in_err-follow_opened-clause-before : goal.returns-in_err-follow_opened-clause-before
+returns-in_err-follow_opened-clause-before g c =
+    let took = g.O.ByteSink.took in
+    let takes = g.P.PictureSink.takes in
+    let begun = c.in_err-follow_opened.ensures in
+    let p = err_from_is_err_and c.from_residual-in_err-follow_opened.result
+    c.from_residual-in_err-follow_opened.ensures.1 in
+    rw (p.1, p.2)
+    (refused_map _ _ c.in_err-follow_opened.field-0.0
+    (λ up. inr (follows_short g.S.ByteSource.gave g.S.ByteSource.ended c.args.asked
+    c.in_ok-ssrc.ssrc (option_copied c.args.sdp) c.args.ways.now
+    (take c.in_ok-count.count c.open_files.new.text) c.args.sides.now.items
+    c.open_files.new.sides.items c.follow_opened.new.sides.items c.in_ok-run.run' takes
+    c.args.pictures.now c.follow_opened.new.pictures (took c.args.output.now)
+    (took c.follow_opened.new.output) c.in_ok-ssrc.ensures.source c.in_ok-run.ensures.begun
+    c.in_ok-count.ensures.opened c.in_ok-count.ensures.first c.follow_opened.ensures.begun
+    c.follow_opened.ensures.known up)) begun.before)
+
+pub returns-in_err-follow_opened-clause-part : goal.returns-in_err-follow_opened-clause-part
+returns-in_err-follow_opened-clause-part g c =
+    let p = err_from_is_err_and c.from_residual-in_err-follow_opened.result
+    c.from_residual-in_err-follow_opened.ensures.1 in
+    let took = g.O.ByteSink.took in
+    rw (p.1)
+    (inr (follows_part g.S.ByteSource.gave g.S.ByteSource.ended c.args.asked
+    c.in_ok-ssrc.ssrc (option_copied c.args.sdp) c.args.ways.now
+    (take c.in_ok-count.count c.open_files.new.text) c.args.sides.now.items
+    c.open_files.new.sides.items c.follow_opened.new.sides.items c.in_ok-run.run'
+    g.P.PictureSink.takes g.P.PictureSink.fails c.args.pictures.now c.follow_opened.new.pictures
+    (took c.args.output.now) (took c.follow_opened.new.output) c.in_ok-ssrc.ensures.source
+    c.in_ok-run.ensures.begun
+    c.in_ok-count.ensures.opened c.in_ok-count.ensures.first c.follow_opened.ensures.begun
+    c.follow_opened.ensures.known c.in_err-follow_opened.ensures.part))
+
+pub returns-in_err-totals-clause-before : goal.returns-in_err-totals-clause-before
+returns-in_err-totals-clause-before g c =
+    let p = err_from_is_err_and c.from_residual-in_err-totals.result
+    c.from_residual-in_err-totals.ensures.1 in
+    rw (p.1, p.2) (unrefused_if _ c.in_err-totals.field-0.0 c.in_err-totals.ensures.unrefused)
+
+pub returns-in_err-totals-clause-part : goal.returns-in_err-totals-clause-part
+returns-in_err-totals-clause-part g c =
+    let p = err_from_is_err_and c.from_residual-in_err-totals.result
+    c.from_residual-in_err-totals.ensures.1 in
+    let took = g.O.ByteSink.took in
+    let begun = c.in_ok-follow_opened.ensures in
+    rw (p.1)
+    (inr (ends_part g.S.ByteSource.gave g.S.ByteSource.ended g.P.PictureSink.takes
+    g.P.PictureSink.fails c.args.asked
+    c.in_ok-ssrc.ssrc (option_copied c.args.sdp) c.args.ways.now
+    (take c.in_ok-count.count c.open_files.new.text) c.args.sides.now.items
+    c.open_files.new.sides.items c.follow_opened.new.sides.items c.in_ok-run.run'
+    c.follow_opened.new.run c.args.pictures.now
+    c.follow_opened.new.pictures c.end_stream.new.pictures (took c.args.output.now)
+    (took c.follow_opened.new.output) (took c.end_stream.new.output)
+    c.in_ok-ssrc.ensures.source c.in_ok-run.ensures.begun c.in_ok-count.ensures.opened
+    c.in_ok-count.ensures.first begun.begun begun.known begun.followed
+    c.in_err-totals.ensures.part))

@@ -1,12 +1,16 @@
-use Rattle.std.proofs.Common.{◌≡◌, ◌∙◌, ◌++◌, ◌↔◌, Bool, inr, refl, subst, take}
+use Rattle.std.proofs.Common.{◌≡◌, ◌∙◌, ◌++◌, ◌↔◌, Bool, arith, inr, refl, subst, take}
 use Rattle.std.proofs.lemmas.Result.{err_from_is_err_and}
 use Rattle.run_outcome.proofs.Refusals.{none_refused}
 use Rattle.st_format.specs.Turns.{IsEnd, arrived}
 use Rattle.st_format.specs.declared.device.Turn.{Turn}
-use Rattle.side_by_side.specs.Sides.{AllOver, failures_each}
-use Rattle.follow_engine.specs.Running.{TakesTurn, running_of}
+use Rattle.side_by_side.specs.Sides.{AllOver, IsDatagramOrEnd, failures_each}
+use Rattle.path_receiver.specs.Took.{datagrams_since}
+use Rattle.follow_engine.specs.Events.{events_at, events_in}
+use Rattle.follow_engine.specs.Running.{TakesTurn, TellsSome, running_of}
 use Rattle.follow_engine.proofs.Blamed.{blames_end, fails_by}
+use Rattle.follow_engine.proofs.Cut.{if_refused, so_stops, so_told, tells_all, unrefused_if}
 use Rattle.follow_engine.proofs.Stopped.{stops_at}
+use Rattle.follow_engine.proofs.Counted.{few_since, none_since, one_more_since}
 use Rattle.follow_engine.proofs.Turns.{so_begun, so_datagram, so_quiet}
 use Rattle.follow_engine.proofs.taking.follow_sides.Goals as goal
 
@@ -21,6 +25,7 @@ loop-init g c = record {
   so =
       so_begun g.P.PictureSink.takes c.args.run.now.is_eager c.args.source.now.came
       (running_of c.args.run.now) c.args.pictures.now (g.O.ByteSink.took c.args.output.now);
+  count = none_since c.args.source.now.came;
   source_failures = refl;
   picture_failures = refl;
   output_failures = refl;
@@ -54,36 +59,19 @@ loop-preserved-in-Ok-Datagram g c =
           (subst (λ (b : Bool). TakesTurn takes b (running_of c.loop.run)
           (running_of c.take.new.self) (take w.count c.next.new.buf) c.loop.pictures
           c.take.new.pictures (took c.loop.output) (took c.take.new.output)) i.eager taken.took);
+      count =
+          one_more_since c.args.source.now.came c.loop.source.came c.next.new.self.came w.field-0-0
+          (take w.count c.next.new.buf) c.loop.counter i.so.rest i.so.came arrives i.count;
       source_failures = w.ensures.device i.unfailed ∙ i.source_failures;
       picture_failures = taken.failures.0 ∙ i.picture_failures;
       output_failures = taken.failures.1 ∙ i.output_failures;
     }
 
--- none came
+-- each turn tells a datagram or the end
 pub loop-preserved : goal.loop-preserved
 loop-preserved g c =
     let w = c.in-Ok-Quiet in
-    let i = c.loop.invariant in
-    let took = g.O.ByteSink.took in
-    let run = c.args.run.now in
-    let arrives =
-    subst (λ (t : Turn). c.next.new.self.came ≡ c.loop.source.came ++ arrived t c.next.new.buf)
-    w.field-0-is w.ensures.came in
-    record {
-      room = w.ensures.room ∙ i.room;
-      run = i.run;
-      eager = i.eager;
-      steering = w.ensures.steering ∙ i.steering;
-      begun = w.ensures.begun ∙ i.begun;
-      unfailed = w.ensures.unfailed;
-      so =
-          so_quiet g.P.PictureSink.takes run.is_eager c.args.source.now.came c.loop.source.came
-          c.next.new.self.came (running_of run) (running_of c.loop.run) c.args.pictures.now
-          c.loop.pictures (took c.args.output.now) (took c.loop.output) i.so arrives;
-      source_failures = w.ensures.device i.unfailed ∙ i.source_failures;
-      picture_failures = i.picture_failures;
-      output_failures = i.output_failures;
-    }
+    absurd (subst IsDatagramOrEnd w.field-0-is w.ensures.tells)
 
 -- the run failed
 pub returns-in_err-take-in-Ok-Datagram-clause-stopped : goal.returns-in_err-take-in-Ok-Datagram-clause-stopped
@@ -121,7 +109,14 @@ returns-in-Ok-End-clause-followed g c =
     so_quiet g.P.PictureSink.takes run.is_eager c.args.source.now.came c.loop.source.came
     c.next.new.self.came (running_of run) (running_of c.loop.run) c.args.pictures.now
     c.loop.pictures (took c.args.output.now) (took c.loop.output) c.loop.invariant.so arrives in
-    record { over = over.1 tt; running = so.running; told = so.told }
+    record {
+      over = over.1 tt;
+      few =
+          few_since c.args.source.now.came c.loop.source.came c.next.new.self.came c.loop.counter
+          arrives c.loop.invariant.count c.loop-test.true;
+      running = so.running;
+      told = so.told;
+    }
 
 pub returns-in-Ok-End-clause-failures : goal.returns-in-Ok-End-clause-failures
 returns-in-Ok-End-clause-failures g c =
@@ -134,7 +129,7 @@ returns-in-Ok-End-clause-failures g c =
 pub returns-in-Err-clause-stopped : goal.returns-in-Err-clause-stopped
 returns-in-Err-clause-stopped g c =
     let e = c.in-Err.ensures.fault in
-    stops_at c.fault_of.result c.next.new.self.fault e.reading c.next.new.self.sides
+    stops_at c.fault_of.result c.next.new.self.fault e.reading c.next.new.self.sides _
     c.fault_of.ensures.fault e.stays c.fault_of.ensures.stopped
 
 pub returns-in-Err-clause-failures : goal.returns-in-Err-clause-failures
@@ -152,9 +147,75 @@ returns-in-Err-clause-failures g c =
 
 -- there are too many
 pub returns-clause-stopped : goal.returns-clause-stopped
-returns-clause-stopped g c = rw c.of_capture.ensures (inr refl)
+returns-clause-stopped g c =
+    rw c.of_capture.ensures (inr (refl, omega (arith, c.loop.invariant.count)))
 
 pub returns-clause-failures : goal.returns-clause-failures
 returns-clause-failures g c =
     let i = c.loop.invariant in
     rw c.of_capture.ensures (i.source_failures, (i.picture_failures, i.output_failures))
+
+-- ---- what was told before
+
+pub returns-in_err-take-in-Ok-Datagram-clause-before : goal.returns-in_err-take-in-Ok-Datagram-clause-before
+returns-in_err-take-in-Ok-Datagram-clause-before g c =
+    let p = err_from_is_err_and c.from_residual.result c.from_residual.ensures.1 in
+    rw (p.1, p.2) (unrefused_if _ c.in_err-take-in-Ok-Datagram.field-0.0
+    c.in_err-take-in-Ok-Datagram.ensures.unrefused)
+
+pub returns-in_err-take-in-Ok-Datagram-clause-part : goal.returns-in_err-take-in-Ok-Datagram-clause-part
+returns-in_err-take-in-Ok-Datagram-clause-part g c =
+    let p = err_from_is_err_and c.from_residual.result c.from_residual.ensures.1 in
+    let w = c.in-Ok-Datagram in
+    let i = c.loop.invariant in
+    let takes = g.P.PictureSink.takes in
+    let fails = g.P.PictureSink.fails in
+    let took = g.O.ByteSink.took in
+    let run = c.args.run.now in
+    let arrives =
+    subst (λ (t : Turn). c.next.new.self.came ≡ c.loop.source.came ++ arrived t c.next.new.buf)
+    w.field-0-is w.ensures.came in
+    rw (p.1)
+    (so_stops takes fails run.is_eager c.args.source.now.came c.loop.source.came
+    c.next.new.self.came (running_of run) (running_of c.loop.run) c.args.pictures.now
+    c.loop.pictures c.take.new.pictures (took c.args.output.now) (took c.loop.output)
+    (took c.take.new.output) w.field-0-0 (take w.count c.next.new.buf) i.so arrives
+    (subst (λ (b : Bool). TellsSome takes fails c.loop.pictures c.take.new.pictures
+    (took c.loop.output) (took c.take.new.output)
+    (events_at b (running_of c.loop.run) (take w.count c.next.new.buf))) i.eager
+    c.in_err-take-in-Ok-Datagram.ensures.part))
+
+-- nothing came in the call that failed
+pub returns-in-Err-clause-before : goal.returns-in-Err-clause-before
+returns-in-Err-clause-before g c =
+    if_refused _ c.fault_of.result
+    (so_told g.P.PictureSink.takes c.args.run.now.is_eager c.args.source.now.came
+    c.loop.source.came c.next.new.self.came (running_of c.args.run.now) (running_of c.loop.run)
+    c.args.pictures.now c.loop.pictures (g.O.ByteSink.took c.args.output.now)
+    (g.O.ByteSink.took c.loop.output) c.loop.invariant.so c.in-Err.ensures.kept)
+
+pub returns-in-Err-clause-part : goal.returns-in-Err-clause-part
+returns-in-Err-clause-part g c =
+    let took = g.O.ByteSink.took in
+    let run = c.args.run.now in
+    tells_all g.P.PictureSink.takes g.P.PictureSink.fails c.args.pictures.now c.loop.pictures
+    (took c.args.output.now) (took c.loop.output)
+    (events_in run.is_eager (running_of run)
+    (datagrams_since c.args.source.now.came c.next.new.self.came))
+    (so_told g.P.PictureSink.takes run.is_eager c.args.source.now.came
+    c.loop.source.came c.next.new.self.came (running_of run) (running_of c.loop.run)
+    c.args.pictures.now c.loop.pictures (took c.args.output.now)
+    (took c.loop.output) c.loop.invariant.so c.in-Err.ensures.kept)
+
+pub returns-clause-before : goal.returns-clause-before
+returns-clause-before g c =
+    if_refused _ c.of_capture.result c.loop.invariant.so.told
+
+pub returns-clause-part : goal.returns-clause-part
+returns-clause-part g c =
+    let took = g.O.ByteSink.took in
+    let run = c.args.run.now in
+    tells_all g.P.PictureSink.takes g.P.PictureSink.fails c.args.pictures.now c.loop.pictures
+    (took c.args.output.now) (took c.loop.output)
+    (events_in run.is_eager (running_of run)
+    (datagrams_since c.args.source.now.came c.loop.source.came)) c.loop.invariant.so.told

@@ -1,5 +1,6 @@
 use Rattle.std.proofs.Common.{◌≡◌, length}
 use Rattle.side_by_side.specs.Sides.{AllUnfailed, begun_each, failures_each}
+use Rattle.path_receiver.specs.Took.{datagrams_since}
 use Rattle.follow_engine.specs.Running.{IsRun, running_of}
 use Rattle.follow_engine.proofs.Turns.{FollowedSo}
 use Rattle.follow_engine.proofs.taking.follow_sides.Given as goal
@@ -16,6 +17,7 @@ invariant-loop g l = record {
   so : FollowedSo g.P.PictureSink.takes l.initial.run.is_eager l.initial.source.came
       l.source.came (running_of l.initial.run) (running_of l.run) l.initial.pictures l.pictures
       (g.O.ByteSink.took l.initial.output) (g.O.ByteSink.took l.output);
+  count : length (datagrams_since l.initial.source.came l.source.came) ≡ l.counter;
   source_failures : failures_each g.S.ByteSource.failures l.source.sides
       ≡ failures_each g.S.ByteSource.failures l.initial.source.sides;
   picture_failures : g.P.PictureSink.failures l.pictures

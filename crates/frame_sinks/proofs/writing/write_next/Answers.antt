@@ -1,13 +1,45 @@
 use Rattle.st_format.proofs.Gave.{grew_twice}
-use Rattle.frame_sinks.specs.Pictures.{head_for, picture_of}
+use Rattle.frame_sinks.specs.Pictures.{head_for}
 use Rattle.settled_forms.specs.Settled.{form_text}
+use Rattle.follow_engine.proofs.Grows.{grows_first, grows_part, grows_then}
+use Rattle.follow_engine.specs.Shown.{GrowsSome}
+use Rattle.run_outcome.proofs.Printed.{on_err, on_ok}
+use Rattle.st_format.specs.Device.{GrowsPart}
+use Rattle.std.proofs.Common.{◌≡◌, ◌++◌}
+use Rattle.std.proofs.lemmas.Result.{err_from_is_err_and}
 use Rattle.frame_sinks.proofs.writing.write_next.Goals as goal
 
 pub returns-clause-written : goal.returns-clause-written
 returns-clause-written g c =
     let took = g.K.ByteSink.took in
-    let q = c.args.frame.now in
-    grew_twice (took c.args.sink.now) (took c.write_head.new.sink) (took c.write_frame.new.sink)
-    (head_for c.args.begun q.format) (form_text (picture_of c.args.fill c.args.held.now q))
-    (rw c.format-format.ensures.format at c.in_ok-write_head.ensures.written)
-    c.in_ok-write_frame.ensures.written
+    let head = head_for c.args.begun c.args.picture.now.format in
+    let text = form_text c.args.picture.now in
+    let old = took c.args.sink.now in
+    let mid = took c.write_head.new.sink in
+    let new = took c.write_picture.new.sink in
+    on_ok c.write_picture.result (new ≡ mid ++ text) (new ≡ old ++ (head ++ text))
+    (λ is. grew_twice old mid new head text
+    (rw c.format-format.ensures.value at c.in_ok-write_head.ensures.written) is)
+    c.write_picture.ensures.written
+
+pub returns-clause-part : goal.returns-clause-part
+returns-clause-part g c =
+    let took = g.K.ByteSink.took in
+    let head = head_for c.args.begun c.args.picture.now.format in
+    let text = form_text c.args.picture.now in
+    let old = took c.args.sink.now in
+    let mid = took c.write_head.new.sink in
+    let new = took c.write_picture.new.sink in
+    on_err c.write_picture.result (GrowsPart mid new text) (GrowsSome old new (head ++ text))
+    (λ is. grows_then old mid new head text
+    (rw c.format-format.ensures.value at c.in_ok-write_head.ensures.written)
+    (grows_part mid new text is)) c.write_picture.ensures.part
+
+pub returns-in_err-write_head-clause-part : goal.returns-in_err-write_head-clause-part
+returns-in_err-write_head-clause-part g c =
+    let p = err_from_is_err_and c.from_residual.result c.from_residual.ensures.1 in
+    let took = g.K.ByteSink.took in
+    rw (p.1)
+    (grows_first (took c.args.sink.now) (took c.write_head.new.sink)
+    (head_for c.args.begun c.args.picture.now.format) (form_text c.args.picture.now)
+    (rw c.format-format.ensures.value at c.in_err-write_head.ensures.part))

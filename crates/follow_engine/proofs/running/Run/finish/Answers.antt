@@ -8,6 +8,7 @@ use Rattle.path_receiver.specs.Sliding.{with_window}
 use Rattle.st_format.specs.Raster.{Raster}
 use Rattle.follow_engine.specs.Running.{running_of}
 use Rattle.follow_engine.proofs.Blamed.{blames_both}
+use Rattle.follow_engine.proofs.Cut.{leaving_cut}
 use Rattle.follow_engine.proofs.Leaving.{left_all, left_more, left_none, oldest_frames}
 use Rattle.follow_engine.proofs.Turns.{run_oldest}
 use Rattle.follow_engine.proofs.running.Run.finish.Goals as goal
@@ -99,3 +100,18 @@ returns-clause-finished g c =
       running = all.0;
       told = all.1;
     }
+
+pub returns-in_err-leave-clause-part : goal.returns-in_err-leave-clause-part
+returns-in_err-leave-clause-part g c =
+    let p = err_from_is_err_and c.from_residual.result c.from_residual.ensures.1 in
+    let l = c.loop-self in
+    let old = l.self in
+    let out = c.hand_out-handed in
+    let took = g.O.ByteSink.took in
+    rw (p.1)
+    (leaving_cut g.P.PictureSink.takes g.P.PictureSink.fails (running_of c.args.self.now)
+    (running_of old) c.args.pictures.now l.pictures c.leave.new.pictures (took c.args.output.now)
+    (took l.output) (took c.leave.new.output) (handed_as out.result out.new.frame)
+    out.new.follower l.invariant.left
+    (oldest_frames old.follower out.new.follower (handed_as out.result out.new.frame)
+    out.ensures.state out.ensures.handed) c.in_err-leave.ensures.part)

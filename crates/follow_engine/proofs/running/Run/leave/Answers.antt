@@ -9,3 +9,6 @@ returns-in-None-clause-left g c =
 
 pub returns-in-Some-clause-left : goal.returns-in-Some-clause-left
 returns-in-Some-clause-left g c = rw c.in-Some.is c.leave_one.ensures.left
+
+pub returns-in-Some-clause-part : goal.returns-in-Some-clause-part
+returns-in-Some-clause-part g c = rw c.in-Some.is c.leave_one.ensures.part

@@ -1,10 +1,12 @@
 use Rattle.std.proofs.Common.{◌∙◌, ap, subst, sym}
+use Rattle.std.proofs.lemmas.Result.{err_from_is_err_and}
 use Rattle.following.specs.Follower.{Following, IsFollower}
 use Rattle.following.specs.Turned.{handed_as}
 use Rattle.following.specs.declared.restarts.Restarts.{Restarts}
 use Rattle.st_format.specs.Raster.{Raster}
 use Rattle.follow_engine.specs.Events.{Running}
 use Rattle.follow_engine.specs.Running.{running_of}
+use Rattle.follow_engine.proofs.Cut.{turn_cut}
 use Rattle.follow_engine.proofs.Turns.{anew_told, run_turned, turn_told}
 use Rattle.follow_engine.proofs.running.Run.turn.Goals as goal
 
@@ -44,3 +46,18 @@ returns-clause-anew g c =
     let was = c.args.self.now in
     anew_told (running_of was) c.args.octets.now was.restarts.bound c.take_turn-turn.result.answer
     c.note-anew.result c.requires.bound c.take_turn-turn.ensures.answer c.note-anew.ensures.anew
+
+pub returns-in_err-leave-clause-part : goal.returns-in_err-leave-clause-part
+returns-in_err-leave-clause-part g c =
+    let p = err_from_is_err_and c.from_residual.result c.from_residual.ensures.1 in
+    let was = c.args.self.now in
+    let took = g.O.ByteSink.took in
+    let turn = c.take_turn-turn in
+    let noted = c.note-anew in
+    rw (p.1)
+    (turn_cut g.P.PictureSink.takes g.P.PictureSink.fails was.is_eager (running_of was)
+    (running_of noted.new.self) c.args.octets.now was.restarts.bound turn.result.answer
+    turn.new.follower (handed_as turn.result.handed noted.new.self.frame) c.args.pictures.now
+    c.leave.new.pictures (took c.args.output.now) (took c.leave.new.output) turn.ensures.answer
+    (ap (λ (r : Raster). handed_as turn.result.handed r) noted.ensures.frame
+    ∙ turn.ensures.handed) noted.ensures.noted c.in_err-leave.ensures.part)

@@ -1,0 +1,9 @@
+-- Words and numbers, one behind the other.
+use Rattle.std.proofs.Common.{◌≡◌, ◌∙◌, ℕ, List, ◌++◌, ap, append_assoc}
+
+-- a word and a number were added, and then the rest
+pub number_then : (s t u word number rest : List ℕ) → t ≡ s ++ (word ++ number) → u ≡ t ++ rest
+    → u ≡ s ++ (word ++ (number ++ rest))
+number_then s t u word number rest one more =
+    more ∙ ap (λ (l : List ℕ). l ++ rest) one ∙ append_assoc s (word ++ number) rest
+    ∙ ap (λ (l : List ℕ). s ++ l) (append_assoc word number rest)

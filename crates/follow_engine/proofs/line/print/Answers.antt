@@ -1,0 +1,5 @@
+use Rattle.run_outcome.proofs.Blaming.{failed_one}
+use Rattle.follow_engine.proofs.line.print.Goals as goal
+
+pub returns-in-Err-clause-failures : goal.returns-in-Err-clause-failures
+returns-in-Err-clause-failures g c = failed_one _ _ c.in-Err.ensures.counted

@@ -1,0 +1,171 @@
+-- Against what a run of `follow` read that ended well no refusal speaks.
+use Rattle.std.proofs.Common.{◌≡◌, ◌∙◌, ℕ, zero, suc, inl, inr, List, [], ◌∷◌, length}
+use Rattle.std.proofs.Common.{Option, None, Some, Result, refl, sym, ap, subst, arith}
+use Rattle.std.specs.Prelude.{MatchOption, ⊤}
+use Rattle.std.specs.List.{AllByRecursion, AllZip}
+use Rattle.flow.specs.declared.flows.Flows.{Flows}
+use Rattle.media_file.specs.Records.{Entry}
+use Rattle.path_receiver.specs.Opening.{Opening}
+use Rattle.path_receiver.specs.declared.fault.OpenFault.TheVariants as open_fault
+use Rattle.recording_engines.specs.Imported.{AreOver}
+use Rattle.recording_engines.specs.Joining.{Strand}
+use Rattle.recording_reader.specs.Files.{text_of_file}
+use Rattle.run_outcome.specs.declared.refusal.Refusal.{Refusal}
+use Rattle.run_outcome.specs.declared.refusal.Refusal.TheVariants as why
+use Rattle.capture_engines.specs.Files.{first_way, other_ways}
+use Rattle.capture_engines.specs.Received.{OneFileIs, StopsFile}
+use Rattle.capture_engines.specs.Taking.{AnnouncesStream}
+use Rattle.side_by_side.specs.InOrder.{record_count}
+use Rattle.side_by_side.specs.Strands.{Goes, GoesWhole, TakesAt}
+use Rattle.side_by_side.specs.declared.steering.Steering.{Steering}
+use Rattle.following.specs.Following.{Handed}
+use Rattle.follow_engine.specs.Followed.{FollowsWhole}
+use Rattle.follow_engine.specs.Order.{AreTakenBy, strands_by}
+use Rattle.follow_engine.specs.Refused.{FirstRefuses, IsFileRefusal, IsFirstRefusal}
+use Rattle.follow_engine.specs.Refused.{IsFollowRefusal, IsOpeningRefusal, IsWordRefusal}
+use Rattle.follow_engine.specs.Running.{steering_of}
+use Rattle.follow_engine.specs.declared.opening.FollowAsked.{FollowAsked}
+use Rattle.follow_engine.specs.declared.telling.FollowTotals.{FollowTotals}
+use Rattle.follow_engine.proofs.Counted.{whole_count}
+use Rattle.run_laws.specs.Streams.{HaveFew}
+use Rattle.run_laws.proofs.NoTextFault.{no_text_fault}
+use Rattle.run_laws.proofs.WholeFiles.{IsFaultless, fault_never, stops_never}
+
+-- ---- files that go to their ends have no fault
+
+abbrev HaveNoFault : List Strand → Type 0
+HaveNoFault ss = AllByRecursion (λ s. s.fault ≡ None) ss
+
+takes_none : (place : ℕ) (ss left : List Strand) (e : Entry) → TakesAt place ss e left
+    → HaveNoFault left → HaveNoFault ss
+takes_none place [] left e takes none = tt
+takes_none place (s ∷ ss) [] e takes none = absurd takes
+takes_none zero (s ∷ ss) (l ∷ ls) e takes none = (
+  ap (λ (x : Strand). x.fault) takes.0 ∙ none.0,
+  subst (λ (x : List Strand). HaveNoFault x) takes.1 none.1,
+)
+takes_none (suc place) (s ∷ ss) (l ∷ ls) e takes none = (
+  ap (λ (x : Strand). x.fault) (sym takes.0) ∙ none.0,
+  takes_none place ss ls e takes.1 none.1,
+)
+
+goes_none : (st : Steering) (ss : List Strand) (es : List Entry) (left : List Strand)
+    → Goes st ss es left → HaveNoFault left → HaveNoFault ss
+goes_none st ss [] left goes none = subst (λ (x : List Strand). HaveNoFault x) goes none
+goes_none st ss (e ∷ es) left goes none =
+    takes_none goes.1.place ss goes.0 e goes.1.takes (goes_none st goes.0 es left goes.2 none)
+
+over_none : (ss : List Strand) → AreOver ss → HaveNoFault ss
+over_none [] over = tt
+over_none (s ∷ ss) over = (ap (λ (x : Strand). x.fault) over.0, over_none ss over.1)
+
+whole_none : (st : Steering) (ss : List Strand) (es : List Entry) → GoesWhole st ss es
+    → HaveNoFault ss
+whole_none st ss es goes = goes_none st ss es goes.left goes.goes (over_none goes.left goes.over)
+
+-- so each is one that nothing stops
+abbrev AreFaultless : List (Result Flows Refusal) → List (List ℕ) → Type 0
+AreFaultless ways [] = ⊤
+AreFaultless ways (octets ∷ files) =
+    IsFaultless (first_way ways) octets × AreFaultless (other_ways ways) files
+
+are_faultless : (ways : List (Result Flows Refusal)) (octets : List (List ℕ))
+    → HaveNoFault (strands_by ways octets) → AreTakenBy ways octets → HaveFew ways octets
+    → AreFaultless ways octets
+are_faultless ways [] none by few = tt
+are_faultless ways (o ∷ os) none by few = (
+  record { none = none.0; few = few.0; by_flows = by.0 },
+  are_faultless (other_ways ways) os none.1 by.1 few.1,
+)
+
+module _ {F : Type 0} (told : F → List ℕ → Type 0) where
+  stop_not : (ways : List (Result Flows Refusal)) (files : List F) (octets : List (List ℕ))
+      (r : Refusal) → AllZip told files octets → AreFaultless ways octets
+      → OneFileIs (λ w s. StopsFile w (told s) r) ways files → ⊥
+  stop_not ways [] octets r read are wrong = wrong
+  stop_not ways (s ∷ ss) [] r read are wrong = absurd read
+  stop_not ways (s ∷ ss) (o ∷ os) r read are (inl wrong) =
+      stops_never (first_way ways) (told s) o r read.0 are.0 wrong
+  stop_not ways (s ∷ ss) (o ∷ os) r read are (inr wrong) =
+      stop_not (other_ways ways) ss os r read.1 are.1 wrong
+
+  fault_not : (ways : List (Result Flows Refusal)) (files : List F) (octets : List (List ℕ))
+      (r : Refusal) → AllZip told files octets → AreFaultless ways octets
+      → OneFileIs (λ w s. IsFileRefusal (told s) r) ways files → ⊥
+  fault_not ways [] octets r read are wrong = wrong
+  fault_not ways (s ∷ ss) [] r read are wrong = absurd read
+  fault_not ways (s ∷ ss) (o ∷ os) r read are (inl wrong) =
+      fault_never o wrong.0 are.0.none (wrong.2 o read.0)
+  fault_not ways (s ∷ ss) (o ∷ os) r read are (inr wrong) =
+      fault_not (other_ways ways) ss os r read.1 are.1 wrong
+
+-- ---- the text
+
+text_not : (o : Opening) (text : List ℕ) (r : Refusal) → AnnouncesStream text o
+    → IsOpeningRefusal text r → ⊥
+text_not o text (why.Sdp at) says wrong =
+    no_text_fault text says.description at.fault says.described wrong
+text_not o text r says wrong = absurd wrong
+
+first_text_not : (o : Opening) (text : List ℕ) (r : Refusal) → AnnouncesStream text o
+    → IsFirstRefusal text r → ⊥
+first_text_not o text r says (inl wrong) =
+    let announced : AnnouncesStream [] o =
+    subst (λ (t : List ℕ). AnnouncesStream t o) wrong.1 says in
+    absurd announced.described
+first_text_not o text r says (inr wrong) = text_not o text r says wrong.1
+
+-- ---- the run
+
+module _ {F K : Type 0} (told : F → List ℕ → Type 0) (w : FollowAsked)
+    (ways : List (Result Flows Refusal)) (takes : K → Handed → K → Type 0) (old new : K)
+    (took took' : List ℕ) (totals : FollowTotals)
+  where
+    abbrev Run : Option (List ℕ) → List F → Type 0
+    Run sdp files = FollowsWhole w sdp ways told files takes old new took took' totals
+
+    word_not : (sdp : Option (List ℕ)) (files : List F) (r : Refusal) → Run sdp files
+        → IsWordRefusal w.frames w.ssrc.now r → ⊥
+    word_not sdp files (why.Open open_fault.BadWindow) run wrong = wrong run.size
+    word_not sdp files why.ReceiveSource run wrong = wrong run.opening.ssrc run.source_is
+    word_not sdp files r run wrong = absurd wrong
+
+    given_not : (sdp : Option (List ℕ)) (files : List F) (octets : List (List ℕ)) (r : Refusal)
+        → Run sdp files → AllZip told files octets
+        → MatchOption sdp ⊥ (λ text. IsOpeningRefusal text r) → ⊥
+    given_not None files octets r run read wrong = wrong
+    given_not (Some text) files octets r run read wrong =
+        text_not run.opening text r (run.announced octets text read refl) wrong
+
+    first_not : (sdp : Option (List ℕ)) (files : List F) (octets : List (List ℕ)) (r : Refusal)
+        → Run sdp files → AllZip told files octets
+        → MatchOption sdp (FirstRefuses told files r) (λ _. ⊥) → ⊥
+    first_not (Some text) files octets r run read wrong = wrong
+    first_not None [] octets r run read wrong = run.has_text refl refl
+    first_not None (s ∷ ss) [] r run read wrong = absurd read
+    first_not None (s ∷ ss) (o ∷ os) r run read wrong =
+        first_text_not run.opening (text_of_file o) r
+        (run.announced (o ∷ os) (text_of_file o) read refl) (wrong o read.0)
+
+    pub follow_not : (sdp : Option (List ℕ)) (files : List F) (octets : List (List ℕ))
+        (r : Refusal) → Run sdp files → AllZip told files octets → HaveFew ways octets
+        → IsFollowRefusal w.frames w.ssrc.now sdp ways told files r → ⊥
+    follow_not sdp files octets r run read few wrong =
+        let goes = run.goes octets read in
+        let strands : List Strand = strands_by ways octets in
+        let st : Steering = steering_of run.opening in
+        let are : AreFaultless ways octets =
+        are_faultless ways octets (whole_none st strands run.entries goes)
+        (run.by_flows octets read) few in
+        by are (whole_count st strands run.entries goes) wrong
+      where
+        by : AreFaultless ways octets → record_count (strands_by ways octets) ≡ length run.entries
+            → IsFollowRefusal w.frames w.ssrc.now sdp ways told files r → ⊥
+        by are count (inl word) = word_not sdp files r run word
+        by are count (inr (inl given)) = given_not sdp files octets r run read given
+        by are count (inr (inr (inl stop))) = stop_not told ways files octets r read are stop
+        by are count (inr (inr (inr (inl first)))) = first_not sdp files octets r run read first
+        by are count (inr (inr (inr (inr (inl fault))))) =
+            fault_not told ways files octets r read are fault
+        by are count (inr (inr (inr (inr (inr many))))) =
+            omega (arith, count, run.few, many.1 octets read)
