@@ -23,6 +23,7 @@ flows_in (way.Flows flows) = Some flows
 flows_in (way.Refused r) = None
 flows_in way.Capture = None
 
+-- a file is taken by these flows, or a recording is not, for this reason
 abbrev pub way_by : Result Flows Refusal → Way
 way_by (Ok flows) = way.Flows flows
 way_by (Err r) = way.Refused r
@@ -32,6 +33,7 @@ abbrev pub first_way : List (Result Flows Refusal) → Way
 first_way [] = way.Capture
 first_way (w ∷ ws) = way_by w
 
+-- how the files behind the first are taken
 abbrev pub other_ways : List (Result Flows Refusal) → List (Result Flows Refusal)
 other_ways [] = []
 other_ways (w ∷ ws) = ws

@@ -39,6 +39,7 @@ pub record Came (turns delivered : ℕ) (before now : List (Path × List ℕ)) (
 abbrev pub ended_line : List ℕ → List ℕ
 ended_line line = line ++ 10 ∷ []
 
+-- how many datagrams were sent and delivered, and what a picture has then
 abbrev pub loop_text : ℕ → ℕ → Counts → List ℕ
 loop_text sent delivered counts =
     ended_line (line_text (Sent sent)) ++ (ended_line (line_text (Delivered delivered))

@@ -33,6 +33,7 @@ pub record Passed : Type 0 where
   pub took : List ℕ
   pub sink_failures : ℕ
 
+-- what was passed on, from its parts
 abbrev pub passed : List ℕ → ℕ → List ℕ → ℕ → Passed
 passed gave source_failures took sink_failures = record {
   gave = gave;

@@ -83,6 +83,7 @@ abbrev pub said_if : Option (List ℕ) → Option Front → Option (List ℕ)
 said_if said None = said
 said_if said (Some p) = said_by said p.text
 
+-- the datagrams that were taken of a part of a file
 abbrev pub datagrams_if : Option Front → List (List ℕ)
 datagrams_if None = []
 datagrams_if (Some p) = p.datagrams

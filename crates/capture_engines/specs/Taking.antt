@@ -121,11 +121,13 @@ abbrev pub TakesRecords : {A : Type 0} → Asked A → List ℕ → List (List �
 TakesRecords o text datagrams before after =
     RecordsGo text datagrams (Stands o before) (Stands o after)
 
+-- so a file was taken, to its end
 abbrev pub TakesFile : {A : Type 0} → Asked A → Way → (List ℕ → Type 0) → Option (Intake A)
     → Option (Intake A) → Type 0
 TakesFile o w told before after =
     FileGoes w told (Stands o before) (Stands o after) × IsReadWhole w told
 
+-- so all files were, each to its end
 abbrev pub TakesFiles : {S A : Type 0} → Asked A → List (Result Flows Refusal)
     → (S → List ℕ → Type 0) → List S → Option (Intake A) → Option (Intake A) → Type 0
 TakesFiles o ways told files before after =

@@ -73,6 +73,7 @@ IsSetRefusal target a b f r =
 abbrev pub flow_form : Bool → FlowForm
 flow_form is_json = if is_json then lines.Json else lines.Lines
 
+-- the form in which streams are told
 abbrev pub stream_form : Bool → StreamForm
 stream_form is_json = if is_json then columns.Json else columns.Columns
 
@@ -87,6 +88,7 @@ TellsStream w is_json old new shown shown' =
     streams.Tells w (stream_form is_json) (said_text old.said) old.ways.items ReplayedRead
     (zip old.recordings.items new.recordings.items) None shown shown'
 
+-- what was printed is what was asked for: the flows, or a stream
 abbrev pub TellsAim : Aim → Bool → Inspected → Inspected → List ℕ → List ℕ → Type 0
 TellsAim aim.Flows is_json old new shown shown' =
     TellsFlows is_json old.flows.items new.flows.items shown shown'
@@ -99,11 +101,13 @@ abbrev pub IsFlowsRefusal : Bool → List Replayed → List Replayed → List �
 IsFlowsRefusal is_json old new shown shown' =
     flows.IsInspectRefusal (flow_form is_json) ReplayedRead (zip old new) shown shown'
 
+-- so of a stream that is told
 abbrev pub IsStreamRefusal : Wanted → Bool → Files → Files → List ℕ → List ℕ → Refusal → Type 0
 IsStreamRefusal w is_json old new shown shown' r =
     streams.IsStreamsRefusal w (stream_form is_json) (said_text old.said) old.ways.items
     ReplayedRead (zip old.recordings.items new.recordings.items) shown shown' r
 
+-- so of what was asked for
 abbrev pub IsAimRefusal : Aim → Bool → Inspected → Inspected → List ℕ → List ℕ → Refusal → Type 0
 IsAimRefusal aim.Flows is_json old new shown shown' r =
     IsFlowsRefusal is_json old.flows.items new.flows.items shown shown' r
@@ -116,6 +120,7 @@ abbrev pub AccountsRead : List Replayed → List Replayed → Failures → Resul
 AccountsRead old new output outcome = Accounts outcome
     (counts (sum_by replayed_failures old) (sum_by replayed_failures new) ∷ output ∷ [])
 
+-- so by what was asked for
 abbrev pub AccountsAim : Aim → Inspected → Inspected → Failures → Result (Unit {0}) Fault → Type 0
 AccountsAim aim.Flows old new output outcome =
     AccountsRead old.flows.items new.flows.items output outcome

@@ -24,6 +24,7 @@ IsCapture r = BeginsAsCapture r true
 abbrev pub IsNoCapture : Replayed → Type 0
 IsNoCapture r = BeginsAsCapture r false ⊎ (0 < file_failures r.file)
 
+-- it was found that a file begins as a capture, or that it doesn't
 abbrev pub IsLooked : Bool → Replayed → Type 0
 IsLooked true r = IsCapture r
 IsLooked false r = IsNoCapture r

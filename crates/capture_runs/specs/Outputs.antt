@@ -72,9 +72,11 @@ FilesFrames filling fill frames (Some d) None = ⊥
 FilesFrames filling fill frames (Some d) (Some e) = filed_files e.directory
     ≡ filed_files d.directory ++ files_for frames (pictures_of filling fill None frames)
 
+-- how often a directory of pictures failed
 abbrev pub pictures_failures : PictureDirectory → ℕ
 pictures_failures d = directory_failures d.directory
 
+-- how often the files failed that a run writes, all together
 abbrev pub written_failures : FollowOutputs → ℕ
 written_failures o = failures_in writing_failures o.out
     + (failures_in writing_failures o.report + failures_in pictures_failures o.pictures)
@@ -96,6 +98,7 @@ IsReportOver (Some f) (Some k) = k.sink.file ≡ f
 abbrev pub report_under : Option (ReportSink UnplacedOutput) → Option FileOutput
 report_under k = option_map (λ s. s.sink.file) k
 
+-- how often the file of a report failed
 abbrev pub report_failures : ReportSink UnplacedOutput → ℕ
 report_failures k = writing_failures k.sink.file
 
@@ -116,6 +119,7 @@ directory_under k = option_map (λ s. s.files) k
 abbrev pub files_under : PictureDirectory → List (List ℕ × List ℕ)
 files_under d = filed_files d.directory
 
+-- how often the directory failed that pictures are filed in
 abbrev pub files_failures : {A : Type 0} → FilesSink PictureDirectory A → ℕ
 files_failures k = directory_failures k.files.directory
 
@@ -124,11 +128,13 @@ abbrev pub FollowSinks : Type 0 → Type 0
 FollowSinks A = BothSinks (Option (FormSink UnplacedOutput A))
     (BothSinks (Option (ReportSink UnplacedOutput)) (Option (FilesSink PictureDirectory A)))
 
+-- the sinks stand over these files, and no picture was settled
 abbrev pub AreSinksOver : {A : Type 0} → Filling → Option (List ℕ) → FollowOutputs → FollowSinks A
     → Type 0
 AreSinksOver filling fill o k = IsSinkOver filling fill o.out k.first
     × IsReportOver o.report k.second.first × IsFilesOver filling fill o.pictures k.second.second
 
+-- the files that sinks write to
 abbrev pub outputs_under : {A : Type 0} → FollowSinks A → FollowOutputs
 outputs_under k = outputs_of (file_under k.first) (report_under k.second.first)
     (directory_under k.second.second)
@@ -138,6 +144,7 @@ abbrev pub TakesAllOver : {A : Type 0} → FollowSinks A → Handed → FollowSi
 TakesAllOver k h l = TakesBoth (TakesIn (TakesFrame octets_under))
     (TakesBoth (TakesIn (TakesLines octets_under)) (TakesIn (FilesFrame files_under))) k h l
 
+-- how often the files under sinks failed, all together
 abbrev pub sinks_failures : {A : Type 0} → FollowSinks A → ℕ
 sinks_failures k = failures_in failures_under k.first
     + (failures_in report_failures k.second.first + failures_in files_failures k.second.second)

@@ -28,6 +28,7 @@ SaysNoFill None = ⊥
 SaysNoFill (Some text) =
     (a b c : ℕ) → a < 65536 → b < 65536 → c < 65536 → IsFillText text a b c → ⊥
 
+-- the refusal of such a text
 abbrev pub IsFillRefusal : Option (List ℕ) → Refusal → Type 0
 IsFillRefusal text r = (r ≡ FollowFill) × SaysNoFill text
 
@@ -49,6 +50,7 @@ file_under pictures = option_map (λ k. k.sink.file) pictures
 abbrev pub octets_under : UnplacedOutput → List ℕ
 octets_under s = sink_took s.file.sink
 
+-- how often the file under a sink of pictures failed
 abbrev pub failures_under : {A : Type 0} → FormSink UnplacedOutput A → ℕ
 failures_under k = writing_failures k.sink.file
 

@@ -5,6 +5,7 @@ use Rattle.capture_runs.specs.declared.replayed.Replayed.{Replayed}
 use Rattle.devices.specs.Passed.{file_failures, file_gave}
 use Rattle.run_outcome.specs.Moments.{WasRead}
 
+-- what a file gave so far: what is remembered, as far as it was given again, and what came behind
 abbrev pub replayed_gave : Replayed → List ℕ
 replayed_gave r = replay_gave (file_gave r.file) r.memory.items r.at
 

@@ -11,6 +11,7 @@ abbrev pub begun_took : {R F D A : Type 0} → Option (Draft R F D A) → List �
 begun_took None = []
 begun_took (Some d) = draft_took d
 
+-- what was written of the file that is next to take its name, where it was begun
 abbrev pub next_took : NextFile → List ℕ
 next_took f = begun_took f.draft
 
@@ -26,5 +27,6 @@ file_of f = (f.name.octets, f.took.octets)
 abbrev pub filed_files : DirectoryOutput → List (List ℕ × List ℕ)
 filed_files d = map file_of d.filed.items
 
+-- how often a file of the directory could not be begun, written or given its name
 abbrev pub directory_failures : DirectoryOutput → ℕ
 directory_failures d = next_failures d.file

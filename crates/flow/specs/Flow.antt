@@ -39,20 +39,25 @@ IsInFlow interface source destination port f =
 abbrev pub is_address : IpAddr → List ℕ → Bool
 is_address a octets = bytes_eq (address_octets a) octets
 
+-- whether the flow names no address, or the one of these octets
 abbrev pub is_named : Option IpAddr → List ℕ → Bool
 is_named None octets = true
 is_named (Some a) octets = is_address a octets
 
+-- whether the flow names no interface, or the one at which the datagram was taken
 abbrev pub is_at : Option InterfaceName → Option InterfaceName → Bool
 is_at None interface = true
 is_at (Some name) None = false
 is_at (Some name) (Some other) = bytes_eq name.octets other.octets
 
+-- whether a datagram taken at this interface, from this source to this destination and port, is
+-- of the flow
 abbrev pub has_flow : Flow → Option InterfaceName → List ℕ → List ℕ → ℕ → Bool
 has_flow f interface source destination port =
     f.port == port && is_named f.address destination && is_named f.source source
     && is_at f.interface interface
 
+-- whether a path has a flow, and the datagram is of it
 abbrev pub is_flow_to : Option Flow → Option InterfaceName → List ℕ → List ℕ → ℕ → Bool
 is_flow_to None interface source destination port = false
 is_flow_to (Some f) interface source destination port = has_flow f interface source destination port

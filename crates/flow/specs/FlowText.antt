@@ -28,6 +28,7 @@ IsPlaceText text (Some a) port =
     (host digits : List ℕ) × (text ≡ host ++ (codes ":" ++ digits)) × IsHost host a
     × IsPort digits port
 
+-- a text spells this destination: the address, where there is one, and the port
 abbrev pub IsPlaceOf : List ℕ → Option IpAddr × ℕ → Type 0
 IsPlaceOf text place = IsPlaceText text place.0 place.1
 
@@ -38,6 +39,7 @@ IsSourceText text (Some a) place =
     (host rest : List ℕ) × (text ≡ host ++ (codes ">" ++ rest)) × IsHost host a
     × IsPlaceOf rest place
 
+-- a text spells these ends: the source, where there is one, and the destination
 abbrev pub IsSourceOf : List ℕ → Option IpAddr × (Option IpAddr × ℕ) → Type 0
 IsSourceOf text ends = IsSourceText text ends.0 ends.1
 
@@ -62,21 +64,26 @@ abbrev pub host_text : IpAddr → List ℕ
 host_text (V4 a) = ipv4_text (ipv4_octets a)
 host_text (V6 a) = codes "[" ++ ipv6_text (ipv6_segments a) ++ codes "]"
 
+-- where datagrams are sent to: PORT, or ADDRESS:PORT, the port without leading zeros
 abbrev pub place_text : Option IpAddr → ℕ → List ℕ
 place_text None port = decimal port
 place_text (Some a) port = host_text a ++ codes ":" ++ decimal port
 
+-- SOURCE>, as it stands before the destination; nothing where no source is named
 abbrev pub source_text : Option IpAddr → List ℕ
 source_text None = []
 source_text (Some a) = host_text a ++ codes ">"
 
+-- INTERFACE@, as it stands in front of all; nothing where no interface is named
 abbrev pub interface_text : Option InterfaceName → List ℕ
 interface_text None = []
 interface_text (Some n) = name_text n ++ codes "@"
 
+-- a flow without its interface: where its datagrams come from and where they are sent to
 abbrev pub ends_text : Flow → List ℕ
 ends_text f = source_text f.source ++ place_text f.address f.port
 
+-- a whole flow in the one spelling that is written, of the many that are read
 abbrev pub flow_text : Flow → List ℕ
 flow_text f = interface_text f.interface ++ ends_text f
 

@@ -37,6 +37,7 @@ pub record Running : Type 0 where
 abbrev pub no_answers : FollowTally
 no_answers = record { kept = 0; late = 0; far = 0; refused = 0 }
 
+-- a stream is to be followed by this follower, and nothing was followed yet
 abbrev pub running_from : Following → Running
 running_from s = record {
   follower = s;
@@ -54,6 +55,7 @@ abbrev pub header_time : Result Rtp RtpFault → Option ℕ
 header_time (Ok rtp) = Some rtp.timestamp
 header_time (Err e) = None
 
+-- the timestamp of a datagram, where its header is one (RFC 3550, 5.1)
 abbrev pub time_of : List ℕ → Option ℕ
 time_of octets = header_time (rtp_walk octets)
 
@@ -65,14 +67,17 @@ late_with late (Ok Late) = one_more late
 late_with late (Ok Far) = late
 late_with late (Err e) = late
 
+-- which window the late datagrams want, with one more that is answered so
 abbrev pub need_with : Noted → Option ℕ → Result Followed Refusal → Noted
 need_with need None answer = need
 need_with need (Some timestamp) answer = noted_after need timestamp answer
 
+-- since which timestamp only late or far datagrams came, with one more that is answered so
 abbrev pub since_with : ℕ → Option ℕ → Option ℕ → Result Followed Refusal → Option ℕ
 since_with bound since None answer = since
 since_with bound since (Some timestamp) answer = since_behind bound since timestamp answer
 
+-- a datagram that is answered so is the first of a stream that begins anew
 abbrev pub anew_with : ℕ → Option ℕ → Option ℕ → Result Followed Refusal → Bool
 anew_with bound since None answer = false
 anew_with bound since (Some timestamp) answer = is_restart bound since timestamp answer
@@ -93,6 +98,7 @@ noted_by bound r time answer = record r {
   late = late_with r.late answer;
 }
 
+-- what is noted behind a datagram that is answered so
 abbrev pub answered : Running → Option ℕ → Result Followed Refusal → Running
 answered r time answer = noted_by r.follower.most_ahead r time answer
 
@@ -103,14 +109,17 @@ IsAnewAt false time told = told ≡ None
 
 -- ---- frames that leave
 
+-- frames leave: the late datagrams are told with the first of them
 abbrev pub leaving : ℕ → List Handed → List Event
 leaving late [] = []
 leaving late (h ∷ hs) = Left h late ∷ leaving 0 hs
 
+-- the late datagrams that no frame which leaves has told
 abbrev pub late_left : ℕ → List Handed → ℕ
 late_left late [] = late
 late_left late (h ∷ hs) = 0
 
+-- how many frames left, with these
 abbrev pub frames_with : ℕ → List Handed → ℕ
 frames_with frames [] = frames
 frames_with frames (h ∷ hs) = frames_with (one_more frames) hs
@@ -138,6 +147,7 @@ turn_taken eager r octets =
     without (answered r (time_of octets) (answer_in r.follower octets))
     (handed_in eager r.follower octets) (turned eager r.follower octets)
 
+-- the frame that leaves by a datagram, if one does
 abbrev pub turn_left : Bool → Running → List ℕ → List Event
 turn_left eager r octets =
     leaving (late_with r.late (answer_in r.follower octets)) (handed_in eager r.follower octets)
@@ -147,14 +157,17 @@ abbrev pub is_anew : Running → List ℕ → Bool
 is_anew r octets =
     anew_with r.follower.most_ahead r.since (time_of octets) (answer_in r.follower octets)
 
+-- a timestamp, or 0 where there is none
 abbrev pub time_or_zero : Option ℕ → ℕ
 time_or_zero None = 0
 time_or_zero (Some timestamp) = timestamp
 
+-- what is noted behind a datagram
 unfoldable pub behind : Bool → Running → List ℕ → Running
 behind eager r octets =
     if is_anew r octets then anew (turn_taken eager r octets) else turn_taken eager r octets
 
+-- what happens by a datagram
 unfoldable pub events_at : Bool → Running → List ℕ → List Event
 events_at eager r octets =
     turn_left eager r octets ++ (if is_anew r octets then
@@ -186,11 +199,13 @@ events_of eager r ds = events_in eager r ds ++ events_end (behind_all eager r ds
 abbrev pub ended : Running → Running
 ended r = without r (frames_in r.follower) r.follower
 
+-- what was noted at the end of a stream of these datagrams
 abbrev pub run_end : Bool → Running → List (List ℕ) → Running
 run_end eager r ds = ended (behind_all eager r ds)
 
 -- ---- what is seen of it
 
+-- the frame that left, where one did
 abbrev pub handed_by : Event → Option Handed
 handed_by (Left h late) = Some h
 handed_by (Anew timestamp) = None

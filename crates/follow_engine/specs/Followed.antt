@@ -31,6 +31,7 @@ abbrev pub followed_events : FollowAsked → Opening → List Entry → List Eve
 followed_events w o entries =
     events_of w.is_eager (running_from (opened o w.frames 900000)) (datagrams_in entries)
 
+-- what is noted of the stream of records, by the same follower
 abbrev pub followed_run : FollowAsked → Opening → List Entry → Running
 followed_run w o entries =
     run_end w.is_eager (running_from (opened o w.frames 900000)) (datagrams_in entries)
@@ -95,6 +96,7 @@ pub record TellsPart {K : Type 0} (takes fails : K → Handed → K → Type 0) 
       ++ totals_text (followed_run w o entries))
   pub shown : TakesSome takes fails old (frames_of_events (followed_events w o entries)) new
 
+-- so of files: nothing was printed or shown, or such a first part
 abbrev pub FollowsPart : {S K : Type 0} → FollowAsked → Option (List ℕ)
     → List (Result Flows Refusal) → (S → List ℕ → Type 0) → List S
     → (K → Handed → K → Type 0) → (K → Handed → K → Type 0) → K → K → List ℕ → List ℕ → Type 0

@@ -25,6 +25,7 @@ pub record OpensRun (size : ℕ) (ssrc : Option ℕ) (text : List ℕ) (r : Runn
 
 -- ---- files
 
+-- no file is opened yet
 abbrev pub AllClosedSides : {A S : Type 0} → List (Side A S) → Type 0
 AllClosedSides sides = AllByRecursion (λ s. IsClosed s.file) sides
 

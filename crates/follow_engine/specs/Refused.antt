@@ -44,6 +44,7 @@ abbrev pub IsFirstRefusal : List ℕ → Refusal → Type 0
 IsFirstRefusal text r = ((r ≡ refusal.ReceiveNoSdp) × (text ≡ []))
     ⊎ ((text ≡ [] → ⊥) × IsOpeningRefusal text r)
 
+-- so of the first of some files, by what it told; there may be none
 abbrev pub FirstRefuses : {S : Type 0} → (S → List ℕ → Type 0) → List S → Refusal → Type 0
 FirstRefuses told [] r = r ≡ refusal.ReceiveNoSdp
 FirstRefuses told (s ∷ ss) r =

@@ -12,6 +12,7 @@ use Rattle.follow_engine.specs.Shown.{GrowsSome, TakesAll, TakesSome}
 use Rattle.follow_engine.specs.Telling.{events_text}
 use Rattle.follow_engine.specs.declared.running.Run.{Run}
 
+-- what the code has noted of the stream, as the stream's own state
 abbrev pub running_of : {A : Type 0} → Run A → Running
 running_of r = record {
   follower = r.follower;

@@ -15,6 +15,7 @@ abbrev pub event_text : Event → List ℕ
 event_text (happens.Left h late) = ended_line (line.Left h.timestamp (counts_of h.frame) late)
 event_text (happens.Anew timestamp) = ended_line (line.Anew timestamp)
 
+-- the lines of all that happens, in order
 abbrev pub events_text : List Event → List ℕ
 events_text events = flat_map event_text events
 

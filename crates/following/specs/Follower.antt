@@ -115,6 +115,7 @@ taken_in s octets timestamp Waits = s
 taken_in s octets timestamp Nowhere = s
 taken_in s octets timestamp Beyond = s
 
+-- the follower after octets were taken that are this datagram; what is refused changes nothing
 abbrev pub read_in : Following → List ℕ → Result Datagram Refusal → Following
 read_in s octets (Ok d) = taken_in s octets d.timestamp (standing_of s d.timestamp)
 read_in s octets (Err e) = s
@@ -127,6 +128,7 @@ reading_of o octets = datagram_walk o.format o.payload_type o.ssrc octets
 abbrev pub state_after : Following → List ℕ → Following
 state_after s octets = read_in s octets (reading_of s.opening octets)
 
+-- what becomes of a datagram of this packet number, where its timestamp stands so
 abbrev pub followed_at : ℕ → Standing → Followed
 followed_at number (Inside place) = Kept number
 followed_at number (New place) = Kept number
@@ -139,6 +141,7 @@ abbrev pub answer_to : Following → List ℕ → Result Followed Refusal
 answer_to s octets =
     reading_of s.opening octets >>= λ d. Ok (followed_at d.number (standing_of s d.timestamp))
 
+-- the timestamp that went last, when the oldest of a window has gone, where there was one
 abbrev pub last_gone : Option ℕ → List ℕ → Option ℕ
 last_gone before [] = before
 last_gone before (t ∷ w) = Some t

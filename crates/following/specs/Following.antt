@@ -29,6 +29,7 @@ with_timestamps (t ∷ w) (r ∷ rs) =
 abbrev pub frames_in : Following → List Handed
 frames_in s = with_timestamps s.opening.window s.frames
 
+-- a timestamp that stands so waits for the oldest frame to go
 abbrev pub is_waiting : Standing → Bool
 is_waiting (Inside place) = false
 is_waiting (New place) = false
@@ -36,6 +37,7 @@ is_waiting Waits = true
 is_waiting Nowhere = false
 is_waiting Beyond = false
 
+-- what was read is a datagram whose timestamp waits for the oldest frame to go
 abbrev pub waits_for : Following → Result Datagram Refusal → Bool
 waits_for s (Ok d) = is_waiting (standing_of s d.timestamp)
 waits_for s (Err e) = false
@@ -48,6 +50,7 @@ is_due s octets = waits_for s (reading_of s.opening octets)
 abbrev pub handed_before : Following → List ℕ → List Handed
 handed_before s octets = if is_due s octets then take 1 (frames_in s) else []
 
+-- the follower as a datagram finds it: without its oldest frame, where that was due
 abbrev pub ready_for : Following → List ℕ → Following
 ready_for s octets = if is_due s octets then without_oldest s else s
 
@@ -67,6 +70,7 @@ abbrev pub RiseFrom : Option ℕ → List ℕ → Type 0
 RiseFrom before [] = ⊤
 RiseFrom before (t ∷ ts) = IsTrue (is_behind before t) × RiseFrom (Some t) ts
 
+-- what becomes of a datagram says that the oldest frame is due
 abbrev pub is_due_by : Followed → Bool
 is_due_by (Kept number) = false
 is_due_by Due = true

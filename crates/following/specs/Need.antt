@@ -33,6 +33,7 @@ newest_with newest place timestamp =
     if nat_lt (length newest) 16 then insert newest place timestamp else
     (if place == 0 then newest else insert (drop 1 newest) (place - 1) timestamp)
 
+-- the newest timestamps behind one that comes, by its place; one that is there changes nothing
 abbrev pub newest_after : List ℕ → ℕ → ℕ → List ℕ
 newest_after newest place timestamp =
     if is_there newest place timestamp then newest else newest_with newest place timestamp
@@ -51,6 +52,7 @@ noted_after n timestamp answer = if comes_of answer then noted_at n timestamp el
 
 -- ---- what that says of a stream
 
+-- what is noted before any timestamp comes
 abbrev pub none_noted : Noted
 none_noted = record { newest = []; need = 0 }
 

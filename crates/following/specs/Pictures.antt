@@ -33,6 +33,7 @@ abbrev pub timed_from : Opening → ℕ → List ℕ → Timed
 timed_from o base octets =
     record { time = time_behind base (reading_of o octets); octets = octets }
 
+-- the times of the datagrams for the receiver, in the round that begins at base, as they came
 abbrev pub times_from : Opening → ℕ → List (List ℕ) → List ℕ
 times_from o base datagrams = times_of o (map (timed_from o base) datagrams)
 

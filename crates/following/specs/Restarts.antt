@@ -13,6 +13,7 @@ pub record Told : Type 0 where
   pub timestamp : ℕ
   pub answer : Result Followed Refusal
 
+-- the timestamp of the first lost datagram behind one more: that from before, or else this one
 abbrev pub first_lost : Option ℕ → ℕ → Option ℕ
 first_lost None timestamp = Some timestamp
 first_lost (Some before) timestamp = Some before
@@ -45,6 +46,7 @@ abbrev pub lost_behind : Option ℕ → List Told → Option ℕ
 lost_behind since [] = since
 lost_behind since (x ∷ xs) = lost_behind (lost_since since x.timestamp x.answer) xs
 
+-- the answer says that the datagram was kept
 abbrev pub is_kept : Result Followed Refusal → Bool
 is_kept (Ok (Kept number)) = true
 is_kept (Ok Due) = false

@@ -14,5 +14,6 @@ ahead_of a b = (a % 2 ^ 32 + (2 ^ 32 - b % 2 ^ 32)) % 2 ^ 32
 unfoldable pub is_newer : ℕ → ℕ → Bool
 is_newer a b = nat_lt 0 (ahead_of a b) && nat_lt (ahead_of a b) (2 ^ 31)
 
+-- It holds that the one is newer than the other. RFC 1982, 3.2
 abbrev pub IsNewer : ℕ → ℕ → Type 0
 IsNewer a b = IsTrue (is_newer a b)

@@ -6,6 +6,7 @@ use Rattle.path_receiver.specs.Opening.{Opening}
 use Rattle.following.specs.Follower.{Following}
 use Rattle.following.specs.Times.{frame_of}
 
+-- A frame, if it is in, is the Frames at this timestamp of these datagrams; else there are none.
 abbrev pub IsFrameOf : Option Raster → Opening → List (List ℕ) → ℕ → Type 0
 IsFrameOf None o datagrams timestamp = datagrams ≡ []
 IsFrameOf (Some r) o datagrams timestamp = r ≡ frame_of o datagrams timestamp

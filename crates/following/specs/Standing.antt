@@ -13,6 +13,7 @@ abbrev pub place_in : ℕ → List ℕ → ℕ
 place_in timestamp [] = 0
 place_in timestamp (t ∷ w) = if is_newer timestamp t then suc (place_in timestamp w) else 0
 
+-- there is a timestamp, and it is this one
 abbrev pub is_that : Option ℕ → ℕ → Bool
 is_that None timestamp = false
 is_that (Some t) timestamp = t == timestamp
@@ -40,6 +41,7 @@ standing_at window gone size timestamp place =
     (if is_behind gone timestamp && list_all (λ t. is_newer t timestamp) (drop place window)
     then entry_at (length window) size place else Nowhere)
 
+-- where a timestamp stands to a window and to what has gone, with places for so many frames
 abbrev pub standing_in : List ℕ → Option ℕ → ℕ → ℕ → Standing
 standing_in window gone size timestamp =
     standing_at window gone size timestamp (place_in timestamp window)

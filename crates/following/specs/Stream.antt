@@ -28,6 +28,7 @@ not_shown (Ok r) frame = []
 not_shown (Err (Source e)) frame = []
 not_shown (Err (Sink e)) frame = handed_as (Some e.timestamp) frame
 
+-- so many turns as the limit; or fewer, where the source ended
 abbrev pub AreEnough : ℕ → Bool → ℕ → Type 0
 AreEnough limit false turns = turns ≡ limit
 AreEnough limit true turns = turns < limit

@@ -23,13 +23,16 @@ abbrev pub AreTimed : Opening → List Timed → Type 0
 AreTimed o xs = (x : Timed) (d : Datagram) → IsMember x xs → reading_of o x.octets ≡ Ok d
     → d.timestamp ≡ wrapped x.time
 
+-- datagrams without their times
 abbrev pub octets_of : List Timed → List (List ℕ)
 octets_of xs = map (λ x. x.octets) xs
 
+-- the time of octets, if they were read as a datagram; none of what is refused
 abbrev pub time_if : ℕ → Result Datagram Refusal → List ℕ
 time_if time (Ok d) = time ∷ []
 time_if time (Err e) = []
 
+-- the time of a datagram for the receiver; none of other octets
 abbrev pub time_of : Opening → Timed → List ℕ
 time_of o x = time_if x.time (reading_of o x.octets)
 
@@ -43,6 +46,7 @@ with_time u [] = u ∷ []
 with_time u (v ∷ vs) =
     if v == u then v ∷ vs else (if nat_lt u v then u ∷ v ∷ vs else v ∷ with_time u vs)
 
+-- a rising list, with the times of another each at its place, once
 abbrev pub in_order_behind : List ℕ → List ℕ → List ℕ
 in_order_behind vs [] = vs
 in_order_behind vs (u ∷ us) = in_order_behind (with_time u vs) us
@@ -116,6 +120,7 @@ pub record IsInHalf (base u : ℕ) : Type 0 where
   pub from : base ≤ u
   pub below : u < base + 2 ^ 31
 
+-- all times of a list are within the half round that begins at base
 abbrev pub AreInHalf : ℕ → List ℕ → Type 0
 AreInHalf base us = (u : ℕ) → IsMember u us → IsInHalf base u
 

@@ -69,6 +69,7 @@ abbrev pub handed_as : Option ℕ → Raster → List Handed
 handed_as None frame = []
 handed_as (Some timestamp) frame = record { timestamp = timestamp; frame = frame } ∷ []
 
+-- what becomes of a datagram: it was late, or too far ahead
 abbrev pub is_lost_by : Followed → Bool
 is_lost_by (Kept number) = false
 is_lost_by Due = false
@@ -80,6 +81,7 @@ abbrev pub is_lost : Result Followed Refusal → Bool
 is_lost (Ok f) = is_lost_by f
 is_lost (Err e) = false
 
+-- a datagram before those that were kept, unless it was lost
 abbrev pub with_kept : Bool → Timed → List Timed → List Timed
 with_kept lost x xs = if lost then xs else x ∷ xs
 

@@ -51,6 +51,7 @@ head_as Ycc422 f = y4m_head f
 head_as Ycc444 f = y4m_head f
 head_as Rgb f = []
 
+-- so of a format, by its sampling
 abbrev pub form_head : Format → List ℕ
 form_head f = head_as f.sampling f
 

@@ -32,9 +32,10 @@ IsInterfaceName name = (text : List ℕ) × IsName text name
 abbrev pub name_of : List ℕ → Option InterfaceName
 name_of text = if is_name text then Some (record { octets = filled text }) else None
 
--- the text that is written of a name: its octets, without the zeros behind them
+-- the text of an octet of a name; of a zero behind it there is none
 abbrev pub shown : ℕ → List ℕ
 shown c = if is_name_octet c then c ∷ [] else []
 
+-- the text that is written of a name: its octets, without the zeros behind them
 abbrev pub name_text : InterfaceName → List ℕ
 name_text name = flat_map shown name.octets

@@ -19,6 +19,7 @@ use Rattle.st_format.specs.Raster.{Raster, cell_at}
 abbrev pub magenta : List ℕ
 magenta = 255 ∷ 0 ∷ 255 ∷ []
 
+-- R, G and B of a pixel of which a sample is contested and none is missing
 abbrev pub red : List ℕ
 red = 255 ∷ 0 ∷ 0 ∷ []
 

@@ -18,16 +18,19 @@ use Rattle.pcap_file.specs.declared.order.ByteOrder.{ByteOrder}
 use Rattle.pcap_file.specs.declared.order.ByteOrder.TheVariants.{Big, Little}
 use Rattle.pcap_file.specs.declared.pcap.PacketHead.{PacketHead}
 
+-- how many octets the body of a block of this length has; BadBlock where no block has this length
 abbrev pub body_of_total : ℕ → Result ℕ RecordingFault
 body_of_total total =
     if nat_lt total 12 || not (total % 4 == 0) || nat_lt most_octets total then Err BadBlock
     else Ok (total - 12)
 
+-- the order in which four octets are the number that tells a section's order, if they are in one
 abbrev pub order_of : List ℕ → Option ByteOrder
 order_of octets =
     if long_at Big 0 octets == order_number then Some Big
     else (if long_at Little 0 octets == order_number then Some Little else None)
 
+-- BadVersion where what is behind the order in a section doesn't begin with version 1.0 or 1.2
 abbrev pub section_of : ByteOrder → List ℕ → Result (Unit {0}) RecordingFault
 section_of order body =
     if not (short_at order 0 body == 1)
@@ -57,25 +60,30 @@ options_at (suc n) order code (x ∷ xs) =
 abbrev pub option_at : ByteOrder → ℕ → List ℕ → Result (Option (List ℕ)) RecordingFault
 option_at order code octets = options_at (length octets) order code octets
 
+-- the units of a second that an option says; BadInterface where they are too fine (own)
 abbrev pub per_second_by : Option ℕ → Result ℕ RecordingFault
 per_second_by (Some units) = Ok units
 per_second_by None = Err BadInterface
 
+-- the units of a second, by the value of the option if_tsresol: a million where there is none
 abbrev pub resolution_of : Option (List ℕ) → Result ℕ RecordingFault
 resolution_of None = Ok 1000000
 resolution_of (Some value) =
     if not (length value == 1) then Err BadInterface
     else per_second_by (per_second_of (slice_index value 0))
 
+-- the seconds that belong to times, by the value of the option if_tsoffset: 0 where there is none
 abbrev pub offset_of : ByteOrder → Option (List ℕ) → Result ℕ RecordingFault
 offset_of order None = Ok 0
 offset_of order (Some value) =
     if not (length value == 8) then Err BadInterface else Ok (number_by order w64 value)
 
+-- an interface's name, by the value of the option if_name up to its first zero, if it can be one
 abbrev pub name_by : Option (List ℕ) → Option InterfaceName
 name_by None = None
 name_by (Some value) = name_of (before_zero value)
 
+-- an interface, by the eight octets before the options of its block and by its options
 abbrev pub interface_by : ByteOrder → List ℕ → List ℕ → Result Interface RecordingFault
 interface_by order fixed options =
     option_at order 9 options >>= λ r. resolution_of r >>= λ per_second.
@@ -89,11 +97,14 @@ interface_by order fixed options =
       name = name_by n;
     })
 
+-- the interface that the body of its block describes (draft-ietf-opsawg-pcapng, 4.2)
 unfoldable pub interface_of : ByteOrder → List ℕ → Result Interface RecordingFault
 interface_of order body =
     if nat_lt (length body) 8 then Err BadBlock
     else interface_by order (take 8 body) (drop 8 body)
 
+-- what stands before a packet's octets, by its time and interface and how many octets were kept and
+-- there were; BadTime where the time can't be told
 abbrev pub packet_by : Option ℕ → Interface → ℕ → ℕ → Result PacketHead RecordingFault
 packet_by None i captured original = Err BadTime
 packet_by (Some t) i captured original =
@@ -105,6 +116,8 @@ packet_by (Some t) i captured original =
       interface = i.name;
     })
 
+-- what stands before a packet's octets, by its interface, if there is one, and the first 20 octets
+-- of the block's body
 abbrev pub stamped_by : ByteOrder → Option Interface → List ℕ → Result PacketHead RecordingFault
 stamped_by order None front = Err BadInterface
 stamped_by order (Some i) front =
@@ -118,18 +131,23 @@ stamped_in order number interfaces front octets =
     if nat_lt (length octets) (long_at order 12 front) then Err BadBlock
     else stamped_by order (slice_get interfaces number) front
 
+-- the head of a packet, from the body of a block that has a time, and its interface so numbered
 unfoldable pub stamped_of : (List ℕ → ℕ) → ByteOrder → List Interface → List ℕ
     → Result PacketHead RecordingFault
 stamped_of number order interfaces body =
     if nat_lt (length body) 20 then Err BadBlock
     else stamped_in order (number (take 20 body)) interfaces (take 20 body) (drop 20 body)
 
+-- the packet in the body of an enhanced packet block, whose interface has a number of four octets
 abbrev pub enhanced_of : ByteOrder → List Interface → List ℕ → Result PacketHead RecordingFault
 enhanced_of order interfaces body = stamped_of (long_number order) order interfaces body
 
+-- the packet in the body of an obsolete packet block, whose interface has a number of two octets
 abbrev pub obsolete_of : ByteOrder → List Interface → List ℕ → Result PacketHead RecordingFault
 obsolete_of order interfaces body = stamped_of (short_number order) order interfaces body
 
+-- a packet without a time, by its interface, if there is one, and the four octets that say how many
+-- the packet had
 abbrev pub simple_by : ByteOrder → Option Interface → List ℕ → List ℕ
     → Result PacketHead RecordingFault
 simple_by order None front octets = Err BadInterface
@@ -143,6 +161,8 @@ simple_by order (Some i) front octets =
       interface = i.name;
     })
 
+-- the head of a packet of the body of a simple block, of the first interface
+-- (draft-ietf-opsawg-pcapng, 4.4)
 unfoldable pub simple_of : ByteOrder → List Interface → List ℕ → Result PacketHead RecordingFault
 simple_of order interfaces body =
     if nat_lt (length body) 4 then Err BadBlock

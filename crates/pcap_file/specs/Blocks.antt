@@ -177,6 +177,7 @@ pub record IsStamped (number : List ℕ → ℕ) (order : ByteOrder) (interfaces
 abbrev pub long_number : ByteOrder → List ℕ → ℕ
 long_number order front = long_at order 0 front
 
+-- the number of the interface in two octets, as obsolete packet blocks have it
 abbrev pub short_number : ByteOrder → List ℕ → ℕ
 short_number order front = short_at order 0 front
 

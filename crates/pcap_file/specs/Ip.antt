@@ -24,6 +24,7 @@ udp = 17
 abbrev pub version_of : List ℕ → ℕ
 version_of header = slice_index header 0 / 16
 
+-- the length of the header in octets, options and all: four for each word
 abbrev pub header_octets : List ℕ → ℕ
 header_octets header = 4 * (slice_index header 0 % 16)
 

@@ -16,6 +16,7 @@ use Rattle.st_format.specs.Given.{with_rest}
 unfoldable pub skip_at : ℕ → List ℕ → Result (Unit {0} × List ℕ) RecordingFault
 skip_at n octets = if nat_lt (length octets) n then Err Truncated else Ok (tt, drop n octets)
 
+-- the order that a section's number tells; BadMagic where it tells none
 abbrev pub order_or : Option ByteOrder → Result ByteOrder RecordingFault
 order_or (Some order) = Ok order
 order_or None = Err BadMagic
@@ -28,6 +29,7 @@ order_at octets = field_at 4 octets >>= λ x. with_rest (order_or (order_of x.0)
 unfoldable pub version_at : ByteOrder → List ℕ → Result (Unit {0} × List ℕ) RecordingFault
 version_at order octets = field_at 12 octets >>= λ x. with_rest (section_of order x.0) x.1
 
+-- the last four octets of a block say its length once more; BadBlock where they say another
 abbrev pub again_of : ByteOrder → ℕ → List ℕ → Result (Unit {0}) RecordingFault
 again_of order total four = if long_at order 0 four == total then Ok tt else Err BadBlock
 
@@ -87,6 +89,7 @@ block_by order type total room count octets =
     then (kept_at order total room count octets >>= λ x. Ok (Some x.0, x.1))
     else (passed_at order total count octets >>= λ x. Ok (None, x.1))
 
+-- what is left of the block that begins with these eight octets
 unfoldable pub block_at : ByteOrder → ℕ → List ℕ → List ℕ
     → Result (Option (List ℕ) × List ℕ) RecordingFault
 block_at order room front octets =

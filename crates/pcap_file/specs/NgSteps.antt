@@ -24,6 +24,7 @@ pub record Known : Type 0 where
   pub order : ByteOrder
   pub interfaces : List Interface
 
+-- what is known of a section that the code keeps
 abbrev pub known : Section → Known
 known s = record { order = s.order; interfaces = s.interfaces.items }
 
@@ -39,6 +40,7 @@ Stepped = Option (Option Recorded)
 abbrev pub recorded_at : PacketHead → ℕ → List ℕ → Recorded
 recorded_at p at buffer = record { head = p; octets = take p.captured (drop at buffer) }
 
+-- what a step of the code answers, by the buffer in which its packet's octets stand
 abbrev pub step_seen : Step → List ℕ → Stepped
 step_seen End buffer = None
 step_seen Passed buffer = Some None
@@ -65,12 +67,14 @@ GaveStep reading before now ended k (Some s) = GaveValue reading before now (k, 
 abbrev pub most_interfaces : ℕ
 most_interfaces = 64
 
+-- an interface more, and no packet; TooManyInterfaces where there is no room for it
 abbrev pub with_interface : Known → Interface → Result (Known × Stepped) RecordingFault
 with_interface k i =
     if nat_lt (length k.interfaces) most_interfaces
     then Ok (record { order = k.order; interfaces = k.interfaces ++ i ∷ [] }, Some None)
     else Err TooManyInterfaces
 
+-- a packet whose octets stand in a body behind so many; what is known stays
 abbrev pub with_packet : Known → ℕ → List ℕ → PacketHead → Result (Known × Stepped) RecordingFault
 with_packet k at body p = Ok (k, Some (Some (recorded_at p at body)))
 
@@ -95,6 +99,7 @@ enter_of k type body =
     then (enhanced_of k.order k.interfaces body >>= λ p. with_packet k 20 body p)
     else Ok (k, Some None))))
 
+-- what a block of this type does, by its body; one that was passed over does nothing
 abbrev pub entered : Known → ℕ → Option (List ℕ) → Result (Known × Stepped) RecordingFault
 entered k type None = Ok (k, Some None)
 entered k type (Some body) = enter_of k type body
@@ -114,6 +119,7 @@ other_step room k front octets =
     block_at k.order room front octets >>=
     λ x. with_rest (entered k (long_at k.order 0 front) x.0) x.1
 
+-- the next block, by its first eight octets; or the end, where there are none
 abbrev pub step_by : ℕ → Known → Option (List ℕ) → List ℕ
     → Result ((Known × Stepped) × List ℕ) RecordingFault
 step_by room k None octets = Ok ((k, None), octets)

@@ -16,19 +16,23 @@ use Rattle.pcap_file.specs.Runs.{InBlocks, InPcap, Laid}
 unfoldable pub behind_at : List ℕ → ℕ → List ℕ → Result (List ℕ × List ℕ) RecordingFault
 behind_at front n octets = field_at n octets >>= λ x. Ok (front ++ x.0, x.1)
 
+-- the head of a pcap file that begins with these four octets, and what is behind it
 unfoldable pub pcap_laid : List ℕ → List ℕ → Result (Laid × List ℕ) RecordingFault
 pcap_laid four octets =
     behind_at four 20 octets >>= λ x. pcap_head_of x.0 >>= λ file. Ok (InPcap file, x.1)
 
+-- the section of a pcapng file that begins with these four octets, and what is behind it
 unfoldable pub blocks_laid : List ℕ → List ℕ → Result (Laid × List ℕ) RecordingFault
 blocks_laid four octets =
     behind_at four 4 octets >>= λ x. section_at x.0 x.1 >>= λ y. Ok (InBlocks (fresh y.0), y.1)
 
+-- the front of the classic layout behind its first four octets, where these are a magic number
 abbrev pub pcap_laid_if : Option (ByteOrder × Bool) → List ℕ → List ℕ
     → Result (Laid × List ℕ) RecordingFault
 pcap_laid_if None four octets = Err (foreign_of four)
 pcap_laid_if (Some kind) four octets = pcap_laid four octets
 
+-- what a recording begins with, by its first four octets, and what is behind it
 unfoldable pub laid_behind : List ℕ → List ℕ → Result (Laid × List ℕ) RecordingFault
 laid_behind four octets =
     if long_at Big 0 four == section_type then blocks_laid four octets

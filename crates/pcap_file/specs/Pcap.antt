@@ -84,6 +84,7 @@ is_packed octets = short_at Big 0 octets == gzip_number
 abbrev pub foreign_of : List ℕ → RecordingFault
 foreign_of octets = if is_packed octets then Packed else BadMagic
 
+-- what 24 octets say in the order and unit of time of their magic number, or the first fault
 abbrev pub pcap_head_by : Option (ByteOrder × Bool) → List ℕ → Result PcapHead RecordingFault
 pcap_head_by None octets = Err (foreign_of octets)
 pcap_head_by (Some x) octets =

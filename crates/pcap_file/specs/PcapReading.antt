@@ -49,6 +49,7 @@ pub record IsPcap (octets : List ℕ) (packets : List Recorded) : Type 0 where
 unfoldable pub pcap_at : List ℕ → Result (PcapHead × List ℕ) RecordingFault
 pcap_at octets = field_at 24 octets >>= λ x. with_rest (pcap_head_of x.0) x.1
 
+-- what 16 octets say of a packet, and what is behind them
 abbrev pub head_by : PcapHead → List ℕ → List ℕ
     → Result (Option PacketHead × List ℕ) RecordingFault
 head_by file front rest = Ok (Some (record_head_of file front), rest)
@@ -67,10 +68,12 @@ octets_at room p octets =
 abbrev pub recorded_in : PacketHead → List ℕ → Recorded
 recorded_in p buffer = record { head = p; octets = take p.captured buffer }
 
+-- a packet, if there is one, whose octets stand at the front of a buffer
 abbrev pub option_recorded : Option PacketHead → List ℕ → Option Recorded
 option_recorded None buffer = None
 option_recorded (Some p) buffer = Some (recorded_in p buffer)
 
+-- a packet, where there is room for so many octets, by what stood before them; or the end
 abbrev pub packet_behind : ℕ → Option PacketHead → List ℕ
     → Result (Option Recorded × List ℕ) RecordingFault
 packet_behind room None octets = Ok (None, octets)

@@ -54,6 +54,7 @@ packet_4 header octets =
           drop (header_octets header) (take (total_octets header) octets);
     }
 
+-- the packet of IPv4 that octets begin with, or why there is none (RFC 791, 3.1)
 unfoldable pub packet_4_at : List ℕ → Result Packet NoDatagram
 packet_4_at octets =
     if nat_lt (length octets) 20 then Err CutShort
@@ -85,6 +86,7 @@ extensions_at (suc n) next octets =
 abbrev pub carried_at : ℕ → List ℕ → Result (List ℕ) NoDatagram
 carried_at next octets = extensions_at (length octets) next octets
 
+-- what a packet of IPv6 says: its addresses by the header, and what is behind the extensions
 abbrev pub packet_6 : List ℕ → List ℕ → Packet
 packet_6 header carried =
     record {
@@ -99,6 +101,7 @@ packet_6_by header rest =
     reason_or (reason_6 header (length rest)) (take (payload_octets header) rest) >>=
     λ payload. carried_at (next_of header) payload >>= λ carried. Ok (packet_6 header carried)
 
+-- the packet of IPv6 that octets begin with, or why there is none (RFC 8200, 3)
 unfoldable pub packet_6_at : List ℕ → Result Packet NoDatagram
 packet_6_at octets =
     if nat_lt (length octets) 40 then Err CutShort
@@ -115,6 +118,7 @@ reason_udp header there =
     if nat_lt (udp_octets header) 8 || nat_lt there (udp_octets header) then Some BadUdpLength
     else None
 
+-- the datagram in a packet: its ports, and the data up to the length, by the header of UDP. RFC 768
 abbrev pub datagram_by : Packet → List ℕ → Datagram
 datagram_by p header =
     record {
@@ -125,6 +129,7 @@ datagram_by p header =
       payload = drop 8 (take (udp_octets header) p.carried);
     }
 
+-- the datagram of UDP that a packet carries, or why there is none (RFC 768)
 unfoldable pub udp_at : Packet → Result Datagram NoDatagram
 udp_at p =
     if nat_lt (length p.carried) 8 then Err BadUdpLength

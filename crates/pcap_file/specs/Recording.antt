@@ -49,6 +49,7 @@ pub record HasStamped (number : List ℕ → ℕ) (k : Known) (body : List ℕ) 
 abbrev pub HasEnhanced : Known → List ℕ → Known → Option Recorded → Type 0
 HasEnhanced k body after s = HasStamped (long_number k.order) k body after s
 
+-- A body has a packet with its time, whose interface has a number of two octets.
 abbrev pub HasObsolete : Known → List ℕ → Known → Option Recorded → Type 0
 HasObsolete k body after s = HasStamped (short_number k.order) k body after s
 
@@ -79,6 +80,7 @@ pub record IsOtherBlock (k : Known) (octets : List ℕ) (after : Known) (s : Opt
   pub other : type ≢ section_type
   pub does : Does k type body after s
 
+-- the next block does this to what is known, has this packet or none, and has this rest behind it
 abbrev pub IsNext : Known → List ℕ → Known → Option Recorded → List ℕ → Type 0
 IsNext k octets after s rest = BeginsSection octets after s rest ⊎ IsOtherBlock k octets after s
     rest

@@ -44,9 +44,11 @@ most_packet = 1048576
 abbrev pub in_pcap : PcapHead → ℕ → Seen
 in_pcap file left = record { laid = InPcap file; left = left }
 
+-- a recording in blocks, of whose section this is known, and of which so many blocks may still come
 abbrev pub in_blocks : Known → ℕ → Seen
 in_blocks k left = record { laid = InBlocks k; left = left }
 
+-- what was read of a recording so far, by the layout that the code keeps
 abbrev pub layout_seen : Layout → Seen
 layout_seen (Pcap file left) = in_pcap file left
 layout_seen (Blocks section left) = in_blocks (known section) left
@@ -65,6 +67,7 @@ abbrev pub pcap_begun : Result (PcapHead × List ℕ) RecordingFault
     → Result (Laid × List ℕ) RecordingFault
 pcap_begun r = r >>= λ x. Ok (InPcap x.0, x.1)
 
+-- where its first four octets are a magic number it is in the classic layout, and else it is none
 abbrev pub pcap_if : Option (ByteOrder × Bool) → List ℕ → List ℕ
     → Result (Laid × List ℕ) RecordingFault
 pcap_if None four octets = Err (foreign_of four)
@@ -99,9 +102,11 @@ pub record Run : Type 0 where
   pub packets : List Recorded
   pub fault : Option RecordingFault
 
+-- no packet more: the end, or this fault
 abbrev pub stopped_by : Option RecordingFault → Run
 stopped_by fault = record { packets = []; fault = fault }
 
+-- packets that come before those of a run
 abbrev pub led_by : List Recorded → Run → Run
 led_by packets run = record { packets = packets ++ run.packets; fault = run.fault }
 
@@ -124,6 +129,7 @@ run_at (suc left) room laid octets =
 abbrev pub packets_behind : ℕ → Seen → List ℕ → List Recorded
 packets_behind room seen octets = (run_at seen.left room seen.laid octets).packets
 
+-- the first fault of what is still to come of a recording; none where it ends without one
 abbrev pub fault_behind : ℕ → Seen → List ℕ → Option RecordingFault
 fault_behind room seen octets = (run_at seen.left room seen.laid octets).fault
 
@@ -137,6 +143,7 @@ run_behind room (Ok (laid, rest)) = run_at most_blocks room laid rest
 abbrev pub packets_in : ℕ → List ℕ → List Recorded
 packets_in room octets = (run_behind room (opened_at octets)).packets
 
+-- the first fault of a recording; none where it ends without one
 abbrev pub fault_in : ℕ → List ℕ → Option RecordingFault
 fault_in room octets = (run_behind room (opened_at octets)).fault
 
@@ -182,16 +189,19 @@ ReadsOn room old new was seen =
     (before : List ℕ) (packets : List Recorded) → HasRead room before old was packets
     → HasRead room before new seen packets
 
+-- A run has read this packet behind those that it had read before.
 abbrev pub ReadsPacket : ℕ → List ℕ → List ℕ → Seen → Seen → Recorded → Type 0
 ReadsPacket room old new was seen p =
     (before : List ℕ) (packets : List Recorded) → HasRead room before old was packets
     → HasRead room before new seen (packets ++ p ∷ [])
 
+-- A run had read all packets of the recording, and the source has ended.
 abbrev pub ReadsEnd : ℕ → List ℕ → List ℕ → Type 0 → Seen → Type 0
 ReadsEnd room old new ended was =
     (before : List ℕ) (packets : List Recorded) → HasRead room before old was packets
     → HasReadAll room before new ended packets
 
+-- A run has come to this fault, behind the packets that it had read before.
 abbrev pub ReadsFault : ℕ → List ℕ → List ℕ → Type 0 → Seen → RecordingFault → Type 0
 ReadsFault room old new ended was f =
     (before : List ℕ) (packets : List Recorded) → HasRead room before old was packets
@@ -204,6 +214,7 @@ ReadsNext room old new ended was seen None buffer = ReadsEnd room old new ended 
 ReadsNext room old new ended was seen (Some p) buffer =
     ReadsPacket room old new was seen (packet_seen p buffer)
 
+-- what a run has read, by the step that a call answers: the end, a block without a packet, a packet
 abbrev pub ReadsStep : ℕ → List ℕ → List ℕ → Type 0 → Seen → Seen → Step → List ℕ → Type 0
 ReadsStep room old new ended was seen End buffer = ReadsEnd room old new ended was
 ReadsStep room old new ended was seen Passed buffer = ReadsOn room old new was seen

@@ -81,6 +81,7 @@ record_text time count =
 abbrev pub ip_checksum : Envelope → ℕ → ℕ
 ip_checksum e total = complement_of (word_sum (ip_text e total 0))
 
+-- the checksum of UDP as it is sent, over addresses, protocol, length, header and data. RFC 768
 abbrev pub udp_checksum : Envelope → List ℕ → ℕ
 udp_checksum e payload =
     sent_sum
@@ -131,6 +132,8 @@ datagram_of e payload =
 abbrev pub written_file : PcapHead
 written_file = record { order = Big; nanoseconds = true; snap = 262144; link = 1 }
 
+-- the 24 octets of a file before its records: the magic number of nanoseconds, version 2.4,
+-- 262144 octets kept of a packet at most, Ethernet
 abbrev pub file_text : List ℕ
 file_text =
     0xa1 ∷ 0xb2 ∷ 0x3c ∷ 0x4d ∷ 0 ∷ 2 ∷ 0 ∷ 4 ∷ 0 ∷ 0 ∷ 0 ∷ 0 ∷ 0 ∷ 0 ∷ 0 ∷ 0 ∷ 0 ∷ 4 ∷ 0 ∷ 0 ∷ 0

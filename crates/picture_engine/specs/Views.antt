@@ -21,6 +21,7 @@ black_by Ycc422 one = 16 * one ∷ 128 * one ∷ 128 * one ∷ []
 black_by Ycc444 one = 16 * one ∷ 128 * one ∷ 128 * one ∷ []
 black_by Rgb one = 16 * one ∷ 16 * one ∷ 16 * one ∷ []
 
+-- black of a format: 1 of 8 bits is 2^(bits - 8) of its depth
 abbrev pub black : Format → List ℕ
 black f = black_by f.sampling (2 ^ (bits_of f.depth - 8))
 
@@ -39,6 +40,7 @@ abbrev pub SaysView : View → Type 0
 SaysView (Settled text) = SaysFill text
 SaysView Marked = ⊤
 
+-- a frame is shown settled, by a text that says no three values
 abbrev pub SaysNoView : View → Type 0
 SaysNoView (Settled text) = SaysNoFill text
 SaysNoView Marked = ⊥

@@ -28,6 +28,7 @@ column_step Rgb c = 1
 abbrev pub plane_width : Format → ℕ → ℕ
 plane_width f c = f.width / column_step f.sampling c
 
+-- how many samples of a component a picture has, in all its rows
 abbrev pub plane_count : Format → ℕ → ℕ
 plane_count f c = f.height * plane_width f c
 
@@ -39,6 +40,7 @@ plane_place f c k = record {
   component = c;
 }
 
+-- the positions of a plane, in the order in which its samples stand there
 abbrev pub plane_places : Format → ℕ → List Position
 plane_places f c = map (plane_place f c) (range_with_len 0 (plane_count f c))
 
@@ -53,6 +55,8 @@ plane_first Ycc444 (suc zero) = 0
 plane_first Ycc444 (suc (suc c)) = 2
 plane_first Rgb c = c
 
+-- how far it is from one sample of a component to the next: of Cb, Y, Cr, Y each second is a Y,
+-- and each fourth a Cb or a Cr; in other samplings each pixel has three samples
 abbrev pub plane_step : Sampling → ℕ → ℕ
 plane_step Ycc422 zero = 2
 plane_step Ycc422 (suc c) = 4
@@ -72,6 +76,7 @@ y4m_spelling D10 = Little
 y4m_spelling D12 = Little
 y4m_spelling D16 = Little
 
+-- the octets of one plane of a frame: 0 is Y, 1 is Cb, 2 is Cr
 abbrev pub plane_text : Values → ℕ → List ℕ
 plane_text v c = texts_at (y4m_spelling v.format.depth) v (plane_places v.format c)
 
@@ -79,9 +84,11 @@ plane_text v c = texts_at (y4m_spelling v.format.depth) v (plane_places v.format
 abbrev pub frame_line : List ℕ
 frame_line = codes "FRAME\n"
 
+-- what stands behind the line of a frame: all of Y, then all of Cb, then all of Cr
 abbrev pub planes_text : Values → List ℕ
 planes_text v = plane_text v 0 ++ (plane_text v 1 ++ plane_text v 2)
 
+-- a whole frame, without parameters in its line
 abbrev pub frame_text : Values → List ℕ
 frame_text v = frame_line ++ planes_text v
 
@@ -97,6 +104,7 @@ sampling_word Ycc422 = codes " C422"
 sampling_word Ycc444 = codes " C444"
 sampling_word Rgb = []
 
+-- what follows the sampling in the line of a stream: the bits, where they are more than 8, and LF
 abbrev pub depth_word : Depth → List ℕ
 depth_word D8 = codes "\n"
 depth_word D10 = codes "p10\n"
@@ -133,6 +141,7 @@ pixmap_spelling D10 = Big
 pixmap_spelling D12 = Big
 pixmap_spelling D16 = Big
 
+-- the head of a portable pixmap: width, height and the greatest value
 unfoldable pub pixmap_head : Format → List ℕ
 pixmap_head f =
     numbered_word (codes "P6\n") f.width ++ (numbered_word (codes " ") f.height
@@ -142,5 +151,6 @@ pixmap_head f =
 abbrev pub pixels_text : Values → List ℕ
 pixels_text v = texts_at (pixmap_spelling v.format.depth) v (places v.format)
 
+-- a whole pixmap of one picture: its head, and the samples of its pixels
 abbrev pub pixmap_text : Values → List ℕ
 pixmap_text v = pixmap_head v.format ++ pixels_text v

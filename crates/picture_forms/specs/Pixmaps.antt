@@ -47,6 +47,7 @@ pub record HasPixmapHead (n d : ℕ) (octets rest : List ℕ) (f : Fields) : Typ
 abbrev pub magic_of : List ℕ → Result ⊤ FormFault
 magic_of name = if bytes_eq name (codes "P6") then Ok tt else Err BadMagic
 
+-- the first two octets of a pixmap, and what is behind them
 unfoldable pub magic_at : List ℕ → Result (⊤ × List ℕ) FormFault
 magic_at octets = field_at 2 octets >>= λ x. with_rest (magic_of x.0) x.1
 

@@ -26,6 +26,7 @@ abbrev pub frames_by : Result (List ℕ × List ℕ) FormFault → (List ℕ →
 frames_by (Ok x) next = x.0 ∷ next x.1
 frames_by (Err f) next = []
 
+-- the planes of at most so many frames at the front of octets
 unfoldable pub frames_in : Format → ℕ → List ℕ → List (List ℕ)
 frames_in f zero octets = []
 frames_in f (suc n) octets = frames_by (frame_walk f octets) (frames_in f n)

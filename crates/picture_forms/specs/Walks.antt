@@ -77,6 +77,7 @@ Finds reading Truncated part left ended =
     ended × (IsAtEnd left × (reading part ≡ Err Truncated))
 Finds reading f part left ended = (behind : List ℕ) → reading (part ++ behind) ≡ Err f
 
+-- a source gave a part in which the reading finds this fault
 pub record Refuses {X : Type 0} (reading : List ℕ → Result (X × List ℕ) FormFault)
     (was left : Option (List ℕ)) (before now : List ℕ) (ended : Type 0) (f : FormFault)
     : Type 0 where
@@ -90,6 +91,7 @@ IsShort Device n part left ended = ⊤
 IsShort Truncated n part left ended = (length part < n) × (ended × IsAtEnd left)
 IsShort f n part left ended = ⊥
 
+-- a source gave only a part where so many octets were to come, for this fault
 pub record IsCut (f : FormFault) (n : ℕ) (was left : Option (List ℕ)) (before now : List ℕ)
     (ended : Type 0) : Type 0 where
   pub part : List ℕ

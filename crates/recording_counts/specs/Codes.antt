@@ -44,5 +44,6 @@ stream_code {A = A} =
     })
     (λ _. refl)
 
+-- the streams of a table, each as its parts, in their order
 abbrev pub streams_code : {A : Type 0} → Coded (List (StreamCount A))
 streams_code = coded_list stream_code

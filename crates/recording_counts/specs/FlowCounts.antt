@@ -29,6 +29,8 @@ abbrev pub if_read : Result Rtp RtpFault → List Rtp
 if_read (Ok r) = r ∷ []
 if_read (Err f) = []
 
+-- what a datagram on a stream's port says as RTP: nothing where it is of RTCP.
+-- RFC 5761, section 4
 abbrev pub said_by : List ℕ → List Rtp
 said_by octets = if is_rtcp octets then [] else if_read (rtp_walk octets)
 
@@ -49,6 +51,7 @@ rtp_of payloads =
 abbrev pub known : List (Option ℕ) → List ℕ
 known times = filter_map (λ t. t) times
 
+-- the first and the last time by the clock, not by the order of coming; absent ones don't count
 abbrev pub times_of : List (Option ℕ) → Times
 times_of times = record { first = lowest_of (known times); last = highest_of (known times) }
 

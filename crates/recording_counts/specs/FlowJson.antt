@@ -23,6 +23,7 @@ stream_json s =
 abbrev pub other_json : RtpStream → List ℕ
 other_json s = codes "," ++ stream_json s
 
+-- what the array of streams has: their objects, the first with no comma in front
 abbrev pub objects_json : List RtpStream → List ℕ
 objects_json [] = []
 objects_json (s ∷ streams) = stream_json s ++ flat_map other_json streams
@@ -51,6 +52,7 @@ streams_json s =
     codes ",\"streams\":[" ++ (objects_json s.kept.items
     ++ (codes "],\"other_streams\":" ++ truth_json s.others))
 
+-- the members of the times, and of the rate of so many octets between them
 abbrev pub times_json : Times → ℕ → List ℕ
 times_json t octets =
     codes ",\"first\":" ++ (moment_json t.first

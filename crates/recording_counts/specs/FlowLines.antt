@@ -13,9 +13,11 @@ use Rattle.recording_counts.specs.declared.times.Times.{Times}
 abbrev pub wide : ℕ → ℕ → List ℕ
 wide digits n = replicate (digits - length (decimal n)) 48 ++ decimal n
 
+-- what stands behind the point of seconds: nanoseconds, less than 10^9
 abbrev pub nine_digits : ℕ → List ℕ
 nine_digits n = wide 9 n
 
+-- what stands behind the point of Mbit/s: hundredths, less than 100
 abbrev pub two_digits : ℕ → List ℕ
 two_digits n = wide 2 n
 
@@ -50,9 +52,11 @@ moment_text t =
 abbrev pub hundredths : ℕ → ℕ → ℕ
 hundredths octets nanoseconds = octets * 800_000 / nanoseconds
 
+-- hundredths as a number with two digits behind the point: 1234 is 12.34
 abbrev pub hundredths_text : ℕ → List ℕ
 hundredths_text h = decimal (h / 100) ++ (codes "." ++ two_digits (h % 100))
 
+-- the rate of so many octets from the first time to the last, where this one is greater
 abbrev pub rate_text : ℕ → ℕ → ℕ → List ℕ
 rate_text octets first last =
     if nat_lt first last
@@ -67,6 +71,7 @@ span_text octets (Some first) (Some last) =
     codes "\n  from " ++ (moment_text first
     ++ (codes " to " ++ (moment_text last ++ rate_text octets first last)))
 
+-- the line of a flow's times and of the rate of its octets
 abbrev pub times_text : Times → ℕ → List ℕ
 times_text t octets = span_text octets t.first t.last
 

@@ -12,6 +12,7 @@ use Rattle.flow.specs.Flow.{address_octets}
 abbrev pub FlowKey : Type 0
 FlowKey = ℕ × ArrayVec ℕ
 
+-- the key of a destination: of IPv4 the address has four octets, of IPv6 sixteen
 abbrev pub flow_key_of : SocketAddr → FlowKey
 flow_key_of d = (socket_port d, record { items = address_octets (socket_ip d) })
 
@@ -19,5 +20,6 @@ flow_key_of d = (socket_port d, record { items = address_octets (socket_ip d) })
 abbrev pub is_same_key : FlowKey → FlowKey → Bool
 is_same_key k l = k.0 == l.0 && bytes_eq k.1.items l.1.items
 
+-- the order of keys: by the port, and of one port by the octets of the address
 abbrev pub flow_key_cmp : FlowKey → FlowKey → Ordering
 flow_key_cmp k l = ordering_then (nat_cmp k.0 l.0) (slice_cmp nat_cmp k.1.items l.1.items)

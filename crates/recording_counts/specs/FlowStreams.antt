@@ -14,6 +14,8 @@ use Rattle.recording_counts.specs.declared.rtp_streams.Streams.{Streams}
 abbrev pub earlier : ℕ → ℕ → ℕ
 earlier t u = if nat_lt (ticks_from u t) (2 ^ 31) then u else t
 
+-- the second of two timestamps where it is less than half a round ahead, and else the first.
+-- RFC 1982, 3.2
 abbrev pub later : ℕ → ℕ → ℕ
 later t u = if nat_lt (ticks_from t u) (2 ^ 31) then u else t
 
@@ -22,6 +24,7 @@ abbrev pub earliest_of : List ℕ → ℕ
 earliest_of [] = 0
 earliest_of (t ∷ ts) = fold earlier t ts
 
+-- the latest of timestamps, each compared with the latest of those before it; 0 where there is none
 abbrev pub latest_of : List ℕ → ℕ
 latest_of [] = 0
 latest_of (t ∷ ts) = fold later t ts
@@ -37,6 +40,7 @@ stream_by k ts =
       last = latest_of ts;
     }
 
+-- what is counted of the packets of a stream
 abbrev pub rtp_stream_of : StreamKey → List Rtp → RtpStream
 rtp_stream_of k own = stream_by k (map (λ r. r.timestamp) own)
 
@@ -44,6 +48,7 @@ rtp_stream_of k own = stream_by k (map (λ r. r.timestamp) own)
 abbrev pub stream_key_of : RtpStream → StreamKey
 stream_key_of s = record { payload_type = s.payload_type; ssrc = s.ssrc }
 
+-- the stream that a packet is of: its payload type and its source. RFC 3550, 5.1
 abbrev pub rtp_key : Rtp → StreamKey
 rtp_key r = record { payload_type = r.payload_type; ssrc = r.ssrc }
 

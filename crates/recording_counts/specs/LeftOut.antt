@@ -20,6 +20,7 @@ abbrev pub omission_name : Omission → List ℕ
 omission_name (NoDatagram r) = reason_name r
 omission_name OtherFlow = codes "of another flow"
 
+-- whether two reasons are one, by their numbers
 abbrev pub is_omission : Omission → Omission → Bool
 is_omission v w = omission_number v == omission_number w
 
@@ -27,6 +28,7 @@ is_omission v w = omission_number v == omission_number w
 abbrev pub times : Omission → List Omission → ℕ
 times v omissions = capped (count_by (is_omission v) omissions)
 
+-- the counts of packets that were left out, by the reason of each
 abbrev pub left_out_of : List Omission → LeftOut
 left_out_of omissions =
     record {
@@ -62,6 +64,7 @@ abbrev pub reason_text : ℕ → Omission → List ℕ
 reason_text n v =
     if n == 0 then [] else (codes "\nleft out " ++ (decimal n ++ (codes " " ++ omission_name v)))
 
+-- the lines of the reasons for which packets are left out, in the order of their numbers
 abbrev pub left_out_text : LeftOut → List ℕ
 left_out_text l =
     reason_text l.cut_short (NoDatagram CutShort)

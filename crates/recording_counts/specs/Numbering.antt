@@ -31,6 +31,8 @@ abbrev pub low_bits : Option ℕ → ℕ → ℕ
 low_bits None sequence = sequence
 low_bits (Some extended) sequence = 65536 * extended + sequence
 
+-- the number nearest to the highest so far: by 32 bits where the payload has the upper 16,
+-- and else by 16. RFC 4175, 4.2; RFC 3550, A.1
 abbrev pub nearest_by : Option ℕ → ℕ → ℕ → ℕ
 nearest_by None highest sequence = nearest (2 ^ 16) highest sequence
 nearest_by (Some extended) highest sequence =
@@ -51,6 +53,7 @@ joined f (n ∷ ns) = Some (option_map_or (f n) (joined f ns) n)
 abbrev pub lowest_of : List ℕ → Option ℕ
 lowest_of ns = joined min ns
 
+-- the greatest of numbers, where there are such
 abbrev pub highest_of : List ℕ → Option ℕ
 highest_of ns = joined max ns
 
@@ -73,5 +76,6 @@ numbered_after before [] = before
 numbered_after before (p ∷ packets) =
     numbered_after (before ++ numbered_behind before p ∷ []) packets
 
+-- all packets of a stream, each with its number behind those that came before it
 abbrev pub numbered : List Packet → List Numbered
 numbered packets = numbered_after [] packets

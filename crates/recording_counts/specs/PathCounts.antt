@@ -21,11 +21,13 @@ abbrev pub came : List ℕ → ℕ → Came
 came before n =
     came_after (not (contains (from_list {R = nat_cmp} before) n)) (highest_of before) n
 
+-- a number came for the first time, but behind a higher one
 abbrev pub is_late : Came → Bool
 is_late New = false
 is_late Late = true
 is_late Repeated = false
 
+-- a number had come before
 abbrev pub is_repeated : Came → Bool
 is_repeated New = false
 is_repeated Late = false

@@ -25,6 +25,7 @@ numbers_of runs = from_list (flat_map run_numbers runs)
 abbrev pub in_run : ℕ → Run → Bool
 in_run n r = nat_le r.first n && nat_le n r.last
 
+-- whether a number is one of some run's
 abbrev pub is_in : ℕ → List Run → Bool
 is_in n runs = list_any (in_run n) runs
 
@@ -32,6 +33,7 @@ is_in n runs = list_any (in_run n) runs
 abbrev pub run_of : ℕ × ℕ → Run
 run_of e = record { first = e.0; last = e.1 }
 
+-- the runs of a tree, in the order of their first numbers
 abbrev pub runs_of : BTreeMap ℕ ℕ → List Run
 runs_of below = map run_of below.entries
 
@@ -80,6 +82,8 @@ abbrev pub reaches : Option Run → ℕ → Bool
 reaches None n = false
 reaches (Some r) n = nat_le n r.last
 
+-- where a run begins that a number is put to: at the first of the run that ends right before it,
+-- or else at itself
 abbrev pub begin_of : Option Run → ℕ → ℕ
 begin_of None n = n
 begin_of (Some r) n = if r.last + 1 == n then r.first else n

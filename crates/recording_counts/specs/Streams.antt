@@ -23,6 +23,7 @@ is_a B = false
 abbrev pub numbers_by_a : List Numbered → List ℕ
 numbers_by_a ns = map (λ n. n.number) (filter (λ n. is_a n.path) ns)
 
+-- the numbers of the packets that came by B, in their order
 abbrev pub numbers_by_b : List Numbered → List ℕ
 numbers_by_b ns = map (λ n. n.number) (filter (λ n. not (is_a n.path)) ns)
 
@@ -30,9 +31,11 @@ numbers_by_b ns = map (λ n. n.number) (filter (λ n. not (is_a n.path)) ns)
 abbrev pub key_of : Packet → StreamKey
 key_of p = record { payload_type = p.payload_type; ssrc = p.ssrc }
 
+-- whether two streams are one: of one payload type and one source. RFC 3550, 5.1
 abbrev pub is_same : StreamKey → StreamKey → Bool
 is_same k l = k.payload_type == l.payload_type && k.ssrc == l.ssrc
 
+-- the order of streams in a tree: by the payload type, and of one payload type by the source
 abbrev pub key_cmp : StreamKey → StreamKey → Ordering
 key_cmp k l = ordering_then (nat_cmp k.payload_type l.payload_type) (nat_cmp k.ssrc l.ssrc)
 

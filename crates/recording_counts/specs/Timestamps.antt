@@ -14,9 +14,11 @@ use Rattle.recording_counts.specs.Tables.{counted_by}
 abbrev pub timestamp_key_of : Packet → TimestampKey
 timestamp_key_of p = record { stream = key_of p; timestamp = p.timestamp }
 
+-- whether two timestamps are one: equal ones of different streams are two
 abbrev pub is_same_timestamp : TimestampKey → TimestampKey → Bool
 is_same_timestamp k l = is_same k.stream l.stream && k.timestamp == l.timestamp
 
+-- the order of timestamps in a tree: by the stream, and in one stream as numbers, not modulo 2^32
 abbrev pub timestamp_cmp : TimestampKey → TimestampKey → Ordering
 timestamp_cmp k l =
     ordering_then (key_cmp k.stream l.stream) (nat_cmp k.timestamp l.timestamp)

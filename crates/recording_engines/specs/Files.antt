@@ -31,11 +31,13 @@ gave_by gave (Closed s) = gave s
 gave_by gave (Open r) = gave r.source
 gave_by gave Taken = []
 
+-- the source of a file has ended
 abbrev pub ended_by : {A S : Type 0} → (S → Type 0) → ImportFile A S → Type 0
 ended_by ended (Closed s) = ended s
 ended_by ended (Open r) = ended r.source
 ended_by ended Taken = ⊥
 
+-- how often the source of a file failed
 abbrev pub failures_by : {A S : Type 0} → (S → ℕ) → ImportFile A S → ℕ
 failures_by failures (Closed s) = failures s
 failures_by failures (Open r) = failures r.source
@@ -53,6 +55,7 @@ IsClosed (Closed s) = ⊤
 IsClosed (Open r) = ⊥
 IsClosed Taken = ⊥
 
+-- no file is opened yet
 abbrev pub AllClosed : {A S : Type 0} → List (ImportFile A S) → Type 0
 AllClosed files = AllByRecursion IsClosed files
 
@@ -87,6 +90,7 @@ standing_of (Closed s) = record { entries = []; ahead = Over None }
 standing_of (Open r) = record { entries = r.records; ahead = ahead_by r.standing r.at_hand }
 standing_of Taken = record { entries = []; ahead = Over None }
 
+-- what was read of each file, and what comes next of it
 abbrev pub standings : {A S : Type 0} → List (ImportFile A S) → List Standing
 standings files = map standing_of files
 
@@ -102,11 +106,13 @@ HasAhead Reads (Some e) = ⊤
 HasAhead Ended None = ⊤
 HasAhead standing at_hand = ⊥
 
+-- of a file that is opened the next record, or the end, is known
 abbrev pub IsReady : {A S : Type 0} → ImportFile A S → Type 0
 IsReady (Closed s) = ⊥
 IsReady (Open r) = HasAhead r.standing r.at_hand
 IsReady Taken = ⊥
 
+-- so of all files
 abbrev pub AllReady : {A S : Type 0} → List (ImportFile A S) → Type 0
 AllReady files = AllByRecursion IsReady files
 
@@ -182,10 +188,12 @@ AreLeftOut (f ∷ fs) omissions =
 
 -- ---- the earliest
 
+-- what comes next, if anything does, comes later than this moment
 abbrev pub NextIsLater : ℕ → Option Entry → Type 0
 NextIsLater moment None = ⊤
 NextIsLater moment (Some e) = moment < e.moment
 
+-- what comes next, if anything does, comes at this moment or later
 abbrev pub NextIsNoSooner : ℕ → Option Entry → Type 0
 NextIsNoSooner moment None = ⊤
 NextIsNoSooner moment (Some e) = moment ≤ e.moment
@@ -203,6 +211,7 @@ Leads (suc k) moment (f ∷ fs) = NextIsLater moment (next_of f) × Leads k mome
 abbrev pub IsLed : {A S : Type 0} → ℕ → List (ImportFile A S) → Type 0
 IsLed k files = (moment : ℕ) × Leads k moment files
 
+-- the place and the moment of the record that comes first; none where no file has one
 abbrev pub IsEarliest : {A S : Type 0} → List (ImportFile A S) → Option (ℕ × ℕ) → Type 0
 IsEarliest fs None = AllByRecursion (λ f. next_of f ≡ None) fs
 IsEarliest fs (Some x) = Leads x.0 x.1 fs

@@ -18,6 +18,7 @@ use Rattle.recording_reader.specs.declared.fault.ReadingFault.{ReadingFault}
 
 -- ---- how many records of each path
 
+-- how many records are of this path
 abbrev pub count_of : Path → List Entry → ℕ
 count_of path entries = count_by (λ e. is_path path e.path) entries
 

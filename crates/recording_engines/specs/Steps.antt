@@ -23,6 +23,7 @@ abbrev pub whole_by : List Entry → Ahead → Strand → Strand
 whole_by es (Coming e) r = record { entries = es ++ r.entries; fault = r.fault }
 whole_by es (Over f) r = record { entries = es; fault = f }
 
+-- all of a file: what was read of it, and what is still to come
 abbrev pub whole : Standing → Strand → Strand
 whole s r = whole_by s.entries s.ahead r
 
@@ -31,9 +32,11 @@ abbrev pub left_by : Ahead → Strand → Strand
 left_by (Coming e) r = record { entries = e ∷ r.entries; fault = r.fault }
 left_by (Over f) r = record { entries = []; fault = f }
 
+-- what is left of a file from the next record on
 abbrev pub left_of : Standing → Strand → Strand
 left_of s r = left_by s.ahead r
 
+-- a file without records, and without a fault
 abbrev pub nothing : Strand
 nothing = record { entries = []; fault = None }
 
@@ -43,6 +46,7 @@ wholes [] rs = []
 wholes (s ∷ ss) [] = whole s nothing ∷ wholes ss []
 wholes (s ∷ ss) (r ∷ rs) = whole s r ∷ wholes ss rs
 
+-- what is left of each file
 abbrev pub lefts : List Standing → List Strand → List Strand
 lefts [] rs = []
 lefts (s ∷ ss) [] = left_of s nothing ∷ lefts ss []
@@ -56,6 +60,7 @@ pub record HasJoined (ss : List Standing) (entries : List Entry) : Type 0 where
 abbrev pub IsFresh : Standing → Type 0
 IsFresh s = (r : Strand) → whole s r ≡ left_of s r
 
+-- nothing was read of any file but what comes next
 abbrev pub AllFresh : List Standing → Type 0
 AllFresh ss = AllByRecursion IsFresh ss
 
@@ -67,6 +72,7 @@ IsLater moment (Coming e) = moment < e.moment
 IsLater moment (Over None) = ⊤
 IsLater moment (Over (Some f)) = ⊥
 
+-- what comes next of a file comes at this moment or later
 abbrev pub IsNoSooner : ℕ → Ahead → Type 0
 IsNoSooner moment (Coming e) = moment ≤ e.moment
 IsNoSooner moment (Over None) = ⊤
@@ -94,6 +100,7 @@ pub record Lays (before now : List ℕ) (ended : Type 0) (flows : Option Flows) 
   pub says : (octets : List ℕ) → IsRead before now ended octets
       → (r : Strand) × (strand_in flows octets ≡ whole s r)
 
+-- so of each of some files, taken by these flows
 abbrev pub AllLay : {S : Type 0} → (S → List ℕ) → (S → Type 0) → List (S × S)
     → List (Option Flows) → List Standing → Type 0
 AllLay gave ended [] [] [] = ⊤

@@ -26,6 +26,7 @@ abbrev pub fault_past : Result (Entry × List ℕ) FileFault → (List ℕ → O
 fault_past (Ok x) next = next x.1
 fault_past (Err f) next = Some f
 
+-- the fault behind the first records of octets, at most so many; none where they are all
 unfoldable pub fault_up_to : ℕ → List ℕ → Option FileFault
 fault_up_to zero octets = None
 fault_up_to (suc n) [] = None
@@ -78,6 +79,7 @@ left_out_in each octets = length (omissions_in each octets)
 abbrev pub only_a : Flows → Flows
 only_a flows = record { a = flows.a; b = None }
 
+-- the flow of path B alone
 abbrev pub only_b : Flows → Flows
 only_b flows = record { a = None; b = flows.b }
 

@@ -36,6 +36,7 @@ abbrev pub records_behind : Result (List ℕ × List ℕ) FileFault → List Ent
 records_behind (Ok x) = entries_in x.1
 records_behind (Err f) = []
 
+-- the records of a capture, up to its end or its first fault
 abbrev pub capture_records : List ℕ → List Entry
 capture_records octets = records_behind (front_at octets)
 
@@ -132,6 +133,7 @@ abbrev pub IsWholeBy : Bool → List ℕ → Type 0
 IsWholeBy true octets = fault_in most_packet octets ≡ None
 IsWholeBy false octets = IsWholeCapture octets
 
+-- a file is whole as a recording or as a capture, by its first four octets
 abbrev pub IsWholeFile : List ℕ → Type 0
 IsWholeFile octets = IsWholeBy (is_recording octets) octets
 
@@ -140,6 +142,7 @@ abbrev pub recording_source_fault : RecordingFault → SourceFault
 recording_source_fault Device = FailedDevice
 recording_source_fault f = Content (recording_fault_number f)
 
+-- a capture's or a recording's fault, as a source of datagrams tells it
 abbrev pub source_fault : ReadingFault → SourceFault
 source_fault (Capture f) = capture_source_fault f
 source_fault (Recording f) = recording_source_fault f

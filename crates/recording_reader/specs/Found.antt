@@ -41,6 +41,7 @@ abbrev pub entry_found : Result Found Omission → List ℕ → Option Entry
 entry_found (Err omission) buffer = None
 entry_found (Ok f) buffer = Some (entry_at f buffer)
 
+-- why nothing was found in a packet, if nothing was
 abbrev pub omission_found : Result Found Omission → Option Omission
 omission_found (Err omission) = Some omission
 omission_found (Ok f) = None

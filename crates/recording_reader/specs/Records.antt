@@ -25,6 +25,7 @@ entry_by None moment octets = None
 entry_by (Some path) moment octets =
     Some (record { path = path; moment = moment; octets = octets })
 
+-- the record of a packet, by what was read in it: of a datagram of one of the flows
 abbrev pub entry_of : Flows → Option InterfaceName → ℕ → Result Datagram NoDatagram → Option Entry
 entry_of flows interface moment (Err reason) = None
 entry_of flows interface moment (Ok d) =
@@ -39,6 +40,7 @@ record_of flows p = entry_of flows p.head.interface (moment_of p.head.time) (dat
 abbrev pub records_of : Flows → List Recorded → List Entry
 records_of flows packets = filter_map (record_of flows) packets
 
+-- how many of these packets have no record by the flows
 abbrev pub left_out : Flows → List Recorded → ℕ
 left_out flows packets = count_by (λ p. is_none (record_of flows p)) packets
 
@@ -47,12 +49,14 @@ abbrev pub other_by : Option Path → Option Omission
 other_by None = Some by.OtherFlow
 other_by (Some path) = None
 
+-- why a packet has no record, by what was read in it; nothing, where it has one
 abbrev pub omission_by : Flows → Option InterfaceName → Result Datagram NoDatagram
     → Option Omission
 omission_by flows interface (Err reason) = Some (by.NoDatagram reason)
 omission_by flows interface (Ok d) =
     other_by (path_to flows interface d.source d.destination d.destination_port)
 
+-- why a packet has no record by the flows; nothing, where it has one
 abbrev pub omission_of : Flows → Recorded → Option Omission
 omission_of flows p = omission_by flows p.head.interface (datagram_in p)
 

@@ -16,6 +16,7 @@ abbrev pub address_of : IpEnvelope → List ℕ
 address_of (V4 e) = e.destination
 address_of (V6 e) = e.destination
 
+-- the port that datagrams are sent to
 abbrev pub port_of : IpEnvelope → ℕ
 port_of (V4 e) = e.destination_port
 port_of (V6 e) = e.destination_port

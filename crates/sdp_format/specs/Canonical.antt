@@ -12,11 +12,14 @@ use Rattle.sdp_format.specs.Sections.{Leg}
 abbrev pub divisor_text : ℕ → List ℕ
 divisor_text d = if d == 1 then [] else codes "/" ++ decimal d
 
+-- the item RANGE, its semicolon in front; nothing where the range is narrow, as that is what a
+-- missing one means (ST 2110-20, media type parameters)
 abbrev pub range_text : Range → List ℕ
 range_text Narrow = []
 range_text FullProtect = codes "; RANGE=FULLPROTECT"
 range_text Full = codes "; RANGE=FULL"
 
+-- the one line of fmtp that is written of a section (RFC 8866, 6.15)
 unfoldable pub canonical_line : Leg → List ℕ
 canonical_line l =
     codes "a=fmtp:" ++ decimal l.payload_type

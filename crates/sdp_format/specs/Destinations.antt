@@ -140,6 +140,7 @@ SectionsFault lines (s ∷ t ∷ u ∷ rest) fault = fault ≡ TooManyLegs
 abbrev pub AreFlows : List (List ℕ) → List Flow → Type 0
 AreFlows lines flows = SectionsFlows lines (video_sections lines) flows
 
+-- why a text of these lines has no flows
 abbrev pub IsFlowsFault : List (List ℕ) → FlowsFault → Type 0
 IsFlowsFault lines fault = SectionsFault lines (video_sections lines) fault
 

@@ -11,6 +11,7 @@ use Rattle.sdp_format.specs.declared.fault.SdpFault.TheVariants.{UnsupportedDept
 use Rattle.sdp_format.specs.declared.fault.SdpFault.TheVariants.{UnsupportedPacking, BadSsn}
 use Rattle.sdp_format.specs.declared.fault.SdpFault.TheVariants.{BadFormat, LegsDiffer}
 
+-- a number from 1 to 17: of the faults of a section the one with the lowest is told
 abbrev pub sdp_fault_number : SdpFault → ℕ
 sdp_fault_number NoMemory = 1
 sdp_fault_number NoVideo = 2
@@ -30,6 +31,7 @@ sdp_fault_number BadSsn = 15
 sdp_fault_number BadFormat = 16
 sdp_fault_number LegsDiffer = 17
 
+-- a fault's bare name, as the texts of the program have it
 abbrev pub sdp_fault_name : SdpFault → List ℕ
 sdp_fault_name NoMemory = codes "NoMemory"
 sdp_fault_name NoVideo = codes "NoVideo"

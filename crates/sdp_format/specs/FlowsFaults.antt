@@ -6,12 +6,14 @@ use Rattle.sdp_format.specs.declared.flows_fault.FlowsFault.TheVariants.{NoVideo
 use Rattle.sdp_format.specs.declared.flows_fault.FlowsFault.TheVariants.{BadMediaLine}
 use Rattle.sdp_format.specs.declared.flows_fault.FlowsFault.TheVariants.{BadConnection}
 
+-- a number from 1 to 4: of the faults of a section the one with the lowest is told
 abbrev pub flows_fault_number : FlowsFault → ℕ
 flows_fault_number NoVideo = 1
 flows_fault_number TooManyLegs = 2
 flows_fault_number BadMediaLine = 3
 flows_fault_number BadConnection = 4
 
+-- a fault's bare name, as the texts of the program have it
 abbrev pub flows_fault_name : FlowsFault → List ℕ
 flows_fault_name NoVideo = codes "NoVideo"
 flows_fault_name TooManyLegs = codes "TooManyLegs"

@@ -51,6 +51,7 @@ pub record IsAttribute (line word : List ℕ) (payload_type : ℕ) (rest : List 
   pub whole : line ≡ word ++ digits ++ 32 ∷ rest
   pub is_type : number digits ≡ Some payload_type
 
+-- no line is an attribute of this word and this payload type
 abbrev pub HasNone : List (List ℕ) → List ℕ → ℕ → Type 0
 HasNone lines word payload_type =
     All (λ line. (rest : List ℕ) → IsAttribute line word payload_type rest → ⊥) lines
@@ -71,9 +72,11 @@ pub record IsFirst (lines : List (List ℕ)) (word : List ℕ) (payload_type : �
 abbrev pub Says : List Item → List ℕ → List ℕ → Type 0
 Says is name value = Contains is (name, value)
 
+-- some item has this name, whatever its value: that of a flag, as interlace is one, is empty
 abbrev pub Has : List Item → List ℕ → Type 0
 Has is name = (value : List ℕ) × Says is name value
 
+-- no item has this name, whatever the value
 abbrev pub Lacks : List Item → List ℕ → Type 0
 Lacks is name = (value : List ℕ) → Says is name value → ⊥
 
@@ -157,6 +160,8 @@ pub record LacksLine (s : Section) (word : List ℕ) : Type 0 where
   pub media : IsMediaLine s.media port payload_type
   pub none : HasNone s.lines word payload_type
 
+-- the first rtpmap line of the payload type names something else than raw/90000, whatever the
+-- case of its letters (RFC 8866, 6.6)
 pub record HasOtherMap (s : Section) : Type 0 where
   pub port : ℕ
   pub payload_type : ℕ
@@ -165,6 +170,7 @@ pub record HasOtherMap (s : Section) : Type 0 where
   pub rtpmap : IsFirst s.lines (codes "a=rtpmap:") payload_type map
   pub other : str_eq_ignore_ascii_case (trimmed map) (codes "raw/90000") ≡ false
 
+-- the items of the section's first fmtp line have this fault (RFC 8866, 6.15)
 pub record HasItemFault (s : Section) (fault : SdpFault) : Type 0 where
   pub port : ℕ
   pub payload_type : ℕ
@@ -186,9 +192,11 @@ abbrev pub NoneBefore : Section → SdpFault → Type 0
 NoneBefore s fault =
     (other : SdpFault) → sdp_fault_number other < sdp_fault_number fault → SectionFault s other → ⊥
 
+-- the one fault that is told of a section: of all that it has, that of the lowest number
 abbrev pub IsFirstFault : Section → SdpFault → Type 0
 IsFirstFault s fault = SectionFault s fault × NoneBefore s fault
 
+-- a section for which no condition of a fault holds
 abbrev pub IsFaultless : Section → Type 0
 IsFaultless s = (fault : SdpFault) → SectionFault s fault → ⊥
 
@@ -210,6 +218,8 @@ pub record Differ (s t : Section) : Type 0 where
   pub second_says : SectionSays t second_port second_leg
   pub unlike : leg ≢ second_leg
 
+-- there are two sections and no more, neither with a fault, and the second says something else
+-- than the first
 abbrev pub TwoDiffer : List Section → Type 0
 TwoDiffer [] = ⊥
 TwoDiffer (s ∷ []) = ⊥
@@ -237,12 +247,14 @@ pub record BothSay (s t : Section) (d : Description) : Type 0 where
   pub second_says : SectionSays t second_port d.leg
   pub ports : d.ports ≡ port ∷ second_port ∷ []
 
+-- what a text says whose only video section has no fault: one port, and what that section says
 pub record OneSays (s : Section) (d : Description) : Type 0 where
   pub faultless : IsFaultless s
   pub port : ℕ
   pub says : SectionSays s port d.leg
   pub ports : d.ports ≡ port ∷ []
 
+-- what a text says, by its video sections; it says nothing where these are none, or more than two
 abbrev pub IsDescribed : List Section → Description → Type 0
 IsDescribed [] d = ⊥
 IsDescribed (s ∷ []) d = OneSays s d

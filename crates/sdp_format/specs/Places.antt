@@ -6,9 +6,11 @@ use Rattle.sdp_format.specs.declared.place.Place.{Place}
 use Rattle.sdp_format.specs.declared.place.Located.{Located}
 use Rattle.sdp_format.specs.declared.sdp.Stop.{Stop}
 
+-- an LF, which ends a line with a CR before it or without (RFC 8866, 5)
 abbrev pub is_line_feed : ℕ → Bool
 is_line_feed c = c == 10
 
+-- how many lines end in a text
 abbrev pub line_feeds : List ℕ → ℕ
 line_feeds text = count_by is_line_feed text
 
@@ -29,6 +31,7 @@ abbrev pub without_section : {X : Type 0} → Result X Stop → Result X SdpFaul
 without_section (Ok x) = Ok x
 without_section (Err stop) = Err stop.fault
 
+-- what was returned, its fault without the place in the text
 abbrev pub without_place : {X : Type 0} → Result X Located → Result X SdpFault
 without_place (Ok x) = Ok x
 without_place (Err located) = Err located.fault

@@ -10,6 +10,7 @@ use Rattle.sdp_format.specs.declared.sdp.Listed.{Listed as ReadList}
 use Rattle.sdp_format.specs.declared.sdp.VideoSection.{VideoSection}
 use Rattle.std.specs.Option.{option_copied}
 
+-- what was read of a section, as the grammar says it
 abbrev pub leg_seen : Read → Leg
 leg_seen l = record {
   payload_type = l.payload_type;
@@ -18,6 +19,7 @@ leg_seen l = record {
   colorimetry = l.colorimetry.items;
 }
 
+-- port, payload type and items of a section, of which the reader keeps the items as a text
 abbrev pub listed_seen : ReadList → Listed
 listed_seen l = record { port = l.port; payload_type = l.payload_type; list = items l.text.now }
 
@@ -25,5 +27,6 @@ listed_seen l = record { port = l.port; payload_type = l.payload_type; list = it
 abbrev pub section_of : List ℕ → Option (List ℕ) → Section
 section_of media left = record { media = media; lines = section_lines (split_lines_left left) }
 
+-- the section that begins at this first line: the lines behind it up to the next m= are its own
 abbrev pub section_at : VideoSection → Section
 section_at s = section_of s.media.now (option_copied s.left)

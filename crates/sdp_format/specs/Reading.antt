@@ -34,6 +34,7 @@ abbrev pub value_or_fault : {A : Type 0} → SdpFault → Option A → Result A 
 value_or_fault fault None = Err fault
 value_or_fault fault (Some x) = Ok x
 
+-- this fault where the condition holds, and else none
 abbrev pub fault_where : SdpFault → Bool → Result (Unit {0}) SdpFault
 fault_where fault holds = if holds then Err fault else Ok tt
 
@@ -48,6 +49,7 @@ media_of_parts (a ∷ port ∷ profile ∷ type ∷ []) =
     then number_pair (at_most 65535 (number port)) (at_most 127 (number type)) else None
 media_of_parts (a ∷ b ∷ c ∷ d ∷ e ∷ es) = None
 
+-- the port and the payload type of a line m=video (RFC 8866, 5.14)
 unfoldable pub media_of : List ℕ → Option (ℕ × ℕ)
 media_of line = media_of_parts (split 32 (trim_end line))
 
@@ -57,15 +59,19 @@ first_attribute word n [] = None
 first_attribute word n (l ∷ ls) =
     if is_some (attribute word n l) then attribute word n l else first_attribute word n ls
 
+-- whether an rtpmap names raw/90000, whatever the case of its letters (RFC 8866, 6.6)
 unfoldable pub is_raw90000 : List ℕ → Bool
 is_raw90000 text = str_eq_ignore_ascii_case (trimmed text) (codes "raw/90000")
 
+-- whether one of the required names is that of no item
 abbrev pub lacks_item : List Item → Bool
 lacks_item is = not (list_all (has_name is) required_names)
 
+-- whether the items tell of fields or of segmented frames (ST 2110-20, media type parameters)
 abbrev pub is_interlaced : List Item → Bool
 is_interlaced is = has_name is (codes "interlace") || has_name is (codes "segmented")
 
+-- what a function returned, its value seen by view
 abbrev pub result_map : {X Y : Type 0} → (X → Y) → Result X SdpFault → Result Y SdpFault
 result_map view (Ok x) = Ok (view x)
 result_map view (Err e) = Err e
@@ -76,6 +82,7 @@ abbrev pub GivesUnlessMemory : {X Y : Type 0} → (X → Y) → Result X SdpFaul
 GivesUnlessMemory view (Ok x) read = read ≡ Ok (view x)
 GivesUnlessMemory view (Err e) read = (e ≡ NoMemory) ⊎ (read ≡ Err e)
 
+-- a format within the limits: whatever is wrong with it is one fault of an SDP text
 abbrev pub or_fault : {E : Type 0} → Result Fields E → Result Fields SdpFault
 or_fault (Ok f) = Ok f
 or_fault (Err e) = Err BadFormat
@@ -150,6 +157,7 @@ same_range FullProtect FullProtect = true
 same_range Full Full = true
 same_range a b = false
 
+-- whether two sections say the same of the video, wherever it is sent
 unfoldable pub same_leg : Leg → Leg → Bool
 same_leg l m =
     l.payload_type == m.payload_type && same_fields l.format m.format
@@ -168,5 +176,6 @@ sections_walk (s ∷ t ∷ []) = do
   Ok (record { ports = first.0 ∷ second.0 ∷ []; leg = first.1 })
 sections_walk (s ∷ t ∷ u ∷ rest) = Err TooManyLegs
 
+-- what an SDP text says, or its first fault
 unfoldable pub text_walk : List ℕ → Result Description SdpFault
 text_walk text = sections_walk (video_sections (lines text))

@@ -10,6 +10,8 @@ pub record Section : Type 0 where
   pub media : List ℕ
   pub lines : List (List ℕ)
 
+-- the lines before the first that begins m=; of all lines of a text those of the session
+-- (RFC 8866, 5)
 abbrev pub section_lines : List (List ℕ) → List (List ℕ)
 section_lines [] = []
 section_lines (l ∷ ls) = if begins_with (codes "m=") l then [] else l ∷ section_lines ls

@@ -13,6 +13,7 @@ use Rattle.sdp_format.specs.Sections.{Description}
 use Rattle.sdp_format.specs.declared.items.Parameter.{Parameter}
 use Rattle.sdp_format.specs.declared.sdp.Sdp.{Sdp}
 
+-- an item as the reader holds it: name and value are parts of the text
 abbrev pub item_of : Parameter → Item
 item_of i = (i.name.now, i.value.now)
 
@@ -20,9 +21,11 @@ item_of i = (i.name.now, i.value.now)
 abbrev pub Slice : Type 0
 Slice = Bor (List ℕ)
 
+-- the order of texts: by the first byte that differs, and a text before those that it begins
 abbrev pub slice_order : Slice → Slice → Ordering
 slice_order x y = slice_cmp nat_cmp x.now y.now
 
+-- a name and its value in the map of known names, as an item
 abbrev pub pair_of : Slice × Slice → Item
 pair_of e = (e.0.now, e.1.now)
 
@@ -48,6 +51,7 @@ description s = record {
   };
 }
 
+-- a colorimetry as the reader keeps it, in an array of its own, as its bytes
 abbrev pub colours : Option (ArrayVec ℕ) → Option (List ℕ)
 colours None = None
 colours (Some v) = Some v.items

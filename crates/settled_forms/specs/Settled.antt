@@ -11,5 +11,6 @@ form_by Ycc422 v = frame_text v
 form_by Ycc444 v = frame_text v
 form_by Rgb v = pixmap_text v
 
+-- a picture in the form of its sampling
 unfoldable pub form_text : Values → List ℕ
 form_text v = form_by v.format.sampling v

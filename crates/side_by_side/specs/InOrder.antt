@@ -18,6 +18,7 @@ abbrev pub first_entry : List Entry → Option Entry
 first_entry [] = None
 first_entry (e ∷ es) = Some e
 
+-- some records but the first
 abbrev pub tail_of : List Entry → List Entry
 tail_of [] = []
 tail_of (e ∷ es) = es
@@ -28,11 +29,13 @@ first_entry_at place [] = None
 first_entry_at zero (s ∷ ss) = first_entry s.entries
 first_entry_at (suc place) (s ∷ ss) = first_entry_at place ss
 
+-- the files without the first record of the one of this place
 abbrev pub without_at : ℕ → List Strand → List Strand
 without_at place [] = []
 without_at zero (s ∷ ss) = record { entries = tail_of s.entries; fault = s.fault } ∷ ss
 without_at (suc place) (s ∷ ss) = s ∷ without_at place ss
 
+-- records with this one before them; where there is none, none
 abbrev pub before_rest : Option Entry → List Entry → List Entry
 before_rest None rest = []
 before_rest (Some e) rest = e ∷ rest

@@ -30,6 +30,7 @@ goings sides = map (λ s. s.going) sides
 
 -- ---- what comes next of it
 
+-- what comes next is the record at hand; where none is at hand it is not known
 abbrev pub coming_by : Option Entry → Ahead
 coming_by None = Unknown
 coming_by (Some e) = Coming e
@@ -58,6 +59,7 @@ standing_by going (Closed s) = record { entries = []; ahead = Over None }
 standing_by going (Open r) = reader_standing going r
 standing_by going Taken = record { entries = []; ahead = Over None }
 
+-- the records that were read of a file, and what comes next of it
 abbrev pub standing_of : {A S : Type 0} → Side A S → Standing
 standing_of s = standing_by s.going s.file
 
@@ -81,11 +83,13 @@ IsSoundBy steering AtOnce stand at_hand = IsAtHand steering AtOnce stand at_hand
 IsSoundBy steering (By timestamp) stand at_hand = IsAtHand steering (By timestamp) stand at_hand
 IsSoundBy steering Never stand at_hand = stand ≡ Ended
 
+-- so of a file; of one that isn't opened nothing was read, or it never goes
 abbrev pub IsSoundFile : {A S : Type 0} → Steering → Going → ImportFile A S → Type 0
 IsSoundFile steering going (Closed s) = (going ≡ Unread) ⊎ (going ≡ Never)
 IsSoundFile steering going (Open r) = IsSoundBy steering going r.standing r.at_hand
 IsSoundFile steering going Taken = (going ≡ Unread) ⊎ (going ≡ Never)
 
+-- a file goes next by its own datagram at hand
 abbrev pub IsSoundSide : {A S : Type 0} → Steering → Side A S → Type 0
 IsSoundSide steering s = IsSoundFile steering s.going s.file
 
@@ -95,6 +99,7 @@ IsUnfailedFile (Closed s) = ⊤
 IsUnfailedFile (Open r) = fault_of r.standing ≡ None
 IsUnfailedFile Taken = ⊤
 
+-- so of a file that is read beside others
 abbrev pub IsUnfailed : {A S : Type 0} → Side A S → Type 0
 IsUnfailed s = IsUnfailedFile s.file
 
@@ -125,6 +130,7 @@ ReadsFile steering w (Open r) (Open r') = ReadsReader steering w r r'
 ReadsFile steering w (Open r) Taken = ⊥
 ReadsFile steering w Taken new = (w ≡ Never) × (new ≡ Taken)
 
+-- reading on, a file came to this fault
 abbrev pub StopsFile : {A S : Type 0} → ReadingFault → ImportFile A S → ImportFile A S → Type 0
 StopsFile f (Closed s) new = ⊥
 StopsFile f (Open r) (Closed s) = ⊥

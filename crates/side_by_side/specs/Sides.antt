@@ -33,6 +33,7 @@ use Rattle.run_outcome.specs.LowerFaults.{reading_fault}
 
 -- ---- files
 
+-- what was read of each file, and what comes next of it
 abbrev pub standings : {A S : Type 0} → List (Side A S) → List Standing
 standings sides = map standing_of sides
 
@@ -44,9 +45,11 @@ begun_each sides = map (λ s. begun_at s.file) sides
 abbrev pub failures_each : {A S : Type 0} → (S → ℕ) → List (Side A S) → ℕ
 failures_each failures sides = sum_by (λ s. failures_by failures s.file) sides
 
+-- each file goes next by its own datagram at hand
 abbrev pub AllSound : {A S : Type 0} → Steering → List (Side A S) → Type 0
 AllSound steering sides = AllByRecursion (λ s. IsSoundSide steering s) sides
 
+-- no file came to a fault
 abbrev pub AllUnfailed : {A S : Type 0} → List (Side A S) → Type 0
 AllUnfailed sides = AllByRecursion IsUnfailed sides
 
@@ -69,6 +72,7 @@ IsFreshFile (Closed s) = ⊤
 IsFreshFile (Open r) = (r.standing ≡ Reads) × (r.records ≡ [])
 IsFreshFile Taken = ⊤
 
+-- a file of which no datagram was read yet
 abbrev pub IsBegun : {A S : Type 0} → Side A S → Type 0
 IsBegun s = (s.going ≡ Unread) × IsFreshFile s.file
 
@@ -203,6 +207,7 @@ FileGave gave ended (Open r) octets =
     IsRead r.before.gave (gave r.source) (ended r.source) octets
 FileGave gave ended Taken octets = ⊤
 
+-- so of a file that is read beside others
 abbrev pub SideGave : {A S : Type 0} → (S → List ℕ) → (S → Type 0) → Side A S → List ℕ → Type 0
 SideGave gave ended s octets = FileGave gave ended s.file octets
 
@@ -212,6 +217,7 @@ strand_of (Closed s) octets = nothing
 strand_of (Open r) octets = strand_in r.flows octets
 strand_of Taken octets = nothing
 
+-- the records that each file has in its octets, and its fault
 abbrev pub strands_of : {A S : Type 0} → List (Side A S) → List (List ℕ) → List Strand
 strands_of [] octets = []
 strands_of (s ∷ ss) [] = []

@@ -24,6 +24,7 @@ whole_by es Unknown r = record { entries = es ++ r.entries; fault = r.fault }
 whole_by es (Coming e) r = record { entries = es ++ r.entries; fault = r.fault }
 whole_by es (Over f) r = record { entries = es; fault = f }
 
+-- all of a file: what was read of it, and what is still to come
 abbrev pub whole : Standing → Strand → Strand
 whole s r = whole_by s.entries s.ahead r
 
@@ -33,9 +34,11 @@ left_by Unknown r = r
 left_by (Coming e) r = record { entries = e ∷ r.entries; fault = r.fault }
 left_by (Over f) r = record { entries = []; fault = f }
 
+-- what is left of a file from the next record on
 abbrev pub left_of : Standing → Strand → Strand
 left_of s r = left_by s.ahead r
 
+-- a file without records, and without a fault
 abbrev pub nothing : Strand
 nothing = record { entries = []; fault = None }
 
@@ -45,6 +48,7 @@ wholes [] rs = []
 wholes (s ∷ ss) [] = whole s nothing ∷ wholes ss []
 wholes (s ∷ ss) (r ∷ rs) = whole s r ∷ wholes ss rs
 
+-- what is left of each file
 abbrev pub lefts : List Standing → List Strand → List Strand
 lefts [] rs = []
 lefts (s ∷ ss) [] = left_of s nothing ∷ lefts ss []
@@ -67,6 +71,7 @@ abbrev pub HasReadOn : Standing → Standing → Type 0
 HasReadOn s s' =
     (s' ≡ s) ⊎ ((s.ahead ≡ Unknown) × ReadsMore s.entries s'.ahead s'.entries)
 
+-- each file is as it was, or what comes next of it was read
 abbrev pub HaveReadOn : List Standing → List Standing → Type 0
 HaveReadOn [] [] = ⊤
 HaveReadOn [] (s' ∷ ss') = ⊥
@@ -87,5 +92,6 @@ GivesAt (suc place) (s ∷ ss) e (s' ∷ ss') = (s' ≡ s) × GivesAt place ss e
 abbrev pub IsFresh : Standing → Type 0
 IsFresh s = (r : Strand) → whole s r ≡ left_of s r
 
+-- nothing was read of any file
 abbrev pub AllFresh : List Standing → Type 0
 AllFresh ss = AllByRecursion IsFresh ss

@@ -26,6 +26,7 @@ IsRunning [] None = ⊤
 IsRunning [] (Some f) = ⊥
 IsRunning (e ∷ es) fault = ⊤
 
+-- no file is at its fault
 abbrev pub AllRunning : List Strand → Type 0
 AllRunning strands = AllByRecursion (λ x. IsRunning x.entries x.fault) strands
 

@@ -24,6 +24,7 @@ pub record Arrival : Type 0 where
   pub packet : Packet
   pub moment : ℕ
 
+-- a packet that came at a moment
 abbrev pub arrival : Packet → ℕ → Arrival
 arrival p moment = record { packet = p; moment = moment }
 
@@ -50,6 +51,7 @@ packet_of t path rtp =
       marker = rtp.marker;
     }
 
+-- the packet of what was read as RTP, where its header has no fault
 abbrev pub packet_by : Target → Path → Result Rtp RtpFault → Option Packet
 packet_by t path (Ok rtp) = Some (packet_of t path rtp)
 packet_by t path (Err fault) = None
@@ -68,6 +70,8 @@ answer_by t rtp =
     >>= λ payload. Ok (datagram_with own payload))
     >>= λ d. Ok (Kept d.number)
 
+-- a look at a datagram: what a receiver answers to it, and the packet that it is where it has a
+-- header of RTP
 pub record Looks (t : Target) (path : Path) (octets : List ℕ) (look : Look) : Type 0 where
   pub answer : look.answer ≡ answer_at t octets
   pub packet : look.packet ≡ packet_by t path (rtp_walk octets)
@@ -79,11 +83,13 @@ abbrev pub arrival_if : Option Packet → ℕ → List Arrival
 arrival_if None moment = []
 arrival_if (Some p) moment = arrival p moment ∷ []
 
+-- the packet of a record: none where it is RTCP or has no header
 abbrev pub arrivals_in : Target → Entry → List Arrival
 arrivals_in t e =
     if is_rtcp e.octets then []
     else arrival_if (packet_by t e.path (rtp_walk e.octets)) e.moment
 
+-- the packets of all records, whatever their payload type, in the order of the records
 abbrev pub arrivals_of : Target → List Entry → List Arrival
 arrivals_of t entries = flat_map (arrivals_in t) entries
 
@@ -91,6 +97,7 @@ arrivals_of t entries = flat_map (arrivals_in t) entries
 abbrev pub video_in : Target → Arrival → List Arrival
 video_in t a = if a.packet.payload_type == t.payload_type then a ∷ [] else []
 
+-- the packets of all records that have the payload type that is wanted, in the order of the records
 abbrev pub video_of : Target → List Entry → List Arrival
 video_of t entries = flat_map (video_in t) (arrivals_of t entries)
 
@@ -98,5 +105,6 @@ video_of t entries = flat_map (video_in t) (arrivals_of t entries)
 abbrev pub answers_in : Target → Entry → List (Result Taken Refusal)
 answers_in t e = if is_rtcp e.octets then [] else answer_at t e.octets ∷ []
 
+-- what a receiver answers to all records, in their order; RTCP has no answer
 abbrev pub answers_of : Target → List Entry → List (Result Taken Refusal)
 answers_of t entries = flat_map (answers_in t) entries

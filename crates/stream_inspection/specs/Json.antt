@@ -22,29 +22,34 @@ key_json k =
     codes "\"payload_type\":" ++ (decimal k.payload_type
     ++ (codes ",\"ssrc\":" ++ decimal k.ssrc))
 
+-- members of a path: its datagrams, and its lowest and highest number, `null` where nothing came
 abbrev pub range_json : PathRow → List ℕ
 range_json r =
     codes "\"datagrams\":" ++ (decimal r.datagrams
     ++ (codes ",\"lowest\":" ++ (null_text r.lowest
     ++ (codes ",\"highest\":" ++ null_text r.highest))))
 
+-- members of a path: how many numbers never came, and how many datagrams came again or late
 abbrev pub wrong_json : PathRow → List ℕ
 wrong_json r =
     codes "\"lost\":" ++ (decimal r.lost
     ++ (codes ",\"repeated\":" ++ (decimal r.repeated
     ++ (codes ",\"late\":" ++ decimal r.late))))
 
+-- members of both paths: how many numbers never came by A, by B, and by either
 abbrev pub lost_json : TogetherRow → List ℕ
 lost_json r =
     codes "\"lost_by_a\":" ++ (decimal r.lost_by_a
     ++ (codes ",\"lost_by_b\":" ++ (decimal r.lost_by_b
     ++ (codes ",\"lost_by_both\":" ++ decimal r.lost_by_both))))
 
+-- members of a timestamp: itself, and how many datagrams of it came by A and by B
 abbrev pub came_json : TimestampRow → List ℕ
 came_json r =
     codes "\"timestamp\":" ++ (decimal r.key.timestamp
     ++ (codes ",\"a\":" ++ (decimal r.by_a ++ (codes ",\"b\":" ++ decimal r.by_b))))
 
+-- members of a refusal: its number and its name
 abbrev pub reason_json : Refusal → List ℕ
 reason_json e =
     codes "\"number\":" ++ (decimal (refusal_number e)
@@ -57,12 +62,14 @@ path_json r =
     ++ (codes ",\"path\":\"" ++ (path_text r.path
     ++ (codes "\"," ++ (range_json r ++ (codes "," ++ (wrong_json r ++ codes "}")))))))
 
+-- the object of a stream on both paths
 abbrev pub together_json : TogetherRow → List ℕ
 together_json r =
     codes "{\"kind\":\"together\"," ++ (key_json r.key
     ++ (codes ",\"both\":" ++ (decimal r.both
     ++ (codes "," ++ (lost_json r ++ codes "}")))))
 
+-- the object of a timestamp; ticks and skew are `null` where they aren't known
 abbrev pub timestamp_json : TimestampRow → List ℕ
 timestamp_json r =
     codes "{\"kind\":\"timestamp\"," ++ (key_json r.key.stream
@@ -71,6 +78,7 @@ timestamp_json r =
     ++ (codes ",\"ticks\":" ++ (null_text r.ticks
     ++ (codes ",\"skew\":" ++ (null_signed r.skew ++ codes "}")))))))))
 
+-- the object of the skews, over the timestamps of all streams; `null` where none is known
 abbrev pub skew_json : SkewRow → List ℕ
 skew_json r =
     codes "{\"kind\":\"skew\",\"timestamps\":" ++ (decimal r.timestamps
@@ -78,6 +86,7 @@ skew_json r =
     ++ (codes ",\"middle\":" ++ (null_signed r.middle
     ++ (codes ",\"greatest\":" ++ (null_signed r.greatest ++ codes "}")))))))
 
+-- the object of a row, without the line's end
 abbrev pub json_text : Row → List ℕ
 json_text (Path r) = path_json r
 json_text (Together r) = together_json r
@@ -91,6 +100,7 @@ json_text (Control count) =
 json_text (Nothing payload_type) =
     codes "{\"kind\":\"nothing\",\"payload_type\":" ++ (decimal payload_type ++ codes "}")
 
+-- the object of a window: its timestamps in an array, in their order
 abbrev pub window_json : List ℕ → List ℕ
 window_json timestamps =
     codes "{\"kind\":\"window\",\"timestamps\":[" ++ (commas_text timestamps ++ codes "]}")

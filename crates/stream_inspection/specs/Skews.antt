@@ -36,6 +36,7 @@ moment_after known (a ∷ later) = moment_after (first_known known a.0.moment) l
 abbrev pub by_a_with : ℕ → Arrival × ℕ → Bool
 by_a_with number a = a.1 == number && is_a a.0.packet.path
 
+-- a packet has this number and came by B
 abbrev pub by_b_with : ℕ → Arrival × ℕ → Bool
 by_b_with number a = a.1 == number && not (is_a a.0.packet.path)
 
@@ -49,6 +50,7 @@ probe_with number own =
       b = moment_after None (filter (by_b_with number) own);
     }
 
+-- the probe of a timestamp's packets, by the number of the first; none where there are no packets
 abbrev pub probe_of : List (Arrival × ℕ) → Option Probe
 probe_of [] = None
 probe_of (a ∷ own) = Some (probe_with a.1 (a ∷ own))
@@ -72,9 +74,11 @@ skew_if (Some a) (Some b) = Some (2 ^ 64 + b - a)
 skew_if (Some a) None = None
 skew_if None b = None
 
+-- by how much later a probe's number came by B than by A, and 2^64, where both moments are known
 abbrev pub skew_of : Probe → Option ℕ
 skew_of p = skew_if p.a p.b
 
+-- the skew of a timestamp by its probe, where it has one
 abbrev pub skew_in : Option Probe → Option ℕ
 skew_in None = None
 skew_in (Some p) = skew_of p
@@ -127,6 +131,7 @@ abbrev pub numbering_in : Option Numbering → Numbering
 numbering_in None = numbering_of []
 numbering_in (Some n) = n
 
+-- the probes that a table has, or that no packet of the timestamp came
 abbrev pub probes_in : Option Probes → Probes
 probes_in None = record { long = None; short = None }
 probes_in (Some p) = p

@@ -20,6 +20,7 @@ use Rattle.stream_inspection.specs.declared.text.Form.{Form}
 abbrev pub told_number : ℕ → ℕ
 told_number n = if nat_lt n (2 ^ 32) then n else n - 2 ^ 32
 
+-- a packet number as it is told, where there is one
 abbrev pub packet_number : Option ℕ → Option ℕ
 packet_number None = None
 packet_number (Some n) = Some (told_number n)
@@ -66,6 +67,7 @@ together_row c =
       lost_by_both = numbers c - c.a.different - (c.b.different - c.both);
     }
 
+-- the heading of a stream: its payload type and source, and the names of its paths' columns
 abbrev pub heading_text : StreamKey → List ℕ
 heading_text k =
     codes "stream of payload type " ++ (decimal k.payload_type
@@ -77,6 +79,7 @@ abbrev pub is_wrong : PathRow → Bool
 is_wrong r =
     r.datagrams == 0 || (nat_lt 0 r.lost || (nat_lt 0 r.repeated || nat_lt 0 r.late))
 
+-- what is wrong on a path: that nothing came by it, or how much was lost, repeated and late
 abbrev pub wrong_text : PathRow → List ℕ
 wrong_text r =
     if r.datagrams == 0 then codes "  nothing came by " ++ path_text r.path
@@ -84,6 +87,7 @@ wrong_text r =
     ++ (codes " never came, " ++ (decimal r.repeated
     ++ (codes " came more than once, " ++ (decimal r.late ++ codes " came late")))))))
 
+-- the line of what is wrong on a path: none in JSON, and none where nothing is wrong
 abbrev pub wrong_lines : Form → PathRow → List ℕ
 wrong_lines form r = if is_wrong r then heading_lines form (wrong_text r) else []
 

@@ -36,6 +36,7 @@ abbrev pub ticks_behind : List TimestampCount → TimestampCount → Option ℕ
 ticks_behind front c =
     option_map (λ before. ticks_from before c.key.timestamp) (last_of c.key.stream front)
 
+-- what is told of a timestamp: its ticks behind its stream's last one, its skew by all arrivals
 abbrev pub timestamp_row : List Arrival → List TimestampCount → TimestampCount → TimestampRow
 timestamp_row arrivals front c =
     record {
@@ -47,6 +48,7 @@ timestamp_row arrivals front c =
       skew = skew_by arrivals c.key;
     }
 
+-- the line of a timestamp behind others
 abbrev pub timestamp_line : Form → List Arrival → List TimestampCount → TimestampCount → List ℕ
 timestamp_line form arrivals front c = row_line form (Timestamp (timestamp_row arrivals front c))
 
@@ -58,11 +60,13 @@ timestamps_behind form arrivals front (c ∷ counts) =
     timestamp_line form arrivals front c
     ++ timestamps_behind form arrivals (front ++ c ∷ []) counts
 
+-- the heading of timestamps: the payload type, and the names of the columns
 abbrev pub heading_text : ℕ → List ℕ
 heading_text payload_type =
     codes "timestamps of payload type " ++ (decimal payload_type
     ++ codes "\n       source    timestamp         by A         by B       marker        ticks skew of B in nanoseconds")
 
+-- the lines of all timestamps in the order of their first coming, in columns below a heading
 abbrev pub timestamps_text : Form → ℕ → List Arrival → List TimestampCount → List ℕ
 timestamps_text form payload_type arrivals counts =
     heading_lines form (heading_text payload_type) ++ timestamps_behind form arrivals [] counts

@@ -42,6 +42,7 @@ refused_line form counts e =
     counted_line form (Refused e (slice_index counts (slot_of e)))
     (slice_index counts (slot_of e))
 
+-- the lines of the refusals that came, in the order of their numbers
 abbrev pub refusals_text : Form → List ℕ → List ℕ
 refusals_text form counts = flat_map (refused_line form counts) all_refusals
 

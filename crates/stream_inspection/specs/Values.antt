@@ -8,6 +8,7 @@ use Rattle.std.specs.List.{flat_map}
 abbrev pub wide : ℕ → List ℕ
 wide n = replicate (13 - length (decimal n)) 32 ++ decimal n
 
+-- a number in a column of thirteen, or a dash at its right where there is none
 abbrev pub wide_text : Option ℕ → List ℕ
 wide_text None = codes "            -"
 wide_text (Some n) = wide n
@@ -22,10 +23,12 @@ abbrev pub signed_text : ℕ → List ℕ
 signed_text n =
     if nat_lt n (2 ^ 64) then codes "-" ++ decimal (2 ^ 64 - n) else decimal (n - 2 ^ 64)
 
+-- a number less 2^64 behind a space, or a dash where there is none
 abbrev pub wide_signed : Option ℕ → List ℕ
 wide_signed None = codes " -"
 wide_signed (Some n) = codes " " ++ signed_text n
 
+-- a number less 2^64, or `null` where there is none
 abbrev pub null_signed : Option ℕ → List ℕ
 null_signed None = codes "null"
 null_signed (Some n) = signed_text n

@@ -61,10 +61,12 @@ abbrev pub FindsRecords : {A : Type 0} → Sought → List ℕ → List (List �
 FindsRecords o text datagrams before after =
     RecordsGo text datagrams (FindsSoFar o before) (FindsSoFar o after)
 
+-- the finding goes on over a file that is taken so: what was found then is of its datagrams too
 abbrev pub FindsFile : {A : Type 0} → Sought → Way → (List ℕ → Type 0) → Option (Finder A)
     → Option (Finder A) → Type 0
 FindsFile o w told before after = FileGoes w told (FindsSoFar o before) (FindsSoFar o after)
 
+-- the finding goes on over files in their order, each taken in its own way
 abbrev pub FindsFiles : {S A : Type 0} → Sought → List (Result Flows Refusal)
     → (S → List ℕ → Type 0) → List S → Option (Finder A) → Option (Finder A) → Type 0
 FindsFiles o ways told files before after =
