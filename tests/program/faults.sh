@@ -5,7 +5,8 @@ awk '
 ' "$root/docs/FAULTS.md" | sort >written.faults
 
 # In the sources a type has numbers from its first `= N` on, or in the arms of its `number`; those of commands stand in
-# the text of their lines. The faults of a header and of a payload are told as a datagram's.
+# the texts of their lines, but for that which all have that write a file. The faults of a header and of a payload are
+# told as a datagram's.
 find "$root"/crates/*/src -name '*.rt' -exec awk '
     function found(kind, number, name) {
         if (kind == "RtpFault") kind = "Refusal"
@@ -21,7 +22,7 @@ find "$root"/crates/*/src -name '*.rt' -exec awk '
     in_number && $1 ~ /(Fault|Refusal)::/ && $3 ~ /^[0-9]+,$/ {
         split($1, part, "::"); sub("[(].*", "", part[2]); found(part[1], $3 + 0, part[2])
     }
-    /write_str[(]"[a-z]+ [0-9]+ [A-Z][A-Za-z0-9]*"[)]/ { split($0, part, "\""); print part[2] }
+    / => "[a-z]+ [0-9]+ [A-Z][A-Za-z0-9]*",$/ && !/OutputIsInput/ { split($0, part, "\""); print part[2] }
 ' {} + | sort >known.faults
 
 if [ ! -s known.faults ]; then

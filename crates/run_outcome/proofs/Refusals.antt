@@ -79,14 +79,11 @@ line_told status line result old new took took' (inr is) one =
 told_of_line : (Is : Refusal → Type 0) (r : Refusal) → Is r → (status : Status) (line : List ℕ)
     (took took' : List ℕ) → IsRefusalLine (refusal_text r) status line
     → status_number status ≡ 1 → took' ≡ took ++ line → TellsRefusal Is took took'
-told_of_line Is r is status line took took' (inl told) one taken = record {
+told_of_line Is r is status line took took' told one taken = record {
   refusal = r;
   is = is;
   told = subst (λ (l : List ℕ). took' ≡ took ++ l) told.1 taken;
 }
-told_of_line Is r is status line took took' (inr told) one taken =
-    let four : status_number status ≡ 4 = ap status_number told.0 in
-    absurd (omega (arith, one, four))
 
 -- where a run ends with status 1, a refusal was told
 pub refusal_told : (Is : Refusal → Type 0) (f : Fault) (result : Status) (old new : ℕ)

@@ -1,5 +1,5 @@
 -- What is printed of a refusal: its subject, its number and its name (own).
-use Rattle.std.specs.Prelude.{ℕ, List, ◌++◌, codes}
+use Rattle.std.specs.Prelude.{ℕ, List, ◌++◌, codes, ⊤}
 use Rattle.std.specs.Fmt.{decimal}
 use Rattle.media_file.specs.Faults.{file_fault_name, file_fault_number}
 use Rattle.key_mix.specs.Faults.{job_fault_name, job_fault_number}
@@ -101,3 +101,20 @@ refusal_text (refusal.Recording f) =
     numbered_name (codes "recording ") (recording_fault_number f) (recording_fault_name f)
 refusal_text (refusal.Form f) =
     numbered_name (codes "form ") (form_fault_number f) (form_fault_name f)
+
+-- a refusal of which words alone are printed: none of a line of a script, of an output or of a
+-- library's fault
+abbrev pub IsWorded : Refusal → Type 0
+IsWorded (refusal.Script number fault) = ⊥
+IsWorded (refusal.OutputIsInput by) = ⊥
+IsWorded (refusal.Sdp at) = ⊥
+IsWorded (refusal.Flows f) = ⊥
+IsWorded (refusal.Open f) = ⊥
+IsWorded (refusal.Plan f) = ⊥
+IsWorded (refusal.Job f) = ⊥
+IsWorded (refusal.Capture f) = ⊥
+IsWorded (refusal.Picture f) = ⊥
+IsWorded (refusal.State f) = ⊥
+IsWorded (refusal.Recording f) = ⊥
+IsWorded (refusal.Form f) = ⊥
+IsWorded r = ⊤

@@ -1,5 +1,5 @@
 //! How a run ends: by a status, and where it came to a fault by a line.
-ghost use Rattle.std.specs.Prelude.{◌≡◌, ◌≢◌, ◌⊎◌, ◌++◌};
+ghost use Rattle.std.specs.Prelude.{◌≡◌, ◌≢◌, ◌⊎◌, ◌++◌, Err};
 ghost use Rattle.st_format.specs.Device.{Failed};
 ghost use Rattle.run_outcome.specs.Fault.{EndsDone, EndsFailed, EndsRefused, EndsWorked};
 ghost use Rattle.run_outcome.specs.Fault.{IsLineOf, TellsFault};
@@ -9,11 +9,10 @@ ghost use Rattle.run_outcome.specs.Telling.{IsRefusalLine, TellsLine, memory_lin
 
 use crate::fault::Fault;
 use crate::refusal::Refusal;
+use crate::refusal_text::line_of;
 use crate::status::Status;
 use crate::telling::{tell_device, tell_line, tell_memory};
-use crate::text_line::line_of;
 use st_format::ByteSink;
-use std::fmt;
 
 /// What a run comes to: its exit status. Where it came to a fault, `faults` is told of it by one
 /// line.
@@ -32,6 +31,9 @@ pub fn end<F: ByteSink>(outcome: Result<(), Fault>, faults: &mut F) -> u8
     ensures worked { result ≢ 3 → EndsWorked outcome }
     ensures working { result ≢ 3 → F.failures faults.new ≡ F.failures faults.old }
     ensures memory { result ≡ 4 → F.took faults.new ≡ F.took faults.old ++ memory_line }
+    // A line of its own wants no memory.
+    ensures wanted { result ≡ 4 → outcome ≡ Err Fault.Memory }
+    ensures unfailed { EndsRefused outcome → result ≢ 3 → result ≡ 1 }
 {
     match outcome {
         Ok(()) => Status::Done.number(),
@@ -55,24 +57,5 @@ fn tell_refusal<F: ByteSink>(refusal: Refusal, faults: &mut F) -> Status
     ensures { TellsFault (Fault.Refused refusal) result (F.failures faults.old)
         (F.failures faults.new) (F.took faults.old) (F.took faults.new) }
 {
-    match line_of(Told(refusal)) {
-        Some(line) => tell_line(Status::Refused, line.as_bytes(), faults),
-        None => tell_memory(faults),
-    }
-}
-
-/// A refusal as its line tells it.
-#[derive(Clone, Copy)]
-struct Told(Refusal);
-
-impl fmt::Display for Told {
-    ghost use Rattle.std.specs.Prelude.{Some, ◌++◌, codes};
-    ghost use Rattle.run_outcome.specs.RefusalText.{refusal_text};
-
-    ghost output = { λ told. Some (codes "st2110: " ++ refusal_text told.0) };
-
-    fn fmt<W: fmt::Write>(&self, f: &mut fmt::Formatter<W>) -> fmt::Result {
-        let refusal = self.0;
-        write!(f, "st2110: {refusal}")
-    }
+    tell_line(Status::Refused, line_of(refusal).as_bytes(), faults)
 }

@@ -8,6 +8,7 @@ mod line;
 mod pictures;
 mod printing;
 mod refusal;
+mod refusal_text;
 mod script_line;
 mod sources;
 mod status;

@@ -1,7 +1,15 @@
 //! Lines of output.
+ghost use Rattle.std.specs.Prelude.{◌≡◌, ◌≤◌, ◌<◌, ◌+◌, ◌++◌, ◌∷◌, [], length};
+ghost use Rattle.arrayvec.specs.ArrayString.{array_string_len};
+ghost use Rattle.run_outcome.specs.Frames.{frame_counts};
+ghost use Rattle.run_outcome.specs.Line.{line_text};
+ghost use Rattle.run_outcome.specs.declared.line.Line.TheVariants.{Absent, HandedOut, Recorded};
+ghost use Rattle.run_outcome.specs.declared.line.Line.TheVariants.{Exported, RefusedCount};
+
+use crate::text_line::{LINE, add, add_fault, add_number};
+use arrayvec::ArrayString;
 use frame_assembly::Counts;
 use path_receiver::{Refusal, SlideFault};
-use std::fmt;
 
 /// What a run says. A timestamp is in 90 kHz ticks.
 #[derive(Clone, Copy)]
@@ -49,66 +57,126 @@ pub enum Line {
     OutsideCount(u64),
 }
 
-impl fmt::Display for Line {
-    ghost use Rattle.std.specs.Prelude.{Some};
-    ghost use Rattle.run_outcome.specs.Line.{line_text};
+/// The text of a line with its end, which always has room.
+pub(crate) fn text_of(line: Line) -> ArrayString<LINE>
+    ensures { result.bytes ≡ line_text line ++ 10 ∷ [] }
+{
+    let mut text = ArrayString::<LINE>::new();
+    add_line(&mut text, line);
+    add(&mut text, "\n");
+    text
+}
 
-    ghost output = { λ line. Some (line_text line) };
-
-    fn fmt<W: fmt::Write>(&self, f: &mut fmt::Formatter<W>) -> fmt::Result {
-        match self {
-            Line::Kept(number) => write!(f, "kept {number}"),
-            Line::Outside => f.write_str("outside"),
-            Line::Refused(refusal) => {
-                let number = refusal.number();
-                let name = refusal.name();
-                write!(f, "refused {number} {name}")
-            }
-            Line::Missing => f.write_str("missing"),
-            Line::Value(value) => write!(f, "value {value}"),
-            Line::Contested => f.write_str("contested"),
-            Line::Nowhere => f.write_str("none"),
-            Line::Frame(timestamp, counts) => {
-                write!(
-                    f,
-                    "frame {timestamp} present {} missing {} contested {}",
-                    counts.present, counts.missing, counts.contested
-                )
-            }
-            Line::Out(timestamp, counts) => {
-                write!(
-                    f,
-                    "out {timestamp} present {} missing {} contested {}",
-                    counts.present, counts.missing, counts.contested
-                )
-            }
-            Line::NotSlid(fault) => {
-                let number = fault.number();
-                let name = fault.name();
-                write!(f, "refused slide {number} {name}")
-            }
-            Line::HandedOut(receiver, timestamp, counts) => {
-                write!(
-                    f,
-                    "out {receiver} {timestamp} present {} missing {} contested {}",
-                    counts.present, counts.missing, counts.contested
-                )
-            }
-            Line::Receiver(number) => write!(f, "receiver {number}"),
-            Line::Absent(first, count) => write!(f, "absent {first} {count}"),
-            Line::Records(count) => write!(f, "records {count}"),
-            Line::Recorded(a, b, left_out) => {
-                write!(f, "recorded A {a} B {b} left out {left_out}")
-            }
-            Line::Exported(count, left_out) => write!(f, "exported {count} left out {left_out}"),
-            Line::Sent(count) => write!(f, "sent {count}"),
-            Line::Delivered(count) => write!(f, "delivered {count}"),
-            Line::RefusedCount(refusal, count) => {
-                let number = refusal.number();
-                let name = refusal.name();
-                write!(f, "refused {number} {name} {count}")
-            }
-            Line::OutsideCount(count) => write!(f, "outside {count}"),
+/// Adds a line behind no text. There is room for its end then.
+fn add_line(text: &mut ArrayString<LINE>, line: Line)
+    requires { array_string_len text.old ≡ 0 }
+    ensures text { text.new.bytes ≡ text.old.bytes ++ line_text line }
+    ensures room { array_string_len text.new < LINE }
+{
+    match line {
+        Line::Kept(number) => add_number(text, "kept ", u64::from(number)),
+        Line::Outside => add(text, "outside"),
+        Line::Refused(refusal) => add_refusal(text, refusal),
+        Line::Missing => add(text, "missing"),
+        Line::Value(value) => add_number(text, "value ", u64::from(value)),
+        Line::Contested => add(text, "contested"),
+        Line::Nowhere => add(text, "none"),
+        Line::Frame(timestamp, counts) => add_counts(text, "frame ", timestamp, counts),
+        Line::Out(timestamp, counts) => add_counts(text, "out ", timestamp, counts),
+        Line::NotSlid(fault) => add_slide_fault(text, fault),
+        Line::HandedOut(receiver, timestamp, counts) => {
+            add_handed_out(text, receiver, timestamp, counts)
         }
+        Line::Receiver(number) => add_number(text, "receiver ", number as u64),
+        Line::Absent(first, count) => add_absent(text, first, count),
+        Line::Records(count) => add_number(text, "records ", count),
+        Line::Recorded(a, b, left_out) => add_recorded(text, a, b, left_out),
+        Line::Exported(count, left_out) => add_exported(text, count, left_out),
+        Line::Sent(count) => add_number(text, "sent ", count),
+        Line::Delivered(count) => add_number(text, "delivered ", count),
+        Line::RefusedCount(refusal, count) => add_refused_count(text, refusal, count),
+        Line::OutsideCount(count) => add_number(text, "outside ", count),
     }
+}
+
+/// Adds a word, a timestamp, and how many samples are of each kind.
+fn add_counts(text: &mut ArrayString<LINE>, word: &str, timestamp: u32, counts: Counts)
+    requires { array_string_len text.old + length word.now ≤ 32 }
+    ensures text { text.new.bytes ≡ text.old.bytes ++ frame_counts word.now timestamp counts }
+    ensures room { array_string_len text.new < LINE }
+{
+    add_number(text, word, u64::from(timestamp));
+    add_number(text, " present ", counts.present);
+    add_number(text, " missing ", counts.missing);
+    add_number(text, " contested ", counts.contested);
+}
+
+/// Adds the line of a frame that a receiver handed out.
+fn add_handed_out(text: &mut ArrayString<LINE>, receiver: u8, timestamp: u32, counts: Counts)
+    requires { array_string_len text.old ≡ 0 }
+    ensures text { text.new.bytes ≡ text.old.bytes
+        ++ line_text (HandedOut receiver timestamp counts) }
+    ensures room { array_string_len text.new < LINE }
+{
+    add_number(text, "out ", u64::from(receiver));
+    add_counts(text, " ", timestamp, counts);
+}
+
+/// Adds the line of numbers of which none came.
+fn add_absent(text: &mut ArrayString<LINE>, first: u32, count: u32)
+    requires { array_string_len text.old ≡ 0 }
+    ensures text { text.new.bytes ≡ text.old.bytes ++ line_text (Absent first count) }
+    ensures room { array_string_len text.new < LINE }
+{
+    add_number(text, "absent ", u64::from(first));
+    add_number(text, " ", u64::from(count));
+}
+
+/// Adds the line of what was written of two paths.
+fn add_recorded(text: &mut ArrayString<LINE>, a: u64, b: u64, left_out: u64)
+    requires { array_string_len text.old ≡ 0 }
+    ensures text { text.new.bytes ≡ text.old.bytes ++ line_text (Recorded a b left_out) }
+    ensures room { array_string_len text.new < LINE }
+{
+    add_number(text, "recorded A ", a);
+    add_number(text, " B ", b);
+    add_number(text, " left out ", left_out);
+}
+
+/// Adds the line of what was exported.
+fn add_exported(text: &mut ArrayString<LINE>, count: u64, left_out: u64)
+    requires { array_string_len text.old ≡ 0 }
+    ensures text { text.new.bytes ≡ text.old.bytes ++ line_text (Exported count left_out) }
+    ensures room { array_string_len text.new < LINE }
+{
+    add_number(text, "exported ", count);
+    add_number(text, " left out ", left_out);
+}
+
+/// Adds the number and the name of a datagram's refusal.
+fn add_refusal(text: &mut ArrayString<LINE>, refusal: Refusal)
+    requires { array_string_len text.old ≡ 0 }
+    ensures text { text.new.bytes ≡ text.old.bytes ++ line_text (Line.Refused refusal) }
+    ensures room { array_string_len text.new ≤ 61 }
+{
+    add_fault(text, "refused ", refusal.number(), refusal.name());
+}
+
+/// Adds the line of how many datagrams were refused for a reason.
+fn add_refused_count(text: &mut ArrayString<LINE>, refusal: Refusal, count: u64)
+    requires { array_string_len text.old ≡ 0 }
+    ensures text { text.new.bytes ≡ text.old.bytes ++ line_text (RefusedCount refusal count) }
+    ensures room { array_string_len text.new < LINE }
+{
+    add_refusal(text, refusal);
+    add_number(text, " ", count);
+}
+
+/// Adds the line of a window that did not move on.
+fn add_slide_fault(text: &mut ArrayString<LINE>, fault: SlideFault)
+    requires { array_string_len text.old ≡ 0 }
+    ensures text { text.new.bytes ≡ text.old.bytes ++ line_text (Line.NotSlid fault) }
+    ensures room { array_string_len text.new < LINE }
+{
+    add_fault(text, "refused slide ", fault.number(), fault.name());
 }

@@ -6,8 +6,7 @@ ghost use Rattle.run_outcome.specs.Frames.{frame_line_at, frame_lines};
 ghost use Rattle.run_outcome.specs.Line.{line_text};
 
 use crate::fault::Fault;
-use crate::line::Line;
-use crate::text_line::line_of;
+use crate::line::{Line, text_of};
 use path_receiver::Receiver;
 use st_format::{ByteSink, write_whole};
 use std::alloc::Allocator;
@@ -21,6 +20,7 @@ pub fn print_frames<A: Allocator, O: ByteSink>(
         (O.took output.new ≡ O.took output.old ++ frame_lines receiver.now) }
     ensures cut { OnErr result
         (GrowsPart (O.took output.old) (O.took output.new) (frame_lines receiver.now)) }
+    ensures device { IfErr result (λ f. f ≡ Fault.Device) }
     ensures unrefused { IfErr result (λ f. IfRefused f ⊥) }
     ensures failures { Accounts result (counts (O.failures output.old) (O.failures output.new)
         ∷ []) }
@@ -42,6 +42,7 @@ fn print_frame<A: Allocator, O: ByteSink>(
     ensures cut { OnErr result
         (GrowsPart (O.took output.old) (O.took output.new)
         (frame_line_at receiver.now timestamp)) }
+    ensures device { IfErr result (λ f. f ≡ Fault.Device) }
     ensures unrefused { IfErr result (λ f. IfRefused f ⊥) }
     ensures failures { Accounts result (counts (O.failures output.old) (O.failures output.new)
         ∷ []) }
@@ -54,19 +55,18 @@ fn print_frame<A: Allocator, O: ByteSink>(
 }
 
 /// Prints a line and its end by one call, so that lines of several runs into one pipe stay whole.
+/// Nothing else than the device fails: no memory is wanted.
 pub fn print<O: ByteSink>(line: Line, output: &mut O) -> Result<(), Fault>
     ensures printed { OnOk result
         (O.took output.new ≡ O.took output.old ++ (line_text line ++ 10 ∷ [])) }
-    // Where a device failed or memory was wanted, a first part of it.
+    // Where the device failed, a first part of it.
     ensures cut { OnErr result
         (GrowsPart (O.took output.old) (O.took output.new) (line_text line ++ 10 ∷ [])) }
+    ensures device { IfErr result (λ f. f ≡ Fault.Device) }
     ensures unrefused { IfErr result (λ f. IfRefused f ⊥) }
     ensures failures { Accounts result (counts (O.failures output.old) (O.failures output.new)
         ∷ []) }
 {
-    let Some(text) = line_of(line) else {
-        return Err(Fault::Memory);
-    };
-    write_whole(output, text.as_bytes())?;
+    write_whole(output, text_of(line).as_bytes())?;
     Ok(())
 }

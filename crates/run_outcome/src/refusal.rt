@@ -1,7 +1,5 @@
 //! Why a run is refused.
-ghost use Rattle.std.specs.Prelude.{◌≡◌};
-ghost use Rattle.run_outcome.specs.RefusalText.{output_text};
-
+use crate::refusal_text::text_of;
 use crate::script_line::LineFault;
 use key_mix::JobFault;
 use media_file::FileFault;
@@ -111,102 +109,6 @@ impl fmt::Display for Refusal {
     ghost output = { λ refusal. Some (refusal_text refusal) };
 
     fn fmt<W: fmt::Write>(&self, f: &mut fmt::Formatter<W>) -> fmt::Result {
-        match self {
-            Refusal::Script(line, LineFault::Form(_)) => write!(f, "script {line}"),
-            Refusal::Script(_, fault) => write!(f, "{fault}"),
-            Refusal::MigrateSdp => f.write_str("migrate 1 SdpTooLong"),
-            Refusal::ExportFlow => f.write_str("export 1 BadFlow"),
-            Refusal::ReceiveWindow => f.write_str("receive 1 BadWindowText"),
-            Refusal::ReceiveSource => f.write_str("receive 2 BadSource"),
-            Refusal::ReceiveSdp => f.write_str("receive 3 SdpTooLong"),
-            Refusal::ReceiveNoSdp => f.write_str("receive 4 NoSdp"),
-            Refusal::SendFormats => f.write_str("send 1 FormatsDiffer"),
-            Refusal::SendPictures => f.write_str("send 2 TooManyPictures"),
-            Refusal::SendSdp => f.write_str("send 3 SdpTooLong"),
-            Refusal::MergeUnlike => f.write_str("merge 1 OpenedUnlike"),
-            Refusal::ProcessJob => f.write_str("process 1 BadJob"),
-            Refusal::ProcessFrame => f.write_str("process 2 NoFrame"),
-            Refusal::ProcessFill => f.write_str("process 3 BadFill"),
-            Refusal::ProcessHold => f.write_str("process 4 HoldDiffers"),
-            Refusal::ImportSdp => f.write_str("import 1 SdpTooLong"),
-            Refusal::ImportFlow => f.write_str("import 2 BadFlow"),
-            Refusal::ImportPlaces => f.write_str("import 3 OnePlace"),
-            Refusal::ImportRecords => f.write_str("import 4 TooManyRecords"),
-            Refusal::FollowFill => f.write_str("follow 1 BadFill"),
-            Refusal::FrameTimestamp => f.write_str("frame 1 NoFrame"),
-            Refusal::FrameFill => f.write_str("frame 2 BadFill"),
-            Refusal::FrameHold => f.write_str("frame 3 HoldDiffers"),
-            Refusal::FrameForm => f.write_str("frame 4 WrongForm"),
-            Refusal::ConvertForm => f.write_str("convert 1 WrongForm"),
-            Refusal::OutputIsInput(writer) => f.write_str(of_output(*writer)),
-            Refusal::Sdp(at) => {
-                let fault = at.fault;
-                let number = fault.number();
-                let name = fault.name();
-                write!(f, "sdp {number} {name}")
-            }
-            Refusal::Flows(fault) => {
-                let number = fault.number();
-                let name = fault.name();
-                write!(f, "flows {number} {name}")
-            }
-            Refusal::Open(fault) => {
-                let number = fault.number();
-                let name = fault.name();
-                write!(f, "open {number} {name}")
-            }
-            Refusal::Plan(fault) => {
-                let number = fault.number();
-                let name = fault.name();
-                write!(f, "plan {number} {name}")
-            }
-            Refusal::Job(fault) => {
-                let number = fault.number();
-                let name = fault.name();
-                write!(f, "job {number} {name}")
-            }
-            Refusal::Capture(fault) => {
-                let number = fault.number();
-                let name = fault.name();
-                write!(f, "capture {number} {name}")
-            }
-            Refusal::Picture(fault) => {
-                let number = fault.number();
-                let name = fault.name();
-                write!(f, "picture {number} {name}")
-            }
-            Refusal::State(fault) => {
-                let number = fault.number();
-                let name = fault.name();
-                write!(f, "state {number} {name}")
-            }
-            Refusal::Recording(fault) => {
-                let number = fault.number();
-                let name = fault.name();
-                write!(f, "recording {number} {name}")
-            }
-            Refusal::Form(fault) => {
-                let number = fault.number();
-                let name = fault.name();
-                write!(f, "form {number} {name}")
-            }
-        }
-    }
-}
-
-/// What is printed where this command's output is one of its inputs.
-fn of_output(writer: Writer) -> &'static str
-    ensures { result.now ≡ output_text writer }
-{
-    match writer {
-        Writer::Migrate => "migrate 2 OutputIsInput",
-        Writer::Send => "send 4 OutputIsInput",
-        Writer::Receive => "receive 5 OutputIsInput",
-        Writer::Process => "process 5 OutputIsInput",
-        Writer::Import => "import 5 OutputIsInput",
-        Writer::Export => "export 2 OutputIsInput",
-        Writer::Follow => "follow 2 OutputIsInput",
-        Writer::Picture => "frame 5 OutputIsInput",
-        Writer::Convert => "convert 2 OutputIsInput",
+        f.write_str(text_of(*self).as_str())
     }
 }

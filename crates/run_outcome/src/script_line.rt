@@ -8,7 +8,6 @@ use packet_numbers::SeqMapFault;
 use packet_plan::PlanFault;
 use path_receiver::{OpenFault, PlayFault};
 use st_format::FormatFault;
-use std::fmt;
 
 /// The form of a line of a script, or what else was wanted in the place of one.
 #[derive(Clone, Copy, Debug, PartialEq, Eq)]
@@ -129,49 +128,6 @@ impl LineFault {
             LineFault::Plan(PlanFault::NoMemory) => Fault::Memory,
             LineFault::Play(PlayFault::NoMemory) => Fault::Memory,
             _ => Fault::Refused(Refusal::Script(line, self)),
-        }
-    }
-}
-
-impl fmt::Display for LineFault {
-    ghost use Rattle.std.specs.Prelude.{Some};
-    ghost use Rattle.run_outcome.specs.RefusalText.{line_fault_text};
-
-    ghost output = { λ fault. Some (line_fault_text fault) };
-
-    /// The subject, the number and the name of a fault, and of an event its place; of a form only
-    /// that it is the script's.
-    fn fmt<W: fmt::Write>(&self, f: &mut fmt::Formatter<W>) -> fmt::Result {
-        match self {
-            LineFault::Form(_) => f.write_str("script"),
-            LineFault::Format(fault) => {
-                let number = fault.number();
-                let name = fault.name();
-                write!(f, "format {number} {name}")
-            }
-            LineFault::Open(fault) => {
-                let number = fault.number();
-                let name = fault.name();
-                write!(f, "open {number} {name}")
-            }
-            LineFault::Numbers(fault) => {
-                let number = fault.number();
-                let name = fault.name();
-                write!(f, "numbers {number} {name}")
-            }
-            LineFault::Plan(fault) => {
-                let number = fault.number();
-                let name = fault.name();
-                write!(f, "plan {number} {name}")
-            }
-            LineFault::Play(fault) => {
-                let number = fault.number();
-                let name = fault.name();
-                match fault {
-                    PlayFault::BadEvent(place) => write!(f, "play {number} {name} {place}"),
-                    _ => write!(f, "play {number} {name}"),
-                }
-            }
         }
     }
 }

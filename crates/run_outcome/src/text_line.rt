@@ -1,21 +1,47 @@
-//! A line as text, gathered on the stack.
-ghost use Rattle.std.specs.Prelude.{◌≡◌, ◌∷◌, ◌++◌, [], IfSome};
+//! Lines as text, gathered on the stack. Each has room for all that is added to it.
+ghost use Rattle.std.specs.Prelude.{◌≡◌, ◌≤◌, ◌+◌, ◌++◌, length};
+ghost use Rattle.std.specs.Fmt.{decimal};
+ghost use Rattle.arrayvec.specs.ArrayString.{array_string_len};
+ghost use Rattle.run_outcome.specs.Telling.{numbered_name};
 
 use arrayvec::ArrayString;
-use std::fmt::{Display, Write};
+use itoa::Buffer;
 
-/// Room for any line of output or of a fault, in octets. That each fits is not proved: one that
-/// didn't would be told as want of memory.
-const LINE: usize = 128;
+/// Room for any line of output or of a fault, in octets: at most five numbers, of at most 20 digits
+/// each, and words.
+pub(crate) const LINE: usize = 160;
 
-/// The text of a value and an end of line behind it; none where that has no room.
-pub(crate) fn line_of<D: Display + Drop>(value: D) -> Option<ArrayString<LINE>>
-    ensures { IfSome result (λ line. IfSome (D.output value)
-        (λ octets. line.bytes ≡ octets ++ 10 ∷ [])) }
+/// Adds a word, a number, a space and the name of a fault to a text that has the room.
+pub(crate) fn add_fault(text: &mut ArrayString<LINE>, word: &str, number: u8, name: &str)
+    requires name { length name.now ≤ 32 }
+    requires room { array_string_len text.old + (length word.now + 53) ≤ LINE }
+    ensures text { text.new.bytes ≡ text.old.bytes ++ numbered_name word.now number name.now }
+    ensures room { array_string_len text.new ≤ array_string_len text.old + (length word.now + 53) }
 {
-    let mut line = ArrayString::<LINE>::new();
-    match line.writeln(value) {
-        Ok(()) => Some(line),
-        Err(_) => None,
+    add_number(text, word, u64::from(number));
+    add(text, " ");
+    add(text, name);
+}
+
+/// Adds a word and a number in decimal digits to a text that has the room.
+pub(crate) fn add_number(text: &mut ArrayString<LINE>, word: &str, number: u64)
+    requires { array_string_len text.old + (length word.now + 20) ≤ LINE }
+    ensures text { text.new.bytes ≡ text.old.bytes ++ (word.now ++ decimal number) }
+    ensures room { array_string_len text.new ≤ array_string_len text.old + (length word.now + 20) }
+{
+    let mut digits = Buffer::new();
+    add(text, word);
+    add(text, digits.format(number));
+}
+
+/// Adds a word to a text that has the room.
+pub(crate) fn add(text: &mut ArrayString<LINE>, word: &str)
+    requires { array_string_len text.old + length word.now ≤ LINE }
+    ensures text { text.new.bytes ≡ text.old.bytes ++ word.now }
+    ensures len { array_string_len text.new ≡ array_string_len text.old + length word.now }
+{
+    match text.try_push_str(word) {
+        Ok(()) => (),
+        Err(_) => unreachable!(),
     }
 }
