@@ -15,6 +15,8 @@ mod growths;
 #[cfg(test)]
 mod pixmaps;
 #[cfg(test)]
+mod planes;
+#[cfg(test)]
 mod reports;
 #[cfg(test)]
 mod sent_streams;

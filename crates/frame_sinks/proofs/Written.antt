@@ -9,16 +9,20 @@ use Rattle.frame_sinks.specs.Fills.{fill_of}
 use Rattle.frame_sinks.specs.Pictures.{form_head, head_for, held_by, is_of, picture_of}
 use Rattle.frame_sinks.specs.Sinks.{FailsFrame, TakesFrame, text_for}
 use Rattle.frame_sinks.specs.declared.filling.Filling.{Filling}
+use Rattle.frame_sinks.specs.declared.filling.Filling.TheVariants.{Fill}
 use Rattle.frame_sinks.specs.declared.form_sink.FormSink.{FormSink}
 use Rattle.frame_sinks.specs.declared.settling.Settling.{Settling}
 use Rattle.picture_engine.specs.Views.{settled_with}
 use Rattle.picture_forms.specs.Faults.{CountsFault, IsDevice}
+use Rattle.picture_forms.specs.Layouts.{IsYcc, frame_line, frame_text, planes_text}
 use Rattle.picture_forms.specs.declared.fault.FormFault.{FormFault}
 use Rattle.picture_forms.specs.declared.fault.FormFault.TheVariants as form
 use Rattle.receiver_engines.specs.Inputs.{settled_by_fill, settled_over}
 use Rattle.run_outcome.proofs.Blaming.{failed_one}
-use Rattle.settled_forms.specs.Settled.{form_text}
+use Rattle.settled_forms.specs.Settled.{form_by, form_text}
 use Rattle.st_format.specs.declared.format.Format.{Format}
+use Rattle.st_format.specs.declared.sampling.Sampling.{Sampling}
+use Rattle.st_format.specs.declared.sampling.Sampling.TheVariants.{Ycc422, Ycc444, Rgb}
 use Rattle.st_format.specs.Device.{Failed}
 use Rattle.st_format.specs.Fields.{fields_of, same_fields}
 use Rattle.st_format.specs.Picture.{Values, value_at}
@@ -147,3 +151,68 @@ takes_frame took k l m sink p h filling fill held is written sunk begun filled b
   filling = filled ∙ filling;
   fill = by ∙ fill;
 }
+
+-- ---- a frame by its planes
+
+ycc_form : (s : Sampling) (p : Values) → IsYcc s → form_by s p ≡ frame_text p
+ycc_form Ycc422 p is = refl
+ycc_form Ycc444 p is = refl
+ycc_form Rgb p is = absurd is
+
+ycc_frame : (p : Values) → IsYcc p.format.sampling → form_text p ≡ frame_text p
+unfolding form_text
+ycc_frame p is = ycc_form p.format.sampling p is
+
+-- what is written of a frame is so of the octets of its planes
+planes_text_is : {K A : Type 0} (k : FormSink K A) (octets : List ℕ) (f : Format) (h : Handed)
+    → k.settling.held ≡ None → IsYcc h.frame.format.sampling → f ≡ h.frame.format
+    → octets ≡ planes_text (picture_of k.settling.fill None h.frame)
+    → head_for k.format f ++ (frame_line ++ octets) ≡ text_for k h
+planes_text_is k octets f h held ycc same is =
+    let p : Values = picture_of k.settling.fill None h.frame in
+    let is_ycc : IsYcc p.format.sampling =
+    subst (λ (g : Format). IsYcc g.sampling)
+    (sym (picture_format k.settling.fill None h.frame)) ycc in
+    ap (λ (g : Format). head_for k.format g ++ (frame_line ++ octets)) same
+    ∙ ap (λ (t : List ℕ). head_for k.format h.frame.format ++ (frame_line ++ t)) is
+    ∙ ap (λ (t : List ℕ). head_for k.format h.frame.format ++ t) (sym (ycc_frame p is_ycc))
+    ∙ ap (λ (x : Option Values). head_for k.format h.frame.format
+    ++ form_text (picture_of k.settling.fill x h.frame)) (sym held)
+
+-- A sink failed at a frame, whose planes were settled: its sink of octets took a first part.
+pub fails_planes : {K A : Type 0} (took : K → List ℕ) (k l : FormSink K A) (sink : K)
+    (octets : List ℕ) (f : Format) (h : Handed) → k.settling.held ≡ None
+    → IsYcc h.frame.format.sampling → f ≡ h.frame.format
+    → octets ≡ planes_text (picture_of k.settling.fill None h.frame)
+    → GrowsSome (took k.sink) (took sink) (head_for k.format f ++ (frame_line ++ octets))
+    → l.sink ≡ sink → FailsFrame took k h l
+fails_planes took k l sink octets f h held ycc same is part sunk =
+    subst (λ (t : List ℕ). GrowsSome (took k.sink) (took l.sink) t)
+    (planes_text_is k octets f h held ycc same is)
+    (subst (λ (x : _). GrowsSome (took k.sink) (took x)
+    (head_for k.format f ++ (frame_line ++ octets))) (sym sunk) part)
+
+-- A sink settled the planes of a frame, which made m of what it is settled with; its sink of octets
+-- took them; and their room was kept.
+pub takes_planes : {K A : Type 0} (took : K → List ℕ) (k l : FormSink K A) (m : Settling A)
+    (sink : K) (octets : List ℕ) (f : Format) (h : Handed) → m.filling ≡ k.settling.filling
+    → m.fill ≡ k.settling.fill → m.held ≡ k.settling.held → k.settling.filling ≡ Fill
+    → k.settling.held ≡ None → IsYcc h.frame.format.sampling → f ≡ h.frame.format
+    → octets ≡ planes_text (picture_of k.settling.fill None h.frame)
+    → took sink ≡ took k.sink ++ (head_for k.format f ++ (frame_line ++ octets))
+    → l.sink ≡ sink → l.format ≡ Some f → l.settling.filling ≡ m.filling
+    → l.settling.fill ≡ m.fill → l.settling.held ≡ m.held → TakesFrame took k h l
+takes_planes took k l m sink octets f h filling fill held by none ycc same is written sunk begun
+    filled filled_by kept =
+    let p : Values = picture_of k.settling.fill k.settling.held h.frame in
+    record {
+      written =
+          ap took sunk ∙ written
+          ∙ ap (λ (t : List ℕ). took k.sink ++ t) (planes_text_is k octets f h none ycc same is);
+      format = begun ∙ ap (λ (g : Format). Some g) same;
+      held =
+          kept ∙ held ∙ none
+          ∙ sym (ap (λ (x : Filling). held_by x p) by);
+      filling = filled ∙ filling;
+      fill = filled_by ∙ fill;
+    }

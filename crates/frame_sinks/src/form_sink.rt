@@ -3,7 +3,7 @@ ghost use Rattle.std.specs.Prelude.{◌≡◌, None};
 
 use crate::filling::Filling;
 use crate::settling::Settling;
-use crate::writing::write_next;
+use crate::writing::{write_next, write_next_planes};
 use follow_engine::PictureSink;
 use frame_assembly::Frame;
 use run_outcome::Fault;
@@ -26,6 +26,11 @@ pub struct FormSink<K: ByteSink + Drop, A: Allocator = Global> {
 }
 
 impl<K: ByteSink + Drop, A: Allocator + Copy> FormSink<K, A> {
+    ghost use Rattle.std.specs.Prelude.{◌∷◌, [], IfErr, OnErr, OnOk};
+    ghost use Rattle.frame_sinks.specs.Sinks.{FailsFrame, TakesFrame};
+    ghost use Rattle.picture_forms.specs.Layouts.{IsYcc};
+    ghost use Rattle.run_outcome.specs.Fault.{Accounts, IfRefused, counts};
+
     /// A sink that fills so, into which nothing is written yet. Values of a fill that are greater
     /// than a sample can be count as the greatest, and where none are given it is black. No memory
     /// is taken.
@@ -41,6 +46,44 @@ impl<K: ByteSink + Drop, A: Allocator + Copy> FormSink<K, A> {
             format: None,
             settling: Settling::new(alloc, filling, fill),
         }
+    }
+
+    /// Writes a frame of which a picture is settled.
+    fn show_picture<B: Allocator>(&mut self, timestamp: u32, frame: &Frame<B>) -> Result<(), Fault>
+        ensures taken { OnOk result (TakesFrame K.took self.old
+            (record { timestamp = timestamp; frame = frame.now }) self.new) }
+        ensures failed { OnErr result (FailsFrame K.took self.old
+            (record { timestamp = timestamp; frame = frame.now }) self.new) }
+        ensures unrefused { IfErr result (λ f. IfRefused f ⊥) }
+        ensures failures { Accounts result
+            (counts (K.failures self.old.sink) (K.failures self.new.sink) ∷ []) }
+    {
+        let picture = self.settling.settle(frame)?;
+        write_next(&mut self.sink, self.format, &picture)?;
+        self.format = Some(picture.format());
+        self.settling.keep(picture);
+        Ok(())
+    }
+
+    /// Writes a frame, which is YCbCr and settled by the fill, by its planes: no picture is made.
+    fn show_planes<B: Allocator>(&mut self, timestamp: u32, frame: &Frame<B>) -> Result<(), Fault>
+        requires ycc { IsYcc frame.now.format.sampling }
+        requires filling { self.old.settling.filling ≡ Filling.Fill }
+        requires held { self.old.settling.held ≡ None }
+        ensures taken { OnOk result (TakesFrame K.took self.old
+            (record { timestamp = timestamp; frame = frame.now }) self.new) }
+        ensures failed { OnErr result (FailsFrame K.took self.old
+            (record { timestamp = timestamp; frame = frame.now }) self.new) }
+        ensures unrefused { IfErr result (λ f. IfRefused f ⊥) }
+        ensures failures { Accounts result
+            (counts (K.failures self.old.sink) (K.failures self.new.sink) ∷ []) }
+    {
+        let octets = self.settling.settle_planes(frame)?;
+        let format = frame.format();
+        write_next_planes(&mut self.sink, self.format, &format, octets.as_slice())?;
+        self.format = Some(format);
+        self.settling.keep_planes(octets);
+        Ok(())
     }
 
     /// What the octets went to.
@@ -60,11 +103,11 @@ impl<K: ByteSink + Drop, A: Allocator + Copy> PictureSink for FormSink<K, A> {
 
     ghost failures = { λ k. K.failures k.sink };
 
-    fn show<B: Allocator>(&mut self, _: u32, frame: &Frame<B>) -> Result<(), Fault> {
-        let picture = self.settling.settle(frame)?;
-        write_next(&mut self.sink, self.format, &picture)?;
-        self.format = Some(picture.format());
-        self.settling.keep(picture);
-        Ok(())
+    fn show<B: Allocator>(&mut self, timestamp: u32, frame: &Frame<B>) -> Result<(), Fault> {
+        if self.settling.goes_by_planes(&frame.format()) {
+            self.show_planes(timestamp, frame)
+        } else {
+            self.show_picture(timestamp, frame)
+        }
     }
 }

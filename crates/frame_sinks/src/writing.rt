@@ -3,7 +3,7 @@ ghost use Rattle.std.specs.Prelude.{◌≡◌, ◌++◌, ◌∷◌, [], IfErr, I
 ghost use Rattle.follow_engine.specs.Shown.{GrowsSome};
 ghost use Rattle.frame_sinks.specs.Pictures.{form_head, head_for, is_of};
 ghost use Rattle.picture_forms.specs.Faults.{CountsDevice, IsDevice};
-ghost use Rattle.picture_forms.specs.Layouts.{IsYcc, y4m_head};
+ghost use Rattle.picture_forms.specs.Layouts.{IsYcc, frame_line, y4m_head};
 ghost use Rattle.run_outcome.specs.Fault.{Accounts, IfRefused, counts};
 ghost use Rattle.settled_forms.specs.Settled.{form_text};
 ghost use Rattle.st_format.specs.Device.{GrowsPart};
@@ -12,6 +12,7 @@ ghost use Rattle.st_format.specs.Fields.{fields_of, same_fields};
 use frame_assembly::Frame;
 use picture_forms::{FormFault, write_pixmap, write_y4m_frame, write_y4m_head};
 use run_outcome::Fault;
+use settled_forms::write_planes;
 use st_format::{ByteSink, Format, Picture, Sampling};
 use std::alloc::Allocator;
 
@@ -32,6 +33,39 @@ pub(crate) fn write_next<A: Allocator, K: ByteSink>(
     let format = picture.format();
     write_head(sink, begun, &format)?;
     write_picture(sink, picture)
+}
+
+/// The same of a picture of this format, which is YCbCr, by the octets of its planes.
+pub(crate) fn write_next_planes<K: ByteSink>(
+    sink: &mut K,
+    begun: Option<Format>,
+    format: &Format,
+    octets: &[u8],
+) -> Result<(), Fault>
+    ensures written { OnOk result (K.took sink.new ≡ K.took sink.old
+        ++ (head_for begun format.now ++ (frame_line ++ octets.now))) }
+    ensures part { OnErr result (GrowsSome (K.took sink.old) (K.took sink.new)
+        (head_for begun format.now ++ (frame_line ++ octets.now))) }
+    ensures unrefused { IfErr result (λ f. IfRefused f ⊥) }
+    ensures failures { Accounts result (counts (K.failures sink.old) (K.failures sink.new) ∷ []) }
+{
+    write_head(sink, begun, format)?;
+    write_octets(sink, octets)
+}
+
+/// Writes the octets of planes as a frame of a YUV4MPEG2 stream.
+fn write_octets<K: ByteSink>(sink: &mut K, octets: &[u8]) -> Result<(), Fault>
+    ensures written { OnOk result
+        (K.took sink.new ≡ K.took sink.old ++ (frame_line ++ octets.now)) }
+    ensures part { OnErr result
+        (GrowsPart (K.took sink.old) (K.took sink.new) (frame_line ++ octets.now)) }
+    ensures unrefused { IfErr result (λ f. IfRefused f ⊥) }
+    ensures failures { Accounts result (counts (K.failures sink.old) (K.failures sink.new) ∷ []) }
+{
+    match write_planes(sink, octets) {
+        Ok(()) => Ok(()),
+        Err(_) => Err(Fault::Device),
+    }
 }
 
 /// Writes what stands before a picture of this format in a stream of the format that was begun.

@@ -1,6 +1,11 @@
 //! Frames that are settled, in forms that other tools read.
 #![tactic(auto)]
 
+mod plane_writing;
+mod planes;
 mod settled;
+mod spelling;
 
+pub use plane_writing::write_planes;
+pub use planes::{planes_size, settle_planes};
 pub use settled::{settle_all, write_settled};

@@ -3,7 +3,7 @@ use Rattle.std.proofs.lemmas.Result.{err_from_is_err_and}
 use Rattle.frame_sinks.proofs.Written.{fails_frame, takes_frame}
 use Rattle.follow_engine.proofs.Grows.{grows_none}
 use Rattle.st_format.specs.declared.format.Format.{Format}
-use Rattle.frame_sinks.proofs.form_sink.FormSinkPictureSink.show.Goals as goal
+use Rattle.frame_sinks.proofs.form_sink.FormSink.show_picture.Goals as goal
 
 pub returns-clause-taken : goal.returns-clause-taken
 returns-clause-taken g c =
@@ -26,5 +26,5 @@ returns-in_err-write_next-clause-failed g c =
     rw (p.1)
     (fails_frame g.K.ByteSink.took c.args.self.now
     (record c.args.self.now { sink = c.write_next.new.sink }) c.write_next.new.sink
-    c.in_ok-picture.picture (record { timestamp = 0; frame = c.args.frame.now })
+    c.in_ok-picture.picture (record { timestamp = c.args.timestamp; frame = c.args.frame.now })
     c.in_ok-picture.ensures.picture c.in_err-write_next.ensures.part refl)

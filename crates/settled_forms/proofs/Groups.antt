@@ -1,0 +1,363 @@
+-- Planes that are filled by pgroups: what a pgroup has of each, and one piece behind the others.
+use Rattle.std.proofs.Common.{◌≡◌, ℕ, zero, suc, ◌+◌, ◌*◌, ◌/◌, ◌%◌, ◌^◌, ◌<◌, ◌≤◌, List, [], ◌∷◌}
+use Rattle.std.proofs.Common.{◌++◌, length, get_or, take, drop, refl, sym, ap, ◌∙◌, subst, arith}
+use Rattle.std.specs.List.{All, AllByRecursion}
+use Rattle.std.proofs.Math.Nat.{div-le_self, mul-add, mul_assoc}
+use Rattle.std.proofs.lemmas.List.{get_or-drop, get_or-take, length-drop, length-take}
+use Rattle.std.proofs.lemmas.List.{length-take-le, take_all}
+use Rattle.std.proofs.lemmas.Nat.{mul-le}
+use Rattle.std.proofs.lemmas.Slice.{take-put_mid}
+use borrow.Rule.Slice.PartMut.{mid_of, put_mid, same_len_mid}
+use Rattle.st_format.specs.declared.format.Format.{Format}
+use Rattle.st_format.specs.declared.sampling.Depth.{Depth}
+use Rattle.st_format.specs.declared.sampling.Depth.TheVariants.{D8, D10, D12, D16}
+use Rattle.st_format.specs.declared.sampling.Sampling.{Sampling}
+use Rattle.st_format.specs.declared.sampling.Sampling.TheVariants.{Ycc422, Ycc444, Rgb}
+use Rattle.st_format.specs.Pgroup.{bits_of, pixel_group}
+use Rattle.st_format.specs.Picture.{FitsDepth, Values}
+use Rattle.st_format.specs.Position.{group_count, row_groups, run_columns, run_samples}
+use Rattle.st_format.specs.Position.{sample_count}
+use Rattle.frame_assembly.proofs.Segments.{swap_first}
+use Rattle.picture_forms.specs.Frames.{planes_size}
+use Rattle.picture_forms.specs.Layouts.{IsYcc, column_step, plane_count, plane_first, plane_step}
+use Rattle.picture_forms.specs.Layouts.{plane_text, y4m_spelling}
+use Rattle.picture_forms.specs.Planes.{Inside, every, every_text, sample_limit, sample_size}
+use Rattle.picture_forms.specs.Planes.{sample_text}
+use Rattle.picture_forms.proofs.Placed.{plane_every}
+use Rattle.picture_forms.proofs.Texts.{every_front, every_none}
+use Rattle.settled_forms.specs.Pieces.{HasGroups, PutsGroups, group_share, octets_for, part_text}
+
+-- ---- numbers
+
+times_le : (n a b : ℕ) → a ≤ b → n * a ≤ n * b
+times_le n a b le = mul-le n a n b (omega arith) le
+
+times_none : (n : ℕ) → n * 0 ≡ 0
+times_none n = omega arith
+
+-- a product of three, of which the first two make another number
+times_both : (step share group n : ℕ) → step * share ≡ group → step * (share * n) ≡ group * n
+times_both step share group n same =
+    sym (mul_assoc step share n) ∙ ap (λ (x : ℕ). x * n) same
+
+-- ---- what a pgroup has of a component
+
+share_columns : (s : Sampling) (d : Depth) (w c : ℕ) → w % (pixel_group s d).pixels ≡ 0
+    → (pixel_group s d).pixels / column_step s c * (w / (pixel_group s d).pixels)
+    ≡ w / column_step s c
+share_columns Ycc422 D8 w zero whole = omega (arith, whole)
+share_columns Ycc422 D8 w (suc c) whole = omega (arith, whole)
+share_columns Ycc422 D10 w zero whole = omega (arith, whole)
+share_columns Ycc422 D10 w (suc c) whole = omega (arith, whole)
+share_columns Ycc422 D12 w zero whole = omega (arith, whole)
+share_columns Ycc422 D12 w (suc c) whole = omega (arith, whole)
+share_columns Ycc422 D16 w zero whole = omega (arith, whole)
+share_columns Ycc422 D16 w (suc c) whole = omega (arith, whole)
+share_columns Ycc444 D8 w c whole = omega (arith, whole)
+share_columns Ycc444 D10 w c whole = omega (arith, whole)
+share_columns Ycc444 D12 w c whole = omega (arith, whole)
+share_columns Ycc444 D16 w c whole = omega (arith, whole)
+share_columns Rgb D8 w c whole = omega (arith, whole)
+share_columns Rgb D10 w c whole = omega (arith, whole)
+share_columns Rgb D12 w c whole = omega (arith, whole)
+share_columns Rgb D16 w c whole = omega (arith, whole)
+
+-- all pgroups have all samples of it
+pub shares_count : (f : Format) (c : ℕ) → group_share f c * group_count f ≡ plane_count f c
+shares_count f c =
+    swap_first (group_share f c) f.height (row_groups f)
+    ∙ ap (λ (n : ℕ). f.height * n)
+    (share_columns f.sampling f.depth f.width c f.whole_width.whole_groups)
+
+-- they stand as many steps apart as a pgroup has samples
+steps_of : (s : Sampling) (d : Depth) (c : ℕ)
+    → plane_step s c * ((pixel_group s d).pixels / column_step s c) ≡ (pixel_group s d).samples
+steps_of Ycc422 D8 zero = refl
+steps_of Ycc422 D8 (suc c) = refl
+steps_of Ycc422 D10 zero = refl
+steps_of Ycc422 D10 (suc c) = refl
+steps_of Ycc422 D12 zero = refl
+steps_of Ycc422 D12 (suc c) = refl
+steps_of Ycc422 D16 zero = refl
+steps_of Ycc422 D16 (suc c) = refl
+steps_of Ycc444 D8 c = refl
+steps_of Ycc444 D10 c = refl
+steps_of Ycc444 D12 c = refl
+steps_of Ycc444 D16 c = refl
+steps_of Rgb D8 c = refl
+steps_of Rgb D10 c = refl
+steps_of Rgb D12 c = refl
+steps_of Rgb D16 c = refl
+
+pub share_steps : (f : Format) (c : ℕ)
+    → plane_step f.sampling c * group_share f c ≡ (pixel_group f.sampling f.depth).samples
+share_steps f c = steps_of f.sampling f.depth c
+
+first_low : (s : Sampling) (c : ℕ) → c < 3 → plane_first s c < plane_step s c
+first_low Ycc422 zero lt = omega arith
+first_low Ycc422 (suc zero) lt = omega arith
+first_low Ycc422 (suc (suc c)) lt = omega arith
+first_low Ycc444 zero lt = omega arith
+first_low Ycc444 (suc zero) lt = omega arith
+first_low Ycc444 (suc (suc c)) lt = omega arith
+first_low Rgb c lt = lt
+
+-- the samples of some pgroups have those of a component of as many
+pub share_inside : (f : Format) (c count : ℕ) (samples : List ℕ) → c < 3
+    → length samples ≡ (pixel_group f.sampling f.depth).samples * count
+    → Inside samples (plane_first f.sampling c) (plane_step f.sampling c) (group_share f c * count)
+share_inside f c count samples lt long =
+    let all : plane_step f.sampling c * (group_share f c * count)
+    ≡ (pixel_group f.sampling f.depth).samples * count =
+    times_both (plane_step f.sampling c) (group_share f c)
+    (pixel_group f.sampling f.depth).samples count (share_steps f c) in
+    record { low = first_low f.sampling c lt; within = omega (arith, all, long) }
+
+-- ---- how many there are
+
+pub few_groups : (f : Format) → group_count f ≤ 8192 * 8192
+few_groups f =
+    mul-le f.height (row_groups f) 8192 8192 f.whole_height.most
+    (omega (
+      arith,
+      div-le_self f.width (pixel_group f.sampling f.depth).pixels,
+      f.whole_width.most,
+    ))
+
+pub few_samples : (f : Format) (c : ℕ) → plane_count f c ≤ 8192 * 8192
+few_samples f c =
+    mul-le f.height (f.width / column_step f.sampling c) 8192 8192 f.whole_height.most
+    (omega (arith, div-le_self f.width (column_step f.sampling c), f.whole_width.most))
+
+-- a piece stands within its plane
+pub piece_within : (f : Format) (c first count : ℕ) → first + count ≤ group_count f
+    → octets_for f (group_share f c * first) + octets_for f (group_share f c * count)
+    ≤ octets_for f (plane_count f c)
+piece_within f c first count le =
+    let share : ℕ = group_share f c in
+    let size : ℕ = sample_size (y4m_spelling f.depth) in
+    let both : share * (first + count) ≡ share * first + share * count =
+    mul-add share first count in
+    let most : share * (first + count) ≤ plane_count f c =
+    subst (λ (n : ℕ). share * (first + count) ≤ n) (shares_count f c)
+    (times_le share (first + count) (group_count f) le) in
+    omega (
+      arith,
+      mul-add size (share * first) (share * count),
+      times_le size (share * first + share * count) (plane_count f c) (omega (arith, both, most)),
+    )
+
+all_22 : (h w : ℕ) → w % 2 ≡ 0 → h * (w / 2 * 4) ≡ h * (w / 1) + (h * (w / 2) + h * (w / 2))
+all_22 h w even =
+    let a : w / 2 * 4 ≡ w / 1 + (w / 2 + w / 2) = omega (arith, even) in
+    ap (λ (n : ℕ). h * n) a ∙ mul-add h (w / 1) (w / 2 + w / 2)
+    ∙ ap (λ (n : ℕ). h * (w / 1) + n) (mul-add h (w / 2) (w / 2))
+
+all_44 : (h w : ℕ) → h * (w / 1 * 3) ≡ h * (w / 1) + (h * (w / 1) + h * (w / 1))
+all_44 h w =
+    let a : w / 1 * 3 ≡ w / 1 + (w / 1 + w / 1) = omega arith in
+    ap (λ (n : ℕ). h * n) a ∙ mul-add h (w / 1) (w / 1 + w / 1)
+    ∙ ap (λ (n : ℕ). h * (w / 1) + n) (mul-add h (w / 1) (w / 1))
+
+all_samples : (s : Sampling) (h w : ℕ) → IsYcc s → w % 2 ≡ 0
+    → h * (w / run_columns s * run_samples s)
+    ≡ h * (w / column_step s 0) + (h * (w / column_step s 1) + h * (w / column_step s 2))
+all_samples Ycc422 h w is even = all_22 h w even
+all_samples Ycc444 h w is even = all_44 h w
+all_samples Rgb h w is even = absurd is
+
+-- the planes have all samples of a picture
+pub planes_long : (f : Format) → IsYcc f.sampling
+    → octets_for f (sample_count f) ≡ planes_size f
+planes_long f is =
+    let size : ℕ = sample_size (y4m_spelling f.depth) in
+    ap (λ (n : ℕ). size * n) (all_samples f.sampling f.height f.width is f.whole_width.even)
+    ∙ mul-add size (plane_count f 0) (plane_count f 1 + plane_count f 2)
+    ∙ ap (λ (n : ℕ). size * plane_count f 0 + n)
+    (mul-add size (plane_count f 1) (plane_count f 2))
+
+-- ---- values
+
+all_at : (P : ℕ → Type 0) (xs : List ℕ) → AllByRecursion P xs → (k d : ℕ) → k < length xs
+    → P (get_or xs k d)
+all_at P [] all k d lt = absurd (omega (arith, lt))
+all_at P (x ∷ xs) all zero d lt = all.0
+all_at P (x ∷ xs) all (suc k) d lt = all_at P xs all.1 k d (omega (arith, lt))
+
+within_limit : (d : Depth) (v : ℕ) → v < 2 ^ bits_of d → v < sample_limit (y4m_spelling d)
+within_limit D8 v lt = lt
+within_limit D10 v lt = omega (arith, lt)
+within_limit D12 v lt = omega (arith, lt)
+within_limit D16 v lt = lt
+
+-- some of the values that fit the depth
+pub part_fits : (f : Format) (xs ys : List ℕ) (a n : ℕ) → AllByRecursion (FitsDepth f) xs
+    → ys ≡ take n (drop a xs) → All (λ v. v < sample_limit (y4m_spelling f.depth)) ys
+part_fits f xs ys a n fit of =
+    subst (All (λ v. v < sample_limit (y4m_spelling f.depth))) (sym of)
+    (λ k d lt.
+    let few : k < n = omega (arith, lt, length-take n (drop a xs)) in
+    let here : a + k < length xs =
+    omega (arith, lt, length-take n (drop a xs), length-drop a xs) in
+    subst (λ (v : ℕ). v < sample_limit (y4m_spelling f.depth))
+    (sym (get_or-take n (drop a xs) k d few ∙ get_or-drop a xs k d))
+    (within_limit f.depth (get_or xs (a + k) d) (all_at (FitsDepth f) xs fit (a + k) d here)))
+
+-- ---- texts
+
+-- the same samples have the same octets
+every_part : (d : Depth) (xs ys : List ℕ) (first step a b n : ℕ)
+    → ((k : ℕ) → k < n → every xs first step (a + k) ≡ every ys first step (b + k))
+    → every_text (y4m_spelling d) xs first step a n ≡ every_text (y4m_spelling d) ys first step b n
+unfolding every_text
+every_part d xs ys first step a b zero h = refl
+every_part d xs ys first step a b (suc n) h =
+    let x : a + 0 ≡ a = omega arith in
+    let y : b + 0 ≡ b = omega arith in
+    let here : every xs first step a ≡ every ys first step b =
+    ap (every xs first step) (sym x) ∙ h 0 (omega arith) ∙ ap (every ys first step) y in
+    ap (λ (v : ℕ). sample_text (y4m_spelling d) v
+    ++ every_text (y4m_spelling d) xs first step (a + 1) n) here
+    ∙ ap (λ (t : List ℕ). sample_text (y4m_spelling d) (every ys first step b) ++ t)
+    (every_part d xs ys first step (a + 1) (b + 1) n
+    (λ k lt.
+    let i : a + 1 + k ≡ a + suc k = omega arith in
+    let j : b + suc k ≡ b + 1 + k = omega arith in
+    ap (every xs first step) i ∙ h (suc k) (omega (arith, lt)) ∙ ap (every ys first step) j))
+
+at_part : (xs : List ℕ) (first step share group at n k : ℕ) → first < step
+    → step * share ≡ group → k < share * n
+    → every (take (group * n) (drop (group * at) xs)) first step (0 + k)
+    ≡ every xs first step (share * at + k)
+at_part xs first step share group at n k low same lt =
+    let z : 0 + k ≡ k = omega arith in
+    let here : first + step * k < group * n =
+    omega (
+      arith,
+      low,
+      mul-add step k 1,
+      times_le step (k + 1) (share * n) (omega (arith, lt)),
+      times_both step share group n same,
+    ) in
+    let e : group * at + (first + step * k) ≡ first + step * (share * at + k) =
+    omega (arith, mul-add step (share * at) k, times_both step share group at same) in
+    ap (every (take (group * n) (drop (group * at) xs)) first step) z
+    ∙ get_or-take (group * n) (drop (group * at) xs) (first + step * k) 0 here
+    ∙ get_or-drop (group * at) xs (first + step * k) 0
+    ∙ ap (λ (j : ℕ). get_or xs j 0) e
+
+-- octets of a component of some pgroups
+pub piece_text : (d : Depth) (xs ys : List ℕ) (first step share group at n : ℕ) → first < step
+    → step * share ≡ group → ys ≡ take (group * n) (drop (group * at) xs)
+    → every_text (y4m_spelling d) ys first step 0 (share * n)
+    ≡ every_text (y4m_spelling d) xs first step (share * at) (share * n)
+piece_text d xs ys first step share group at n low same of =
+    subst (λ (t : List ℕ). every_text (y4m_spelling d) t first step 0 (share * n)
+    ≡ every_text (y4m_spelling d) xs first step (share * at) (share * n)) (sym of)
+    (every_part d (take (group * n) (drop (group * at) xs)) xs first step 0 (share * at)
+    (share * n) (λ k lt. at_part xs first step share group at n k low same lt))
+
+-- ---- a plane
+
+-- octets of so many pgroups, in the code's numbers
+scaled : (f : Format) (c n size share : ℕ) → size ≡ sample_size (y4m_spelling f.depth)
+    → share ≡ group_share f c → size * (share * n) ≡ octets_for f (group_share f c * n)
+scaled f c n size share s h =
+    ap (λ (x : ℕ). x * (share * n)) s ∙ ap (λ (x : ℕ). octets_for f (x * n)) h
+
+pub part_within : (f : Format) (c first count size share : ℕ) (plane : List ℕ)
+    → size ≡ sample_size (y4m_spelling f.depth) → share ≡ group_share f c
+    → first + count ≤ group_count f → length plane ≡ octets_for f (plane_count f c)
+    → size * (share * first) + size * (share * count) ≤ length plane
+part_within f c first count size share plane s h le long =
+    omega (
+      arith,
+      scaled f c first size share s h,
+      scaled f c count size share s h,
+      piece_within f c first count le,
+      long,
+    )
+
+pub part_long : (a k n : ℕ) (plane : List ℕ) → k ≡ n → a + n ≤ length plane
+    → length (mid_of a k plane) ≡ n
+part_long a k n plane same le =
+    length-take-le k (drop a plane) (omega (arith, same, le, length-drop a plane)) ∙ same
+
+-- what was spelled into a part of a plane
+pub puts_groups : (f : Format) (c first count size share k : ℕ) (samples plane part : List ℕ)
+    → size ≡ sample_size (y4m_spelling f.depth) → share ≡ group_share f c
+    → k ≡ size * (share * count)
+    → size * (share * first) + size * (share * count) ≤ length plane
+    → length part ≡ length (mid_of (size * (share * first)) k plane)
+    → part ≡ part_text f c samples (group_share f c * count)
+    → PutsGroups f c first count samples plane (put_mid (size * (share * first)) k plane part)
+puts_groups f c first count size share k samples plane part s h same within long is =
+    let a : ℕ = size * (share * first) in
+    let at : a ≡ octets_for f (group_share f c * first) = scaled f c first size share s h in
+    let more : length part ≡ octets_for f (group_share f c * count) =
+    long ∙ part_long a k (size * (share * count)) plane same within
+    ∙ scaled f c count size share s h in
+    record {
+      long = same_len_mid a k plane part long;
+      text =
+          take-put_mid a k plane part
+          (octets_for f (group_share f c * first) + octets_for f (group_share f c * count))
+          (omega (arith, at, more)) (omega (arith, within))
+          ∙ ap (λ (n : ℕ). take n plane ++ part) at
+          ∙ ap (λ (t : List ℕ). take (octets_for f (group_share f c * first)) plane ++ t) is;
+    }
+
+pub groups_none : (v : Values) (c : ℕ) (plane : List ℕ)
+    → length plane ≡ octets_for v.format (plane_count v.format c) → HasGroups v c 0 plane
+groups_none v c plane long =
+    let f : Format = v.format in
+    let none : group_share f c * 0 ≡ 0 = times_none (group_share f c) in
+    let small : octets_for f (group_share f c * 0) ≡ 0 =
+    ap (octets_for f) none ∙ times_none (sample_size (y4m_spelling f.depth)) in
+    record {
+      long = long;
+      text =
+          ap (λ (n : ℕ). take n plane) small
+          ∙ sym (ap (part_text f c v.samples) none
+          ∙ every_none (y4m_spelling f.depth) v.samples (plane_first f.sampling c)
+          (plane_step f.sampling c) 0);
+    }
+
+pub groups_more : (v : Values) (c first count : ℕ) (samples old new : List ℕ) → c < 3
+    → samples ≡ take ((pixel_group v.format.sampling v.format.depth).samples * count)
+    (drop ((pixel_group v.format.sampling v.format.depth).samples * first) v.samples)
+    → HasGroups v c first old → PutsGroups v.format c first count samples old new
+    → HasGroups v c (first + count) new
+groups_more v c first count samples old new lt of so_far put =
+    let f : Format = v.format in
+    let begin : ℕ = plane_first f.sampling c in
+    let step : ℕ = plane_step f.sampling c in
+    let share : ℕ = group_share f c in
+    let size : ℕ = sample_size (y4m_spelling f.depth) in
+    let done : ℕ = share * first in
+    let more : ℕ = share * count in
+    let both : share * (first + count) ≡ done + more = mul-add share first count in
+    record {
+      long = put.long ∙ so_far.long;
+      text =
+          ap (λ (n : ℕ). take n new) (ap (octets_for f) both ∙ mul-add size done more)
+          ∙ put.text
+          ∙ ap (λ (t : List ℕ). t ++ part_text f c samples more) so_far.text
+          ∙ ap (λ (t : List ℕ). part_text f c v.samples done ++ t)
+          (piece_text f.depth v.samples samples begin step share
+          (pixel_group f.sampling f.depth).samples first count (first_low f.sampling c lt)
+          (share_steps f c) of)
+          ∙ sym (ap (part_text f c v.samples) both
+          ∙ every_front (y4m_spelling f.depth) v.samples begin step done more);
+    }
+
+pub groups_all : (v : Values) (c : ℕ) (plane : List ℕ) → IsYcc v.format.sampling → c < 3
+    → HasGroups v c (group_count v.format) plane → plane ≡ plane_text v c
+groups_all v c plane is lt has =
+    let f : Format = v.format in
+    let count : group_share f c * group_count f ≡ plane_count f c = shares_count f c in
+    sym (take_all (octets_for f (plane_count f c)) plane (omega (arith, has.long)))
+    ∙ ap (λ (n : ℕ). take (octets_for f n) plane) (sym count)
+    ∙ has.text
+    ∙ ap (part_text f c v.samples) count
+    ∙ sym (plane_every v c is lt)

@@ -1,0 +1,36 @@
+-- Planes that are filled by pgroups, one after the other (own).
+use Rattle.std.specs.Prelude.{◌≡◌, ℕ, ◌+◌, ◌*◌, ◌/◌, List, ◌++◌, length, take}
+use Rattle.picture_forms.specs.Layouts.{column_step, plane_count, plane_first, plane_step}
+use Rattle.picture_forms.specs.Layouts.{y4m_spelling}
+use Rattle.picture_forms.specs.Planes.{every_text, sample_size}
+use Rattle.st_format.specs.declared.format.Format.{Format}
+use Rattle.st_format.specs.Pgroup.{pixel_group}
+use Rattle.st_format.specs.Picture.{Values}
+
+-- how many samples of a component a pgroup has
+abbrev pub group_share : Format → ℕ → ℕ
+group_share f c = (pixel_group f.sampling f.depth).pixels / column_step f.sampling c
+
+-- how many octets so many samples take in a plane
+abbrev pub octets_for : Format → ℕ → ℕ
+octets_for f n = sample_size (y4m_spelling f.depth) * n
+
+-- the octets of the first samples of a component of these
+abbrev pub part_text : Format → ℕ → List ℕ → ℕ → List ℕ
+part_text f c samples n =
+    every_text (y4m_spelling f.depth) samples (plane_first f.sampling c)
+    (plane_step f.sampling c) 0 n
+
+-- a plane of a picture, which has the octets of the first pgroups so far
+pub record HasGroups (v : Values) (c groups : ℕ) (plane : List ℕ) : Type 0 where
+  pub long : length plane ≡ octets_for v.format (plane_count v.format c)
+  pub text : take (octets_for v.format (group_share v.format c * groups)) plane
+      ≡ part_text v.format c v.samples (group_share v.format c * groups)
+
+-- a plane got the octets of so many pgroups more, behind those of the first
+pub record PutsGroups (f : Format) (c first count : ℕ) (samples old new : List ℕ) : Type 0 where
+  pub long : length new ≡ length old
+  pub text : take (octets_for f (group_share f c * first)
+      + octets_for f (group_share f c * count)) new
+      ≡ take (octets_for f (group_share f c * first)) old
+      ++ part_text f c samples (group_share f c * count)
