@@ -4,6 +4,7 @@ pub mod InOrder
 pub mod OneOf
 pub mod SentRefusals
 pub mod ReceivedRefusals
+pub mod FirstRefused
 pub mod MigrateRefusals
 pub mod LoopRefusals
 pub mod Sendings

@@ -1,8 +1,8 @@
 -- One of a list is so where the first of what is left of it is.
-use Rattle.std.proofs.Common.{◌≡◌, ℕ, zero, suc, ◌<◌, inl, inr, List, [], ◌∷◌, drop, get_or, length}
-use Rattle.std.proofs.Common.{set, take, refl, sym, ap, subst, ◌∙◌, arith}
-use Rattle.std.specs.List.{zip}
-use Rattle.capture_engines.specs.Sent.{FirstIs, OneIs}
+use Rattle.std.proofs.Common.{◌≡◌, ℕ, zero, suc, ◌<◌, inl, inr, List, [], ◌∷◌, drop}
+use Rattle.std.proofs.Common.{get_or, length, set, take, refl, sym, ap, subst, ◌∙◌, arith}
+use Rattle.std.specs.List.{AllByRecursion, zip}
+use Rattle.capture_engines.specs.Sent.{FirstIs, OneIs, OneIsBehind}
 
 pub first_one : {S : Type 0} (Is : S → Type 0) (xs : List S) → FirstIs Is xs → OneIs Is xs
 first_one Is [] is = is
@@ -18,6 +18,38 @@ pub no_first : {S : Type 0} (xs : List S) → FirstIs (λ s. ⊥) xs → ⊥
 no_first [] is = is
 no_first (x ∷ xs) is = is
 
+-- ---- all that stand before one
+
+-- one more of a list
+front_more : {S : Type 0} (Is : S → Type 0) (k : ℕ) (xs : List S) → AllByRecursion Is (take k xs)
+    → FirstIs Is (drop k xs) → AllByRecursion Is (take (suc k) xs)
+front_more Is k [] all first = tt
+front_more Is zero (x ∷ xs) all first = (first, tt)
+front_more Is (suc k) (x ∷ xs) all first = (all.0, front_more Is k xs all.1 first)
+
+-- the same of those behind its first
+pub all_behind_first : {S : Type 0} (Is : S → Type 0) (k : ℕ) (xs : List S) → 0 < k
+    → AllByRecursion Is (drop 1 (take k xs)) → FirstIs Is (drop k xs)
+    → AllByRecursion Is (drop 1 (take (suc k) xs))
+all_behind_first Is zero xs some all first = absurd (omega arith)
+all_behind_first Is (suc k) [] some all first = tt
+all_behind_first Is (suc k) (x ∷ xs) some all first = front_more Is k xs all first
+
+one_at : {S : Type 0} (Before Is : S → Type 0) (k : ℕ) (xs : List S)
+    → AllByRecursion Before (take k xs) → FirstIs Is (drop k xs) → OneIsBehind Before Is xs
+one_at Before Is zero [] all first = first
+one_at Before Is zero (x ∷ xs) all first = inl first
+one_at Before Is (suc k) [] all first = first
+one_at Before Is (suc k) (x ∷ xs) all first =
+    inr (all.0, one_at Before Is k xs all.1 first)
+
+pub one_behind_first : {S : Type 0} (Before Is : S → Type 0) (k : ℕ) (xs : List S) → 0 < k
+    → AllByRecursion Before (drop 1 (take k xs)) → FirstIs Is (drop k xs)
+    → OneIsBehind Before Is (drop 1 xs)
+one_behind_first Before Is zero xs some all first = absurd (omega arith)
+one_behind_first Before Is (suc k) [] some all first = first
+one_behind_first Before Is (suc k) (x ∷ xs) some all first = one_at Before Is k xs all first
+
 -- ---- of a list of pairs
 
 pub zip_none : {S : Type 0} (xs : List S) → let none : List S = [] in zip xs none ≡ []
@@ -30,6 +62,13 @@ zip_drop zero xs ys = refl
 zip_drop (suc k) [] ys = refl
 zip_drop (suc k) (x ∷ xs) [] = zip_none (drop k xs)
 zip_drop (suc k) (x ∷ xs) (y ∷ ys) = zip_drop k xs ys
+
+pub zip_take : {S : Type 0} (k : ℕ) (xs ys : List S)
+    → zip (take k xs) (take k ys) ≡ take k (zip xs ys)
+zip_take zero xs ys = refl
+zip_take (suc k) [] ys = refl
+zip_take (suc k) (x ∷ xs) [] = refl
+zip_take {S} (suc k) (x ∷ xs) (y ∷ ys) = ap (λ (l : List (S × S)). (x, y) ∷ l) (zip_take k xs ys)
 
 -- the first item of a list that has one
 abbrev first_of : {S : Type 0} → S → List S → S

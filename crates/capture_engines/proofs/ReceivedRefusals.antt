@@ -29,7 +29,7 @@ use Rattle.capture_engines.specs.Files.{HasFileText, first_way, flows_in, other_
 use Rattle.capture_engines.specs.Files.{way_at}
 use Rattle.capture_engines.specs.Received.{FirstFileRefuses, HasCaptureFault}
 use Rattle.capture_engines.specs.Received.{IsCaptureBy, IsFileOpenedRefusal, IsFilesRefusal}
-use Rattle.capture_engines.specs.Received.{IsFrontRefusal}
+use Rattle.capture_engines.specs.Received.{IsFrontRefusal, IsOpeningRefusal}
 use Rattle.capture_engines.specs.Received.{IsTakeRefusal, OneFileIs, StopsFile}
 use Rattle.capture_engines.specs.Sent.{FirstIs}
 use Rattle.capture_engines.specs.Stopping.{IsReadingStop}
@@ -39,7 +39,7 @@ use Rattle.capture_engines.specs.declared.way.Way.TheVariants as way
 -- ---- a file
 
 -- what is known of a file at its reader's fault
-at_fault : {S : Type 0} (gave : S → List ℕ) (ended : S → Type 0) (r : FileReader S)
+pub at_fault : {S : Type 0} (gave : S → List ℕ) (ended : S → Type 0) (r : FileReader S)
     (g : ReadingFault) → r.standing ≡ Failed g → HasGivenFile gave ended r
     → (octets : List ℕ) → IsRead r.before.gave (gave r.source) (ended r.source) octets
     → IfFile g (HaveFileRecords r.flows octets r.records r.left_out × IsFileFault g octets)
@@ -87,7 +87,7 @@ plain_by (way.Flows flows) octets kind = kind
 plain_by (way.Refused r) octets kind = kind
 
 -- its fault stops it
-fault_stops : {S : Type 0} (gave : S → List ℕ) (ended : S → Type 0) (r : FileReader S)
+pub fault_stops : {S : Type 0} (gave : S → List ℕ) (ended : S → Type 0) (r : FileReader S)
     (w : Way) (g : ReadingFault) → r.flows ≡ flows_in w
     → (r.is_recording ≡ true → IsSome r.flows) → HasGivenFile gave ended r
     → ((octets : List ℕ) → IsRead r.before.gave (gave r.source) (ended r.source) octets
@@ -124,6 +124,12 @@ capture_many octets text records count has = inr (
     fault = inr (refl, count);
   },
 )
+
+-- a text by which none is opened is there
+pub text_there : (window text : List ℕ) (r : Refusal) → (text ≡ [] → ⊥)
+    → IsOpeningRefusal window text r → IsFrontRefusal window text r
+text_there window text why.ReceiveNoSdp some is = absurd is
+text_there window text r some is = (some, is)
 
 -- a recording has no text
 pub no_text : (octets text : List ℕ) → is_recording octets ≡ true → text_of_file octets ≡ text
@@ -166,7 +172,7 @@ module _ {S : Type 0} (gave : S → List ℕ) (ended : S → Type 0) (r : FileRe
           )))
 
   -- its octets have the text that was read
-  has_text : (octets : List ℕ) → told octets → HasFileText w octets r.text
+  pub has_text : (octets : List ℕ) → told octets → HasFileText w octets r.text
   has_text octets read = by_kind r.is_recording refl
     where
       by_kind : (b : Bool) → r.is_recording ≡ b → HasFileText w octets r.text
@@ -187,7 +193,7 @@ module _ {S : Type 0} (gave : S → List ℕ) (ended : S → Type 0) (r : FileRe
   -- so a refusal of opening by it is one of the file
   pub text_opens : (x : Refusal) (window text : List ℕ) → text ≡ r.text
       → IsFrontRefusal window text x → IsFileOpenedRefusal window w told x
-  text_opens (why.Capture f) window text same is = absurd is
+  text_opens (why.Capture f) window text same is = absurd is.1
   text_opens x window text same is = λ octets read. (
     text,
     subst (λ (t : List ℕ). HasFileText w octets t) (sym same) (has_text octets read),

@@ -72,7 +72,7 @@ part_refused (Err Memory) fault P of is = tt
 
 -- ---- files
 
-zip_parts : {S : Type 0} (k : ℕ) (xs ys : List S)
+pub zip_parts : {S : Type 0} (k : ℕ) (xs ys : List S)
     → zip xs ys ≡ zip (take k xs) (take k ys) ++ zip (drop k xs) (drop k ys)
 zip_parts zero xs ys = refl
 zip_parts (suc k) [] ys = refl
@@ -80,18 +80,18 @@ zip_parts (suc k) (x ∷ xs) [] = sym (zip_none (drop k xs))
 zip_parts {S} (suc k) (x ∷ xs) (y ∷ ys) = ap (λ (l : List (S × S)). (x, y) ∷ l) (zip_parts k xs ys)
 
 -- a list with its first item
-record Opened {S : Type 0} (Is : S → Type 0) (xs : List S) : Type 0 where
+pub record Opened {S : Type 0} (Is : S → Type 0) (xs : List S) : Type 0 where
   pub first : S
   pub rest : List S
   pub whole : xs ≡ first ∷ rest
   pub is : Is first
 
-opened : {S : Type 0} (Is : S → Type 0) (xs : List S) → FirstIs Is xs → Opened Is xs
+pub opened : {S : Type 0} (Is : S → Type 0) (xs : List S) → FirstIs Is xs → Opened Is xs
 opened Is [] is = absurd is
 opened Is (x ∷ xs) is = record { first = x; rest = xs; whole = refl; is = is }
 
 -- so many are there before it
-parts_counted : {S : Type 0} (Is : S × S → Type 0) (k : ℕ) (xs ys : List S)
+pub parts_counted : {S : Type 0} (Is : S × S → Type 0) (k : ℕ) (xs ys : List S)
     → FirstIs Is (zip (drop k xs) (drop k ys)) → length (zip (take k xs) (take k ys)) ≡ k
 parts_counted Is zero xs ys is = refl
 parts_counted Is (suc k) [] ys is = absurd is

@@ -1,80 +1,155 @@
 -- Which refusal of a picture ends a run of `send`.
-use Rattle.std.proofs.Common.{◌≡◌, ℕ, zero, suc, ◌<◌, List, [], ◌∷◌, drop, take, refl}
-use Rattle.std.proofs.Common.{sym, subst, ◌∙◌, arith}
-use Rattle.std.specs.List.{zip}
+use Rattle.std.proofs.Common.{◌≡◌, ℕ, suc, ◌+◌, ◌<◌, List, [], ◌∷◌, drop, take, refl}
+use Rattle.std.proofs.Common.{◌++◌, Option, Some, append-nil, inl, inr, ap, sym, subst, ◌∙◌, arith}
+use Rattle.std.specs.List.{AllByRecursion, zip}
+use Rattle.st_format.specs.declared.format.Format.{Format}
+use Rattle.st_format.specs.History.{since}
+use Rattle.st_format.proofs.Histories.{since_is}
+use Rattle.packet_plan.specs.Plan.{IsSize}
 use Rattle.packet_plan.specs.declared.plan.PlanFault.{PlanFault}
 use Rattle.packet_plan.specs.declared.plan.PlanFault.TheVariants.{NoMemory, BadPacketSize}
-use Rattle.st_format.specs.declared.format.Format.{Format}
 use Rattle.run_outcome.specs.LowerFaults.{of_plan}
-use Rattle.run_outcome.specs.Refusing.{OfRefusal}
-use Rattle.capture_engines.specs.Sent.{FirstIs, FirstSays, IsPicturesRefusal}
+use Rattle.run_outcome.specs.Moments.{WasRead}
 use Rattle.run_outcome.specs.Pictures.{IsPictureRefusal, IsPlanFault, SaysPictureOf}
-use Rattle.capture_engines.specs.Sent.{IsRestRefusal, OneIs, SaysOther}
+use Rattle.run_outcome.specs.Refusing.{OfRefusal}
+use Rattle.run_outcome.specs.TextRefusals.{IsCaptureText, SaysText}
 use Rattle.run_outcome.specs.declared.refusal.Refusal.{Refusal}
 use Rattle.run_outcome.specs.declared.refusal.Refusal.TheVariants as why
-use Rattle.capture_engines.proofs.OneOf.{first_again, first_one, no_first, one_behind, zip_drop}
+use Rattle.capture_engines.specs.Sent.{FirstIs, FirstSays, IsLaterPictureRefusal}
+use Rattle.capture_engines.specs.Sent.{IsPicturesRefusal, IsRestRefusal, SaysOther, SaysTextOfRun}
+use Rattle.capture_engines.proofs.OneOf.{first_again, no_first, zip_drop, zip_take}
+use Rattle.capture_engines.proofs.OneOf.{all_behind_first, one_behind_first}
 
--- ---- the pictures
+-- ---- the text
 
--- a refusal of the pictures behind the first is one of all
+-- a text that was read whole is one that a capture may have
+pub text_says : {S : Type 0} (gave : S → List ℕ) (ended : S → Type 0) (old new : Option S)
+    (text : List ℕ) → SaysText gave ended old new text
+    → SaysTextOfRun (WasRead gave ended) old new
+text_says {S} gave ended old new text says was now given later octets read =
+    let is : SaysText gave ended (Some was) (Some now) text =
+    subst (λ (o : Option S). SaysText gave ended (Some was) o text) later
+    (subst (λ (o : Option S). SaysText gave ended o new text) given says) in
+    let whole : octets ≡ text =
+    read.parts ∙ ap (λ (l : List ℕ). since (gave was) (gave now) ++ l) (read.all is.1)
+    ∙ append-nil (since (gave was) (gave now)) ∙ since_is (gave was) (gave now) text is.0 in
+    subst IsCaptureText (sym whole) is.2
+
+-- ---- the first picture
+
+-- its file is refused
+pub first_refused : {S : Type 0} (most : ℕ) (told : S → List ℕ → Type 0) (xs : List S)
+    (r : Refusal) → FirstIs (λ s. IsPictureRefusal (told s) r) xs
+    → IsPicturesRefusal most told xs r
+first_refused most told [] r is = absurd is
+first_refused most told (x ∷ xs) (why.Picture e) is = inl is
+first_refused most told (x ∷ xs) r is = absurd is
+
+-- its format has no plan
+pub plan_refused : {S : Type 0} (most : ℕ) (format : Format) (told : S → List ℕ → Type 0)
+    (xs : List S) → FirstSays told format xs → (e : PlanFault)
+    → (e ≡ BadPacketSize → IsPlanFault most format BadPacketSize)
+    → OfRefusal (of_plan e) (IsPicturesRefusal most told xs)
+plan_refused most format told xs says NoMemory is = tt
+plan_refused most format told [] says BadPacketSize is = absurd says
+plan_refused most format told (x ∷ xs) says BadPacketSize is = inl (format, says, is refl)
+
+-- it has one, and one of those behind it is refused
 pub rest_refused : {S : Type 0} (most : ℕ) (format : Format) (told : S × S → List ℕ → Type 0)
-    (xs ms ys : List S) (r : Refusal) → FirstSays told format (zip xs ms)
+    (xs ms ys : List S) (r : Refusal) → FirstSays told format (zip xs ms) → IsSize most format
     → drop 1 ms ≡ drop 1 xs → take 1 ys ≡ take 1 ms
     → IsRestRefusal format told (zip (drop 1 ms) (drop 1 ys)) r
     → IsPicturesRefusal most told (zip xs ys) r
-rest_refused {S} most format told xs ms ys r says behind front is =
-    all r
+rest_refused {S} most format told xs ms ys r says size behind front is =
+    all (zip xs ys) (first_again (λ s. SaysPictureOf (told s) format) xs ms ys front says)
     (subst (λ (l : List (S × S)). IsRestRefusal format told l r) (zip_drop 1 xs ys)
     (subst (λ (l : List S). IsRestRefusal format told (zip l (drop 1 ys)) r) behind is))
   where
-    first : FirstSays told format (zip xs ys)
-    first = first_again (λ s. SaysPictureOf (told s) format) xs ms ys front says
+    all : (ps : List (S × S)) → FirstSays told format ps
+        → IsRestRefusal format told (drop 1 ps) r → IsPicturesRefusal most told ps r
+    all [] first rest = absurd first
+    all (p ∷ ps) first rest = inr (format, first, size, rest)
 
-    all : (e : Refusal) → IsRestRefusal format told (drop 1 (zip xs ys)) e
-        → IsPicturesRefusal most told (zip xs ys) e
-    all (why.Picture e) one =
-        one_behind (λ s. IsPictureRefusal (told s) (why.Picture e)) 1 (zip xs ys) one
-    all why.SendFormats one =
-        (format, first, one_behind (λ s. SaysOther (told s) format) 1 (zip xs ys) one)
-    all e one = absurd one
+-- ---- those behind the first
 
--- one at a place behind the first is one behind it
-first_behind : {S : Type 0} (Is : S → Type 0) (k : ℕ) (xs : List S) → 0 < k → FirstIs Is (drop k xs)
-    → OneIs Is (drop 1 xs)
-first_behind Is zero xs some is = absurd (omega arith)
-first_behind Is (suc k) [] some is = is
-first_behind Is (suc k) (x ∷ xs) some is = one_behind Is k xs (first_one Is (drop k xs) is)
+-- those behind the first and before a place are of this format: the sources as they were, and as
+-- they are here
+abbrev pub AreOf : {S : Type 0} → (S × S → List ℕ → Type 0) → Format → ℕ → List S → List S → Type 0
+AreOf told format k start here =
+    AllByRecursion (λ s. SaysPictureOf (told s) format) (drop 1 (take k (zip start here)))
 
--- the same of what is read at a place: as it was, and as it is
-one_of_rest : {S : Type 0} (Is : S × S → Type 0) (k : ℕ) (start now here : List S) → 0 < k
+pub none_are : {S : Type 0} (told : S × S → List ℕ → Type 0) (format : Format) (start here : List S)
+    → AreOf told format 1 start here
+none_are told format [] here = tt
+none_are told format (x ∷ xs) [] = tt
+none_are told format (x ∷ xs) (y ∷ ys) = tt
+
+-- what is read at a place: as it was, and as it is
+read_there : {S : Type 0} (Is : S × S → Type 0) (k : ℕ) (start now here : List S)
     → drop k now ≡ drop k start → FirstIs Is (zip (drop k now) (drop k here))
-    → OneIs Is (zip (drop 1 start) (drop 1 here))
-one_of_rest {S} Is k start now here some same is =
-    subst (λ (l : List (S × S)). OneIs Is l) (sym (zip_drop 1 start here))
-    (first_behind Is k (zip start here) some
-    (subst (λ (l : List (S × S)). FirstIs Is l) (zip_drop k start here)
-    (subst (λ (l : List S). FirstIs Is (zip l (drop k here))) same is)))
+    → FirstIs Is (drop k (zip start here))
+read_there {S} Is k start now here same is =
+    subst (λ (l : List (S × S)). FirstIs Is l) (zip_drop k start here)
+    (subst (λ (l : List S). FirstIs Is (zip l (drop k here))) same is)
 
--- a refusal of the file of one behind the first
+-- they are so still once one at the place was read
+are_still : {S : Type 0} (told : S × S → List ℕ → Type 0) (format : Format) (k : ℕ)
+    (start now here : List S) → take k here ≡ take k now → AreOf told format k start now
+    → AreOf told format k start here
+are_still {S} told format k start now here before are =
+    subst (λ (l : List (S × S)). AllByRecursion (λ s. SaysPictureOf (told s) format) (drop 1 l))
+    (sym (zip_take k start now) ∙ ap (λ (l : List S). zip (take k start) l) (sym before)
+    ∙ zip_take k start here) are
+
+-- and that one is too
+pub one_more : {S : Type 0} (told : S × S → List ℕ → Type 0) (format other : Format) (k : ℕ)
+    (start now here : List S) → 0 < k → drop k now ≡ drop k start → take k here ≡ take k now
+    → AreOf told format k start now → other ≡ format
+    → FirstSays told other (zip (drop k now) (drop k here))
+    → AreOf told format (k + 1) start here
+one_more {S} told format other k start now here some same before are alike says =
+    let next : suc k ≡ k + 1 = omega arith in
+    subst (λ (n : ℕ). AreOf told format n start here) next
+    (all_behind_first (λ s. SaysPictureOf (told s) format) k (zip start here) some
+    (are_still told format k start now here before are)
+    (read_there (λ s. SaysPictureOf (told s) format) k start now here same
+    (subst (λ (f : Format). FirstSays told f (zip (drop k now) (drop k here))) alike says)))
+
+-- the one there is refused
+later_refused : {S : Type 0} (format : Format) (told : S × S → List ℕ → Type 0) (k : ℕ)
+    (start now here : List S) → 0 < k → drop k now ≡ drop k start → take k here ≡ take k now
+    → AreOf told format k start now → (r : Refusal)
+    → FirstIs (λ s. IsLaterPictureRefusal format (told s) r) (zip (drop k now) (drop k here))
+    → IsRestRefusal format told (zip (drop 1 start) (drop 1 here)) r
+later_refused {S} format told k start now here some same before are r is =
+    subst (λ (l : List (S × S)). IsRestRefusal format told l r) (sym (zip_drop 1 start here))
+    (one_behind_first (λ s. SaysPictureOf (told s) format)
+    (λ s. IsLaterPictureRefusal format (told s) r) k (zip start here) some
+    (are_still told format k start now here before are)
+    (read_there (λ s. IsLaterPictureRefusal format (told s) r) k start now here same is))
+
+-- its file is
 pub next_refused : {S : Type 0} (format : Format) (told : S × S → List ℕ → Type 0) (k : ℕ)
-    (start now here : List S) → 0 < k → drop k now ≡ drop k start → (r : Refusal)
+    (start now here : List S) → 0 < k → drop k now ≡ drop k start → take k here ≡ take k now
+    → AreOf told format k start now → (r : Refusal)
     → FirstIs (λ s. IsPictureRefusal (told s) r) (zip (drop k now) (drop k here))
     → IsRestRefusal format told (zip (drop 1 start) (drop 1 here)) r
-next_refused format told k start now here some same (why.Picture e) is =
-    one_of_rest (λ s. IsPictureRefusal (told s) (why.Picture e)) k start now here some same is
-next_refused format told k start now here some same r is =
+next_refused format told k start now here some same before are (why.Picture e) is =
+    later_refused format told k start now here some same before are (why.Picture e) is
+next_refused format told k start now here some same before are r is =
     absurd (no_first (zip (drop k now) (drop k here)) is)
 
--- one behind the first is of another format
+-- it is of another format
 pub other_refused : {S : Type 0} (format then other : Format) (told : S × S → List ℕ → Type 0)
-    (k : ℕ) (start now here : List S) → 0 < k → drop k now ≡ drop k start → then ≡ format
+    (k : ℕ) (start now here : List S) → 0 < k → drop k now ≡ drop k start
+    → take k here ≡ take k now → AreOf told format k start now → then ≡ format
     → FirstSays told other (zip (drop k now) (drop k here)) → (r : Refusal)
     → (r ≡ why.SendFormats) × (other ≡ then → ⊥)
     → IsRestRefusal format told (zip (drop 1 start) (drop 1 here)) r
-other_refused {S} format then other told k start now here some same kept says r is =
+other_refused {S} format then other told k start now here some same before are kept says r is =
     subst (λ (w : Refusal). IsRestRefusal format told (zip (drop 1 start) (drop 1 here)) w)
     (sym is.0)
-    (one_of_rest (λ s. SaysOther (told s) format) k start now here some same
+    (later_refused format told k start now here some same before are why.SendFormats
     (other_first (zip (drop k now) (drop k here)) says))
   where
     other_first : (ys : List (S × S)) → FirstSays told other ys
@@ -82,11 +157,3 @@ other_refused {S} format then other told k start now here some same kept says r 
     other_first [] says = says
     other_first (y ∷ ys) says =
         record { other = other; says = says; unlike = λ like. is.1 (like ∙ sym kept) }
-
--- the first one's format has no plan
-pub plan_refused : {S : Type 0} (most : ℕ) (format : Format) (told : S → List ℕ → Type 0)
-    (xs : List S) → FirstSays told format xs → (e : PlanFault)
-    → (e ≡ BadPacketSize → IsPlanFault most format BadPacketSize)
-    → OfRefusal (of_plan e) (IsPicturesRefusal most told xs)
-plan_refused most format told xs says NoMemory is = tt
-plan_refused most format told xs says BadPacketSize is = (format, says, is refl)

@@ -25,8 +25,9 @@ use Rattle.pcap_file.specs.declared.fault.RecordingFault.TheVariants as recordin
 use Rattle.run_outcome.specs.Refusing.{OfRefusal}
 use Rattle.capture_engines.specs.Files.{flows_in}
 use Rattle.run_outcome.specs.declared.refusal.Refusal.{Refusal}
+use Rattle.run_outcome.specs.declared.refusal.Refusal.TheVariants as why
 use Rattle.run_outcome.specs.LowerFaults.{reading_fault}
-use Rattle.capture_engines.specs.Received.{IsCaptureBy, StopsFile}
+use Rattle.capture_engines.specs.Received.{IsCaptureBy, StopsFile, StopsFront}
 use Rattle.capture_engines.specs.declared.way.Way.{Way}
 use Rattle.capture_engines.specs.declared.way.Way.TheVariants as way
 use Rattle.capture_engines.proofs.ReceivedRefusals.{plain_by}
@@ -170,16 +171,26 @@ plain_alone way.Capture octets none taken = tt
 plain_alone (way.Flows flows) octets none taken = absurd cc
 plain_alone (way.Refused r) octets none taken = absurd (taken r refl)
 
-pub front_stops : (w : Way) (told : List ℕ → Type 0) (g : ReadingFault)
+-- a fault before all records does
+pub front_before : (w : Way) (told : List ℕ → Type 0) (g : ReadingFault)
     → ((octets : List ℕ) → told octets → IfFile g (IsFrontFault g octets))
-    → IsByFlows (flows_in w) (Reading g) → OfRefusal (reading_fault g) (StopsFile w told)
-front_stops w told (Capture file.NoMemory) known by = tt
-front_stops w told (Capture file.Device) known by = tt
-front_stops w told (Capture f) known by =
+    → IsByFlows (flows_in w) (Reading g) → OfRefusal (reading_fault g) (StopsFront w told)
+front_before w told (Capture file.NoMemory) known by = tt
+front_before w told (Capture file.Device) known by = tt
+front_before w told (Capture f) known by =
     inl (
-      λ octets read. inl (known octets read).1,
+      λ octets read. (known octets read).1,
       λ octets read. plain_by w octets (known octets read).0,
     )
-front_stops w told (Recording recording.Device) known by = tt
-front_stops w told (Recording f) known by =
-    inr (inl (by, λ octets read. ((known octets read).0, (known octets read).2)))
+front_before w told (Recording recording.Device) known by = tt
+front_before w told (Recording f) known by = inr (inl (by, known))
+
+-- and it stops the file
+pub front_stop : (w : Way) (told : List ℕ → Type 0) (r : Refusal) → StopsFront w told r
+    → StopsFile w told r
+front_stop w told (why.Capture f) (inl is) = inl (λ octets read. inl (is.0 octets read), is.1)
+front_stop w told r (inl is) = absurd is.0
+front_stop w told (why.Recording f) (inr (inl is)) =
+    inr (inl (is.0, λ octets read. ((is.1 octets read).0, (is.1 octets read).2)))
+front_stop w told r (inr (inl is)) = absurd is
+front_stop w told r (inr (inr is)) = inr (inr (inr is))

@@ -1,6 +1,7 @@
--- Which refusal ends a run of `receive` (own). What was read is told by a predicate: it holds of
--- any octets that begin with it, and of no others where the source has ended.
-use Rattle.std.specs.Prelude.{◌≡◌, ℕ, ◌⊎◌, List, [], ◌∷◌, ◌++◌, length, MatchOption, IsSome}
+-- Which refusal ends a run of `receive` (own): one that holds, and none before it, in the order in
+-- which it looks. What was read is told by a predicate: it holds of any octets that begin with it,
+-- and of no others where the source has ended.
+use Rattle.std.specs.Prelude.{◌≡◌, ℕ, ◌⊎◌, List, [], ◌∷◌, ◌++◌, length, MatchOption, IsSome, ◌<◌}
 use Rattle.std.specs.Prelude.{Option, None, Some, Result, Ok, Err, true, false, ⊤}
 use Rattle.flow.specs.declared.flows.Flows.{Flows}
 use Rattle.media_file.specs.Fronts.{front_at}
@@ -8,19 +9,20 @@ use Rattle.media_file.specs.Reading.{fault_at}
 use Rattle.media_file.specs.Records.{AllFit, Entry, records_text}
 use Rattle.media_file.specs.declared.fault.FileFault.{FileFault}
 use Rattle.media_file.specs.declared.fault.FileFault.TheVariants.{TooManyRecords}
-use Rattle.path_receiver.specs.Opening.{AreDifferent, IsWindowSize}
+use Rattle.path_receiver.specs.Opening.{AreDifferent, IsWindow, IsWindowSize}
 use Rattle.path_receiver.specs.declared.fault.OpenFault.{OpenFault}
 use Rattle.path_receiver.specs.declared.fault.OpenFault.TheVariants as open_fault
-use Rattle.recording_reader.specs.Files.{AreFirst, IsFileFault, records_of_file}
+use Rattle.recording_reader.specs.Files.{AreFirst, IsFileFault, IsFrontFault, records_of_file}
 use Rattle.recording_reader.specs.Kinds.{is_recording}
 use Rattle.recording_reader.specs.declared.fault.ReadingFault.TheVariants.{Recording}
 use Rattle.sdp_format.specs.Bytes.{lines}
-use Rattle.sdp_format.specs.Grammar.{IsTextFault}
-use Rattle.sdp_format.specs.Sections.{video_sections}
+use Rattle.sdp_format.specs.Grammar.{IsDescribed, IsTextFault}
+use Rattle.sdp_format.specs.Sections.{Description, video_sections}
 use Rattle.run_outcome.specs.Timestamps.{AreTimestamps}
 use Rattle.run_outcome.specs.TextRefusals.{GivesAbove}
-use Rattle.capture_engines.specs.Files.{HasFileText, first_way, flows_in, other_ways}
-use Rattle.capture_engines.specs.Sent.{OneIs}
+use Rattle.capture_engines.specs.Files.{AreReadWhole, HasFileText, first_way, flows_in, other_ways}
+use Rattle.capture_engines.specs.Files.{way_at}
+use Rattle.capture_engines.specs.Taking.{IsShortText}
 use Rattle.run_outcome.specs.Sources.{IsSourceText}
 use Rattle.run_outcome.specs.declared.refusal.Refusal.{Refusal}
 use Rattle.run_outcome.specs.declared.refusal.Refusal.TheVariants as refusal
@@ -36,7 +38,29 @@ IsWordRefusal window ssrc refusal.ReceiveWindow = (ts : List ℕ) → AreTimesta
 IsWordRefusal window ssrc refusal.ReceiveSource = (pin : Option ℕ) → IsSourceText ssrc pin → ⊥
 IsWordRefusal window ssrc r = ⊥
 
+-- the window is looked at first: where the source is refused, it lists timestamps
+abbrev pub IsBehindWindow : List ℕ → Refusal → Type 0
+IsBehindWindow window refusal.ReceiveSource = (ts : List ℕ) × AreTimestamps window ts
+IsBehindWindow window r = ⊤
+
+-- the first refusal of the words
+abbrev pub IsFirstWordRefusal : List ℕ → List ℕ → Refusal → Type 0
+IsFirstWordRefusal window ssrc r = IsWordRefusal window ssrc r × IsBehindWindow window r
+
+-- the words ask for these timestamps, and for a source
+abbrev pub AskFor : List ℕ → List ℕ → List ℕ → Type 0
+AskFor window ssrc ts = AreTimestamps window ts × ((pin : Option ℕ) × IsSourceText ssrc pin)
+
 -- ---- opening a receiver
+
+-- a text describes a video
+abbrev pub IsSdp : List ℕ → Type 0
+IsSdp text = (d : Description) × IsDescribed (video_sections (lines text)) d
+
+-- a receiver is opened by an SDP text: it describes a video, and the window is one
+pub record Opens (window text : List ℕ) : Type 0 where
+  pub sdp : IsSdp text
+  pub is_window : IsWindow window
 
 -- what is wrong with a window
 abbrev pub IsWindowFault : List ℕ → OpenFault → Type 0
@@ -45,33 +69,38 @@ IsWindowFault window open_fault.DoubleTimestamp =
     IsWindowSize (length window) × (AreDifferent window → ⊥)
 IsWindowFault window open_fault.NoMemory = ⊥
 
--- the refusals of opening by an SDP text: of the text; of the window
+-- the refusals of opening by an SDP text: of the text; of the window, where that describes a video
 abbrev pub IsOpeningRefusal : List ℕ → List ℕ → Refusal → Type 0
 IsOpeningRefusal window text (refusal.Sdp at) = IsTextFault (video_sections (lines text)) at.fault
-IsOpeningRefusal window text (refusal.Open e) = IsWindowFault window e
+IsOpeningRefusal window text (refusal.Open e) = IsSdp text × IsWindowFault window e
 IsOpeningRefusal window text r = ⊥
 
--- The refusals of an SDP text that was read: that it is too long; of opening by it.
+-- The refusals of an SDP text that was read: that it is too long; else of opening by it.
 abbrev pub IsGivenRefusal : List ℕ → (List ℕ → Type 0) → Refusal → Type 0
 IsGivenRefusal window told refusal.ReceiveSdp = GivesAbove 16777216 told
-IsGivenRefusal window told r =
-    (octets : List ℕ) → told octets → IsOpeningRefusal window octets r
+IsGivenRefusal window told r = IsShortText told
+    × ((octets : List ℕ) → told octets → IsOpeningRefusal window octets r)
 
--- the refusals of opening by a capture's text: that there is none; of opening by it
+-- a receiver is opened by it
+abbrev pub GivenOpens : List ℕ → (List ℕ → Type 0) → Type 0
+GivenOpens window told = IsShortText told
+    × ((octets : List ℕ) → told octets → Opens window octets)
+
+-- the refusals of opening by a capture's text: that there is none; else of opening by it
 abbrev pub IsFrontRefusal : List ℕ → List ℕ → Refusal → Type 0
 IsFrontRefusal window text refusal.ReceiveNoSdp = text ≡ []
-IsFrontRefusal window text r = IsOpeningRefusal window text r
-
--- so of a capture that was read
-abbrev pub IsOpenedRefusal : List ℕ → (List ℕ → Type 0) → Refusal → Type 0
-IsOpenedRefusal window told r = (octets : List ℕ) → told octets
-    → (x : List ℕ × List ℕ) × (front_at octets ≡ Ok x) × IsFrontRefusal window x.0 r
+IsFrontRefusal window text r = (text ≡ [] → ⊥) × IsOpeningRefusal window text r
 
 -- so of a file that was read, which is taken so; none is named as a capture's fault
 abbrev pub IsFileOpenedRefusal : List ℕ → Way → (List ℕ → Type 0) → Refusal → Type 0
 IsFileOpenedRefusal window w told (refusal.Capture f) = ⊥
 IsFileOpenedRefusal window w told r = (octets : List ℕ) → told octets
     → (text : List ℕ) × HasFileText w octets text × IsFrontRefusal window text r
+
+-- a receiver is opened by its text
+abbrev pub FileOpens : List ℕ → Way → (List ℕ → Type 0) → Type 0
+FileOpens window w told = (octets : List ℕ) → told octets
+    → (text : List ℕ) × HasFileText w octets text × Opens window text
 
 -- ---- a file
 
@@ -162,39 +191,94 @@ abbrev pub IsFilesRefusal : {S X : Type 0} → List ℕ → Option X → List (R
 IsFilesRefusal window begun ways f files r = OneFileIs (λ w s. StopsFile w (f s) r) ways files
     ⊎ ((begun ≡ None) × FirstFileRefuses window ways f files r)
 
--- ---- captures
+-- ---- the first refusal of files
 
--- the refusals of opening by the first of some captures: there may be none
-abbrev pub FirstRefuses : {S : Type 0} → List ℕ → (S → List ℕ → Type 0) → List S → Refusal → Type 0
-FirstRefuses window f [] r = r ≡ refusal.ReceiveNoSdp
-FirstRefuses window f (s ∷ ss) r = IsOpenedRefusal window (f s) r
+-- a capture's front is at fault
+abbrev pub IsCaptureFrontRefusal : (List ℕ → Type 0) → Refusal → Type 0
+IsCaptureFrontRefusal told (refusal.Capture f) =
+    (octets : List ℕ) → told octets → front_at octets ≡ Err f
+IsCaptureFrontRefusal told r = ⊥
 
--- The refusals of captures: of a file; and of opening by the first, where no receiver is open yet.
-abbrev pub IsCapturesRefusal : {S X : Type 0} → List ℕ → Option X → (S → List ℕ → Type 0) → List S
-    → Refusal → Type 0
-IsCapturesRefusal window begun f captures (refusal.Capture e) =
-    OneIs (λ s. IsCaptureRefusal (f s) (refusal.Capture e)) captures
-IsCapturesRefusal window begun f captures r = (begun ≡ None) × FirstRefuses window f captures r
+-- so of a file that is taken so
+abbrev pub IsPlainFrontRefusal : Way → (List ℕ → Type 0) → Refusal → Type 0
+IsPlainFrontRefusal w told r = IsCaptureFrontRefusal told r
+    × ((octets : List ℕ) → told octets → IsCaptureBy w octets)
+
+-- the first fault of a recording, which is taken by flows, stands before all its records
+abbrev pub IsRecordingFrontRefusal : Option Flows → (List ℕ → Type 0) → Refusal → Type 0
+IsRecordingFrontRefusal flows told (refusal.Recording f) = IsSome flows
+    × ((octets : List ℕ) → told octets → IsFrontFault (Recording f) octets)
+IsRecordingFrontRefusal flows told r = ⊥
+
+-- what stops a file that is taken so before its records
+abbrev pub StopsFront : Way → (List ℕ → Type 0) → Refusal → Type 0
+StopsFront w told r = IsPlainFrontRefusal w told r ⊎ IsRecordingFrontRefusal (flows_in w) told r
+    ⊎ IsUntakenRefusal w told r
+
+-- that it has as many records as are taken; or it has fewer, up to its fault
+abbrev pub IsBehindFew : Way → (List ℕ → Type 0) → Refusal → Type 0
+IsBehindFew w told r = (r ≡ refusal.Capture TooManyRecords)
+    ⊎ ((octets : List ℕ) → told octets → length (records_of_file (flows_in w) octets) < 16777216)
+
+-- The refusal of a file, by what is looked at first: what stops it before its records; of opening
+-- by its text, where no receiver is open; and, where one is or is opened by it, what stops it.
+abbrev pub IsTurnRefusal : List ℕ → Way → Type 0 → (List ℕ → Type 0) → Refusal → Type 0
+IsTurnRefusal window w Unopened told r = StopsFront w told r
+    ⊎ (Unopened × IsFileOpenedRefusal window w told r)
+    ⊎ ((Unopened → FileOpens window w told) × StopsFile w told r × IsBehindFew w told r)
+
+-- of the first of a list this holds, where there is one
+abbrev pub IfFirst : {S : Type 0} → (S → Type 0) → List S → Type 0
+IfFirst Is [] = ⊤
+IfFirst Is (s ∷ ss) = Is s
+
+-- A file of some is refused, each taken so, and none before it: those were taken to their ends,
+-- and, where no receiver was open, by the text of the first.
+pub record IsFirstRefused {S : Type 0} (window : List ℕ) (Unopened : Type 0)
+    (ways : List (Result Flows Refusal)) (told : S → List ℕ → Type 0) (files : List S) (r : Refusal)
+    : Type 0 where
+  pub front : List S
+  pub at : S
+  pub behind : List S
+  pub parts : files ≡ front ++ at ∷ behind
+  pub whole : AreReadWhole ways told front
+  pub opened : Unopened → IfFirst (λ s. FileOpens window (first_way ways) (told s)) front
+  pub refused : IsTurnRefusal window (way_at ways (length front)) (Unopened × (front ≡ []))
+      (told at) r
+
+-- The first refusal of files: that there is none, and no receiver is open; of one.
+abbrev pub IsFirstFilesRefusal : {S X : Type 0} → List ℕ → Option X → List (Result Flows Refusal)
+    → (S → List ℕ → Type 0) → List S → Refusal → Type 0
+IsFirstFilesRefusal window begun ways told files r =
+    ((begun ≡ None) × (files ≡ []) × (r ≡ refusal.ReceiveNoSdp))
+    ⊎ IsFirstRefused window (begun ≡ None) ways told files r
 
 -- ---- the run
 
--- the refusals of the captures, for a window: of the SDP text that is given; of the captures
+-- The refusal of the captures, for a window: of the SDP text that is given; else of the captures.
 abbrev pub IsGivenCapturesRefusal : {S : Type 0} → List ℕ → Option S → (S → List ℕ → Type 0)
     → List S → Refusal → Type 0
-IsGivenCapturesRefusal window sdp f captures r =
-    MatchOption sdp ⊥ (λ s. IsGivenRefusal window (f s) r)
-    ⊎ IsCapturesRefusal window sdp f captures r
+IsGivenCapturesRefusal window sdp told captures r =
+    MatchOption sdp ⊥ (λ s. IsGivenRefusal window (told s) r)
+    ⊎ (MatchOption sdp ⊤ (λ s. GivenOpens window (told s))
+    × IsFirstFilesRefusal window sdp [] told captures r)
 
--- The refusals of `receive`: of the words; of the files, for the timestamps that are asked for.
+-- The refusal of `receive`: of the words; else of the captures, for the timestamps that are asked
+-- for.
 abbrev pub IsReceiveRefusal : {S : Type 0} → List ℕ → List ℕ → Option S → (S → List ℕ → Type 0)
     → List S → Refusal → Type 0
-IsReceiveRefusal window ssrc sdp f captures r = IsWordRefusal window ssrc r
-    ⊎ ((ts : List ℕ) × AreTimestamps window ts × IsGivenCapturesRefusal ts sdp f captures r)
+IsReceiveRefusal window ssrc sdp told captures r = IsFirstWordRefusal window ssrc r
+    ⊎ ((ts : List ℕ) × AskFor window ssrc ts × IsGivenCapturesRefusal ts sdp told captures r)
 
--- the same of files, each taken so, where the SDP text is given itself
+-- so of files, for a window, each taken so, where the SDP text is given itself
+abbrev pub IsGivenFilesRefusal : {S : Type 0} → List ℕ → Option (List ℕ)
+    → List (Result Flows Refusal) → (S → List ℕ → Type 0) → List S → Refusal → Type 0
+IsGivenFilesRefusal window sdp ways told files r =
+    MatchOption sdp ⊥ (λ text. IsOpeningRefusal window text r)
+    ⊎ (MatchOption sdp ⊤ (λ text. Opens window text)
+    × IsFirstFilesRefusal window sdp ways told files r)
+
 abbrev pub IsReceivingRefusal : {S : Type 0} → List ℕ → List ℕ → Option (List ℕ)
     → List (Result Flows Refusal) → (S → List ℕ → Type 0) → List S → Refusal → Type 0
-IsReceivingRefusal window ssrc sdp ways f files r = IsWordRefusal window ssrc r
-    ⊎ ((ts : List ℕ) × AreTimestamps window ts
-    × (MatchOption sdp ⊥ (λ text. IsOpeningRefusal ts text r)
-    ⊎ IsFilesRefusal ts sdp ways f files r))
+IsReceivingRefusal window ssrc sdp ways told files r = IsFirstWordRefusal window ssrc r
+    ⊎ ((ts : List ℕ) × AskFor window ssrc ts × IsGivenFilesRefusal ts sdp ways told files r)

@@ -12,7 +12,7 @@ use Rattle.recording_reader.specs.Kinds.{is_recording}
 use Rattle.st_format.specs.History.{since}
 use Rattle.capture_engines.specs.Counted.{CountsHolding}
 use Rattle.capture_engines.specs.Files.{file_datagrams, files_datagrams, way_at}
-use Rattle.capture_engines.specs.Received.{IsFilesRefusal}
+use Rattle.capture_engines.specs.Received.{IsFirstFilesRefusal}
 use Rattle.capture_engines.specs.Taking.{AreRead, SavesHolding, TakesFiles, TakesRecords}
 use Rattle.capture_engines.specs.Taking.{said_behind, said_by}
 use Rattle.capture_engines.specs.declared.intake.Intake.{Intake}
@@ -69,7 +69,7 @@ IsRescue o ways gave ended files before (Whole s) =
     TakesFiles o ways (WasRead gave ended) files before (Some s)
 IsRescue o ways gave ended files before (Part s f) =
     TakesUpTo o ways gave ended f files before (Some s)
-    × OfRefusal f (IsFilesRefusal o.window.items before ways (WasRead gave ended) files)
+    × OfRefusal f (IsFirstFilesRefusal o.window.items before ways (WasRead gave ended) files)
 
 -- what that says of devices
 abbrev pub RescueAccounts : {A : Type 0} → Rescue A → List Failures → Type 0

@@ -1,9 +1,9 @@
--- Which refusal ends a run of `send` (own). A list of sources is one of pairs: each source as it
--- was before the run, and as it is behind it.
-use Rattle.std.specs.Prelude.{◌≡◌, ℕ, ◌<◌, ◌≤◌, ◌⊎◌, List, [], ◌∷◌, Option}
-use Rattle.st_format.specs.History.{IsRead}
+-- Which refusal ends a run of `send`: the first in the order in which it looks (own). A list of
+-- sources is one of pairs: each source as it was before the run, and as it is behind it.
+use Rattle.std.specs.Prelude.{◌≡◌, ℕ, ◌<◌, ◌≤◌, ◌⊎◌, List, [], ◌∷◌, Option, Some}
 use Rattle.st_format.specs.declared.format.Format.{Format}
-use Rattle.run_outcome.specs.TextRefusals.{IsTextOfRun}
+use Rattle.packet_plan.specs.Plan.{IsSize}
+use Rattle.run_outcome.specs.TextRefusals.{IsTextOfRun, SaysCaptureText}
 use Rattle.run_outcome.specs.declared.refusal.Refusal.{Refusal}
 use Rattle.run_outcome.specs.declared.refusal.Refusal.TheVariants as refusal
 use Rattle.run_outcome.specs.Pictures.{IsPictureRefusal, SaysPictureOf, IsPlanFault}
@@ -20,6 +20,11 @@ abbrev pub OneIs : {S : Type 0} → (S → Type 0) → List S → Type 0
 OneIs Is [] = ⊥
 OneIs Is (s ∷ ss) = Is s ⊎ OneIs Is ss
 
+-- one of a list is so, and all before it are this
+abbrev pub OneIsBehind : {S : Type 0} → (S → Type 0) → (S → Type 0) → List S → Type 0
+OneIsBehind Before Is [] = ⊥
+OneIsBehind Before Is (s ∷ ss) = Is s ⊎ (Before s × OneIsBehind Before Is ss)
+
 -- ---- a picture's file
 
 -- so it is of another format
@@ -34,25 +39,35 @@ pub record SaysOther (told : List ℕ → Type 0) (format : Format) : Type 0 whe
 abbrev pub FirstSays : {S : Type 0} → (S → List ℕ → Type 0) → Format → List S → Type 0
 FirstSays told format pictures = FirstIs (λ s. SaysPictureOf (told s) format) pictures
 
--- The refusals of the pictures behind the first, which is of this format: of a file; that one is of
--- another format.
-abbrev pub IsRestRefusal : {S : Type 0} → Format → (S → List ℕ → Type 0) → List S → Refusal → Type 0
-IsRestRefusal format told rest (refusal.Picture e) =
-    OneIs (λ s. IsPictureRefusal (told s) (refusal.Picture e)) rest
-IsRestRefusal format told rest refusal.SendFormats = OneIs (λ s. SaysOther (told s) format) rest
-IsRestRefusal format told rest r = ⊥
+-- the refusals of the first picture: of its file; that its format has no plan
+abbrev pub IsFirstPictureRefusal : ℕ → (List ℕ → Type 0) → Refusal → Type 0
+IsFirstPictureRefusal most told (refusal.Picture e) = IsPictureRefusal told (refusal.Picture e)
+IsFirstPictureRefusal most told (refusal.Plan e) =
+    (format : Format) × SaysPictureOf told format × IsPlanFault most format e
+IsFirstPictureRefusal most told r = ⊥
 
--- The refusals of pictures: of a file; that the first one's format has no plan; that one is of
--- another format than the first.
+-- The refusals of a picture behind the first, which is of this format: of its file; that it is of
+-- another format.
+abbrev pub IsLaterPictureRefusal : Format → (List ℕ → Type 0) → Refusal → Type 0
+IsLaterPictureRefusal format told (refusal.Picture e) = IsPictureRefusal told (refusal.Picture e)
+IsLaterPictureRefusal format told refusal.SendFormats = SaysOther told format
+IsLaterPictureRefusal format told r = ⊥
+
+-- the refusal of the pictures behind the first, which is of this format: of one of them, where
+-- those before it are of this format
+abbrev pub IsRestRefusal : {S : Type 0} → Format → (S → List ℕ → Type 0) → List S → Refusal → Type 0
+IsRestRefusal format told rest r =
+    OneIsBehind (λ s. SaysPictureOf (told s) format) (λ s. IsLaterPictureRefusal format (told s) r)
+    rest
+
+-- The refusal of pictures: of the first one; or it is of a format that has plans of packets of so
+-- many octets, and the refusal is that of those behind it.
 abbrev pub IsPicturesRefusal : {S : Type 0} → ℕ → (S → List ℕ → Type 0) → List S → Refusal → Type 0
-IsPicturesRefusal most told pictures (refusal.Picture e) =
-    OneIs (λ s. IsPictureRefusal (told s) (refusal.Picture e)) pictures
-IsPicturesRefusal most told pictures (refusal.Plan e) =
-    (format : Format) × FirstSays told format pictures × IsPlanFault most format e
-IsPicturesRefusal most told pictures refusal.SendFormats =
-    (format : Format) × FirstSays told format pictures
-    × OneIs (λ s. SaysOther (told s) format) pictures
-IsPicturesRefusal most told pictures r = ⊥
+IsPicturesRefusal most told [] r = ⊥
+IsPicturesRefusal most told (s ∷ ss) r =
+    IsFirstPictureRefusal most (told s) r
+    ⊎ ((format : Format) × SaysPictureOf (told s) format × IsSize most format
+    × IsRestRefusal format told ss r)
 
 -- ---- the run
 
@@ -63,8 +78,14 @@ abbrev pub IsSaidRefusal : {S : Type 0} → ℕ → Option S → Option S → (S
 IsSaidRefusal count old new told refusal.SendPictures = 10000 < count
 IsSaidRefusal count old new told r = (count ≤ 10000) × IsTextOfRun told old new r
 
--- the refusals of `send`: those, and of the pictures, which are few
+-- what was read of the SDP's source, where one is given, is a text that a capture may have
+abbrev pub SaysTextOfRun : {S : Type 0} → (S × S → List ℕ → Type 0) → Option S → Option S → Type 0
+SaysTextOfRun {S} told old new =
+    (was now : S) → old ≡ Some was → new ≡ Some now → SaysCaptureText (told (was, now))
+
+-- The refusal of `send`: one of those; or the pictures are few and nothing is wrong with the text,
+-- and it is that of the pictures.
 abbrev pub IsSendRefusal : {S : Type 0} → ℕ → ℕ → Option S → Option S
     → (S × S → List ℕ → Type 0) → List (S × S) → Refusal → Type 0
 IsSendRefusal most count old new told pictures r = IsSaidRefusal count old new told r
-    ⊎ ((count ≤ 10000) × IsPicturesRefusal most told pictures r)
+    ⊎ ((count ≤ 10000) × SaysTextOfRun told old new × IsPicturesRefusal most told pictures r)

@@ -1,8 +1,8 @@
 //! Taking the datagrams of files into one receiver.
 ghost use Rattle.std.specs.Prelude.{◌≡◌, ◌<◌, ◌∷◌, [], length, option_to_list, IfErr, IfOk, OnOk};
 ghost use Rattle.capture_engines.specs.Files.{octets_of};
-ghost use Rattle.capture_engines.specs.Received.{IsOpeningRefusal};
-ghost use Rattle.capture_engines.specs.Stopping.{IsReadingStop};
+ghost use Rattle.capture_engines.specs.Received.{IsOpeningRefusal, Opens};
+ghost use Rattle.capture_engines.specs.Stopping.{IsReadingStop, IsWithinTaken};
 ghost use Rattle.capture_engines.specs.Taking.{AnnouncesStream, TakesDatagrams};
 ghost use Rattle.path_receiver.specs.Tallied.{Tallies};
 ghost use Rattle.path_receiver.specs.Frames.{Holds};
@@ -38,6 +38,7 @@ impl<A: Allocator + Copy> Intake<A> {
         ensures holds { IfOk result (λ s. Holds s.receiver []) }
         ensures tallied { IfOk result (λ s. Tallies s.tally []) }
         ensures delivered { IfOk result (λ s. s.delivered ≡ 0) }
+        ensures opens { OnOk result (Opens window.now sdp.now) }
         ensures refusal { IfErr result (λ f. OfRefusal f
             (IsOpeningRefusal window.now sdp.now)) }
         ensures failures { Accounts result [] }
@@ -86,6 +87,7 @@ impl<A: Allocator> Intake<A> {
         ensures few { OnOk result (length reader.new.records < 16777216) }
         ensures stop { IfErr result
             (IsReadingStop reader.new.standing (length reader.new.records)) }
+        ensures within { IsWithinTaken reader.new.standing (length reader.new.records) }
         ensures same { IsSameFile reader.old reader.new }
         ensures failures { Accounts result (counts (S.failures reader.old.source)
             (S.failures reader.new.source) ∷ []) }

@@ -9,14 +9,15 @@ ghost use Rattle.media_file.specs.StateFile.{state_text};
 ghost use Rattle.capture_engines.specs.Counted.{CountsReceived};
 ghost use Rattle.capture_engines.specs.Files.{octets_of, way_at};
 ghost use Rattle.capture_engines.specs.Rescued.{TakesPart, TakesUpTo};
-ghost use Rattle.capture_engines.specs.Stopping.{IsReadingStop};
+ghost use Rattle.capture_engines.specs.Stopping.{IsReadingStop, StopsOpened};
 ghost use Rattle.recording_reader.specs.FileReader.{IsSameFile};
 ghost use Rattle.recording_reader.specs.declared.way.Standing.TheVariants.{Ended, Reads};
 ghost use Rattle.run_outcome.specs.Fault.{Accounts, IfRefused, counts, failures_in};
 ghost use Rattle.capture_engines.specs.Printed.{if_wanted, received_text, tally_text};
-ghost use Rattle.capture_engines.specs.Received.{IsFilesRefusal, IsFrontRefusal};
-ghost use Rattle.capture_engines.specs.Received.{IsOpeningRefusal, IsReceiveRefusal, IsTakeRefusal};
-ghost use Rattle.capture_engines.specs.Received.{IsWordRefusal};
+ghost use Rattle.capture_engines.specs.Received.{FileOpens, IsBehindWindow, IsFirstFilesRefusal};
+ghost use Rattle.capture_engines.specs.Received.{IsFirstWordRefusal, IsFrontRefusal};
+ghost use Rattle.capture_engines.specs.Received.{IsOpeningRefusal, IsReceiveRefusal, IsTurnRefusal};
+ghost use Rattle.capture_engines.specs.Received.{IsWordRefusal, Opens};
 ghost use Rattle.capture_engines.specs.Receiving.{SavesShown};
 ghost use Rattle.run_outcome.specs.Refusing.{OfRefusal};
 ghost use Rattle.capture_engines.specs.Sent.{FirstIs};
@@ -69,6 +70,7 @@ pub fn check_words<A: Allocator + Copy>(alloc: A, wanted: Wanted<'_>) -> Result<
     ensures source { OnOk result ((pin : Option ℕ) × IsSourceText wanted.entry.ssrc.now pin) }
     ensures refusal { IfErr result (λ f. OfRefusal f
         (IsWordRefusal wanted.entry.window.now wanted.entry.ssrc.now)) }
+    ensures first { IfErr result (λ f. OfRefusal f (IsBehindWindow wanted.entry.window.now)) }
     ensures failures { Accounts result [] }
 {
     let _opening = read_opening(alloc, wanted)?;
@@ -86,7 +88,9 @@ pub fn check_words<A: Allocator + Copy>(alloc: A, wanted: Wanted<'_>) -> Result<
 /// # Errors
 ///
 /// A refusal where a word, the SDP, the opening or a capture is refused, before anything is written
-/// to `state`; and else that a device failed or memory was wanted.
+/// to `state`; and else that a device failed or memory was wanted. The refusal is the first in this
+/// order: of the window; of the source; of the SDP; of each capture, one after the other, of its
+/// front, then, where no SDP is given, of opening by the first one's text, and of its records.
 pub fn receive<A, S, K, O>(
     alloc: A,
     wanted: Wanted<'_>,
@@ -189,7 +193,7 @@ pub(crate) fn read_opening<A: Allocator + Copy>(
     ensures window { IfOk result (λ o. AreTimestamps wanted.entry.window.now o.window.items) }
     ensures source { IfOk result (λ o. IsSourceText wanted.entry.ssrc.now o.ssrc) }
     ensures refusal { IfErr result (λ f. OfRefusal f
-        (IsWordRefusal wanted.entry.window.now wanted.entry.ssrc.now)) }
+        (IsFirstWordRefusal wanted.entry.window.now wanted.entry.ssrc.now)) }
     ensures failures { Accounts result [] }
 {
     let Some(window) = read_timestamps(alloc, wanted.window)? else {
@@ -208,6 +212,8 @@ pub(crate) fn begin<A: Allocator + Copy>(
 ) -> Result<Option<Intake<A>>, Fault>
     ensures begun { IfOk result (λ begun. Stands opening.now begun (option_copied sdp.entry) []) }
     ensures none { IfOk result (λ begun. begun ≡ None → option_copied sdp.entry ≡ None) }
+    ensures opens { OnOk result (MatchOption (option_copied sdp.entry) ⊤
+        (λ text. Opens opening.now.window.items text)) }
     ensures refusal { IfErr result (λ f. OfRefusal f (λ r. MatchOption (option_copied sdp.entry) ⊥
         (λ text. IsOpeningRefusal opening.now.window.items text r))) }
     ensures failures { Accounts result [] }
@@ -227,6 +233,7 @@ fn open_by<A: Allocator + Copy>(
     said: &[u8],
 ) -> Result<Intake<A>, Fault>
     ensures opened { IfOk result (λ s. HoldsBy opening.now said.now s []) }
+    ensures opens { OnOk result (Opens opening.now.window.items said.now) }
     ensures refusal { IfErr result (λ f. OfRefusal f
         (IsOpeningRefusal opening.now.window.items said.now)) }
     ensures failures { Accounts result [] }
@@ -253,7 +260,7 @@ pub(crate) fn take_all<A: Allocator + Copy, S: ByteSource>(
         (zip files.old files.new) begun.old begun.new) }
     ensures none { OnOk result (begun.new ≡ None
         → (begun.old ≡ None) × (files.old ≡ [])) }
-    ensures refusal { IfErr result (λ f. OfRefusal f (IsFilesRefusal opening.now.window.items
+    ensures refusal { IfErr result (λ f. OfRefusal f (IsFirstFilesRefusal opening.now.window.items
         begun.old ways.now (WasRead S.gave S.ended) (zip files.old files.new))) }
     ensures failures { Accounts result (counts (sum_by S.failures files.old)
         (sum_by S.failures files.new) ∷ []) }
@@ -288,8 +295,11 @@ fn take_at<A: Allocator + Copy, S: ByteSource>(
         S.gave S.ended f begun.old begun.new)
         (zip (drop place files.old) (drop place files.new))) }
     ensures begun { OnOk result (begun.new ≢ None) }
+    ensures opens { OnOk result (begun.old ≡ None → FirstIs (λ s. FileOpens
+        opening.now.window.items (way_at ways.now place) (WasRead S.gave S.ended s))
+        (zip (drop place files.old) (drop place files.new))) }
     ensures refusal { IfErr result (λ f. OfRefusal f (λ r. FirstIs
-        (λ s. IsTakeRefusal opening.now.window.items (way_at ways.now place) begun.old
+        (λ s. IsTurnRefusal opening.now.window.items (way_at ways.now place) (begun.old ≡ None)
         (WasRead S.gave S.ended s) r)
         (zip (drop place files.old) (drop place files.new)))) }
     ensures failures { Accounts result (counts (sum_by S.failures files.old)
@@ -326,8 +336,10 @@ fn take_one<A: Allocator + Copy, S: ByteSource>(
     ensures sound { IfErr result (λ f. TakesPart opening.now way S.gave S.ended f begun.old
         begun.new (file.old, file.new)) }
     ensures begun { OnOk result (begun.new ≢ None) }
-    ensures refusal { IfErr result (λ f. OfRefusal f (IsTakeRefusal opening.now.window.items way
-        begun.old (IsRead (S.gave file.old) (S.gave file.new) (S.ended file.new)))) }
+    ensures opens { OnOk result (begun.old ≡ None → FileOpens opening.now.window.items way
+        (IsRead (S.gave file.old) (S.gave file.new) (S.ended file.new))) }
+    ensures refusal { IfErr result (λ f. OfRefusal f (IsTurnRefusal opening.now.window.items way
+        (begun.old ≡ None) (IsRead (S.gave file.old) (S.gave file.new) (S.ended file.new)))) }
     ensures failures { Accounts result (counts (S.failures file.old) (S.failures file.new)
         ∷ []) }
 {
@@ -365,6 +377,9 @@ fn take_opened<A: Allocator + Copy, S: ByteSource>(
         × IsReadingStop reader.new.standing (length reader.new.records) f)
         ⊎ ((begun.new ≡ begun.old) × OfRefusal f (λ r. (begun.old ≡ None)
         × IsFrontRefusal opening.now.window.items text.now r))) }
+    ensures opens { OnOk result (begun.old ≡ None → Opens opening.now.window.items text.now) }
+    ensures refusal { IfErr result (StopsOpened opening.now.window.items text.now
+        (begun.old ≡ None) reader.new.standing (length reader.new.records)) }
     ensures same { IsSameFile reader.old reader.new }
     ensures failures { Accounts result (counts (S.failures reader.old.source)
         (S.failures reader.new.source) ∷ []) }
@@ -385,6 +400,7 @@ fn open_by_text<A: Allocator + Copy>(
     said: &[u8],
 ) -> Result<Intake<A>, Fault>
     ensures opened { IfOk result (λ s. HoldsBy opening.now said.now s []) }
+    ensures opens { OnOk result (Opens opening.now.window.items said.now) }
     ensures refusal { IfErr result (λ f. OfRefusal f
         (IsFrontRefusal opening.now.window.items said.now)) }
     ensures failures { Accounts result [] }

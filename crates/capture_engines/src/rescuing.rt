@@ -6,7 +6,7 @@ ghost use Rattle.std.specs.List.{zip};
 ghost use Rattle.std.specs.Option.{option_copied};
 ghost use Rattle.capture_engines.specs.Counted.{CountsReceived};
 ghost use Rattle.capture_engines.specs.Printed.{if_wanted, received_text, tally_text};
-ghost use Rattle.capture_engines.specs.Received.{IsFilesRefusal, IsReceivingRefusal};
+ghost use Rattle.capture_engines.specs.Received.{IsFirstFilesRefusal, IsReceivingRefusal};
 ghost use Rattle.capture_engines.specs.Receiving.{SavesShown};
 ghost use Rattle.capture_engines.specs.Rescued.{IsRescue, RescueAccounts, Rescues};
 ghost use Rattle.capture_engines.specs.Taking.{ReceivesFiles};
@@ -193,7 +193,7 @@ fn rescue_files<A: Allocator + Copy, S: ByteSource>(
     ensures len { length files.new ≡ length files.old }
     ensures taken { IfOk result (IsRescue opening.now ways.now S.gave S.ended
         (zip files.old files.new) begun) }
-    ensures refusal { IfErr result (λ f. OfRefusal f (IsFilesRefusal opening.now.window.items
+    ensures refusal { IfErr result (λ f. OfRefusal f (IsFirstFilesRefusal opening.now.window.items
         begun ways.now (WasRead S.gave S.ended) (zip files.old files.new))) }
     ensures failures { MatchResult result
         (λ r. RescueAccounts r (counts (sum_by S.failures files.old)

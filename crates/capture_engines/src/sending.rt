@@ -67,6 +67,8 @@ where
         (failures_in S.failures sdp.new) ∷ counts (sum_by S.failures pictures.old)
         (sum_by S.failures pictures.new) ∷ counts (K.failures sink.old) (K.failures sink.new)
         ∷ counts (O.failures output.old) (O.failures output.new) ∷ []) }
+    // Of what was read the refusal is the first: that there are too many pictures; of the text; of
+    // the pictures in their order, all before the refused one being of one format that has a plan.
     ensures refusal { IfErr result (λ f. OfRefusal f
         (IsSendRefusal wanted.max_octets (length pictures.old) sdp.old sdp.new
         (WasRead S.gave S.ended) (zip pictures.old pictures.new))) }

@@ -48,6 +48,7 @@ where
         (failures_in S.failures sdp.new) ∷ counts (sum_by S.failures pictures.old)
         (sum_by S.failures pictures.new) ∷ counts (K.failures sink.old) (K.failures sink.new)
         ∷ counts (O.failures output.old) (O.failures output.new) ∷ []) }
+    // Of what was read the refusal is the first, as there.
     ensures refusal { IfErr result (λ f. OfRefusal f
         (IsSendRefusal wanted.max_octets (length pictures.old) sdp.old sdp.new
         (WasRead S.gave S.ended) (zip pictures.old pictures.new))) }

@@ -1,7 +1,7 @@
 //! How files are taken that begin as recordings of other tools, and what ends the reading of files.
 ghost use Rattle.std.specs.Prelude.{◌≡◌, ◌∷◌, [], ℕ, List, true};
 ghost use Rattle.capture_engines.specs.Files.{flows_in, way_at};
-ghost use Rattle.capture_engines.specs.Received.{IsCaptureRefusal, StopsFile};
+ghost use Rattle.capture_engines.specs.Received.{IsCaptureFrontRefusal, StopsFile, StopsFront};
 ghost use Rattle.recording_reader.specs.Kinds.{is_recording};
 ghost use Rattle.recording_reader.specs.Opening.{CountsOpening, HasGivenFour, IsByFlows};
 ghost use Rattle.recording_reader.specs.Opening.{StopsOpening};
@@ -56,6 +56,11 @@ pub fn unopened<S: ByteSource>(way: Way, fault: FileOpeningFault, source: &mut S
         → StopsOpening (flows_in way) before (S.gave source.old) (S.ended source.old) fault
         → IsByFlows (flows_in way) fault → OfRefusal result
         (StopsFile way (IsRead before (S.gave source.new) (S.ended source.new))) }
+    // It stands before all records.
+    ensures front { (before : List ℕ)
+        → StopsOpening (flows_in way) before (S.gave source.old) (S.ended source.old) fault
+        → IsByFlows (flows_in way) fault → OfRefusal result
+        (StopsFront way (IsRead before (S.gave source.new) (S.ended source.new))) }
     ensures failures { (failed : ℕ) → CountsOpening fault failed (S.failures source.old)
         → Blames (counts failed (S.failures source.new) ∷ []) result }
 {
@@ -74,7 +79,7 @@ fn no_capture<S: ByteSource>(source: &mut S) -> Fault
     ensures refusal { (before : List ℕ) → HasGivenFour before (S.gave source.old)
         → ((octets : List ℕ) → IsRead before (S.gave source.old) (S.ended source.old) octets
         → is_recording octets ≡ true) → OfRefusal result
-        (IsCaptureRefusal (IsRead before (S.gave source.new) (S.ended source.new))) }
+        (IsCaptureFrontRefusal (IsRead before (S.gave source.new) (S.ended source.new))) }
     ensures failures { Blames (counts (S.failures source.old) (S.failures source.new) ∷ [])
         result }
 {

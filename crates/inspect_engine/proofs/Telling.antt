@@ -1,7 +1,8 @@
 -- What is told of recordings that were noted, and the refusals of recordings.
 use Rattle.std.proofs.Common.{◌≡◌, ℕ, zero, suc, ◌+◌, ◌<◌, ◌≤◌, Bool, true, List, [], ◌∷◌, ◌++◌, length}
-use Rattle.std.proofs.Common.{Option, Some, drop, get_or, set, refl, ap, sym, ◌∙◌, subst, arith}
-use Rattle.std.specs.List.{Any, flat_map, zip}
+use Rattle.std.proofs.Common.{Option, Some, drop, get_or, set, take, refl, ap, sym, ◌∙◌, subst}
+use Rattle.std.proofs.Common.{arith}
+use Rattle.std.specs.List.{flat_map, zip}
 use Rattle.recording_counts.specs.FlowCounts.{flow_counts}
 use Rattle.recording_counts.specs.declared.flow_count.FlowCount.{FlowCount}
 use Rattle.pcap_file.specs.Fields.{IfContent}
@@ -15,8 +16,9 @@ use Rattle.pcap_file.specs.declared.fault.RecordingFault.TheVariants.{PacketTooL
 use Rattle.pcap_file.specs.declared.fault.RecordingFault.TheVariants.{TooManyBlocks}
 use Rattle.run_outcome.specs.LowerFaults.{of_recording}
 use Rattle.run_outcome.specs.Refusing.{OfRefusal}
+use Rattle.run_outcome.specs.declared.refusal.Refusal.{Refusal}
 use Rattle.inspect_engine.specs.Arrivals.{arrivals_of}
-use Rattle.inspect_engine.specs.Inspected.{IsFaultOf, NotesAll, NotesOctets}
+use Rattle.inspect_engine.specs.Inspected.{IsFaultOf, IsFirstFault, NotesAll, NotesOctets}
 use Rattle.inspect_engine.specs.Inspected.{inspection_text}
 use Rattle.recording_counts.specs.LeftOut.{left_out_of}
 use Rattle.recording_counts.specs.declared.left_out.LeftOut.{LeftOut}
@@ -64,17 +66,33 @@ fault_refused room told PacketTooLong old new not is = is.ends
 fault_refused room told Packed old new not is = is.ends
 fault_refused room told TooManyBlocks old new not is = is.ends
 
--- what holds of the one source that was read last holds of one of all
-pub one_of : {S : Type 0} (P : S × S → Type 0) (start now : List S) (k : ℕ) (d y : S)
-    → drop k now ≡ drop k start → length now ≡ length start → k < length now → d ≡ get_or now k d
-    → P (d, y) → Any P (zip start (set now k y))
-one_of P start [] k d y e len lt is p = absurd (omega (arith, lt))
-one_of P [] (n ∷ now) k d y e len lt is p = absurd (omega (arith, len))
-one_of P (s ∷ start) (n ∷ now) zero d y e len lt is p =
-    (0, (s, y), omega arith, refl, subst (λ (x : _). P (x, y)) (is ∙ first_is n s now start e) p)
+-- the sources that were read, the one that was read last, and those behind it
+pairs_at : {S : Type 0} (start now : List S) (k : ℕ) (d y : S) → drop k now ≡ drop k start
+    → length now ≡ length start → k < length now → d ≡ get_or now k d
+    → zip start (set now k y)
+    ≡ zip (take k start) (take k now) ++ (d, y) ∷ zip (drop (suc k) start) (drop (suc k) now)
+pairs_at start [] k d y e len lt is = absurd (omega (arith, lt))
+pairs_at [] (n ∷ now) k d y e len lt is = absurd (omega (arith, len))
+pairs_at {S} (s ∷ start) (n ∷ now) zero d y e len lt is =
+    ap (λ (x : S). (x, y) ∷ zip start now) (first_is n s now start e ∙ sym is)
   where
-    first_is : {X : Type 0} (x z : X) (xs zs : List X) → x ∷ xs ≡ z ∷ zs → x ≡ z
+    first_is : {X : Type 0} (x z : X) (xs zs : List X) → x ∷ xs ≡ z ∷ zs → z ≡ x
     first_is x z xs zs e = cc
-one_of P (s ∷ start) (n ∷ now) (suc k) d y e len lt is p =
-    let rest = one_of P start now k d y e (omega (arith, len)) (omega (arith, lt)) is p in
-    (suc rest.0, rest.1, omega (arith, rest.2), rest.3, rest.4)
+pairs_at {S} (s ∷ start) (n ∷ now) (suc k) d y e len lt is =
+    ap (λ (l : List (S × S)). (s, n) ∷ l)
+    (pairs_at start now k d y e (omega (arith, len)) (omega (arith, lt)) is)
+
+-- the fault of the one that was read last is the first
+pub first_fault : {S A : Type 0} (room : ℕ) (told : S × S → List ℕ → Type 0)
+    (start now : List S) (k : ℕ) (d y : S) (cut : Bool) (old mid : Inspection A) (r : Refusal)
+    → NotesAll room told (zip (take k start) (take k now)) cut old mid
+    → drop k now ≡ drop k start → length now ≡ length start → k < length now → d ≡ get_or now k d
+    → IsFaultOf room (told (d, y)) r → IsFirstFault room told (zip start (set now k y)) r
+first_fault room told start now k d y cut old mid r notes e len lt is wrong = record {
+  front = zip (take k start) (take k now);
+  at = (d, y);
+  behind = zip (drop (suc k) start) (drop (suc k) now);
+  parts = pairs_at start now k d y e len lt is;
+  whole = notes.ends;
+  refused = wrong;
+}

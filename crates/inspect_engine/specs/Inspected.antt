@@ -1,5 +1,6 @@
 -- What is noted of recordings, and what is told of them (own).
-use Rattle.std.specs.Prelude.{◌≡◌, ℕ, Bool, true, false, List, ◌++◌, codes, Option, Some, None}
+use Rattle.std.specs.Prelude.{◌≡◌, ℕ, Bool, true, false, List, ◌∷◌, ◌++◌, codes, Option, Some}
+use Rattle.std.specs.Prelude.{None}
 use Rattle.std.specs.Prelude.{if◌then◌else◌}
 use Rattle.std.specs.Prelude.{length}
 use Rattle.std.specs.Fmt.{decimal}
@@ -151,3 +152,15 @@ IsFaultOf room told (Recording Truncated) = ⊥
 IsFaultOf room told (Recording f) =
     (octets : List ℕ) → told octets → fault_in room octets ≡ Some f
 IsFaultOf room told r = ⊥
+
+-- The refusal of recordings that were read in turn is that of one of them, and the first: each
+-- before it was read to its end, or is cut short.
+pub record IsFirstFault {S : Type 0} (room : ℕ) (told : S → List ℕ → Type 0) (recordings : List S)
+    (r : Refusal) : Type 0 where
+  pub front : List S
+  pub at : S
+  pub behind : List S
+  pub parts : recordings ≡ front ++ at ∷ behind
+  pub whole : (octets : List (List ℕ)) → AllZip told front octets
+      → list_all (λ o. is_told (fault_in room o)) octets ≡ true
+  pub refused : IsFaultOf room (told at) r

@@ -1,6 +1,6 @@
 -- What `inspect` prints of the recordings that it read (own).
 use Rattle.std.specs.Prelude.{◌≡◌, ℕ, ◌⊎◌, Bool, true, List, ◌++◌}
-use Rattle.std.specs.List.{AllZip, Any, flat_map, list_all, list_any}
+use Rattle.std.specs.List.{AllZip, flat_map, list_all, list_any}
 use Rattle.recording_counts.specs.FlowCounts.{flow_counts}
 use Rattle.pcap_file.specs.PcapReading.{Recorded}
 use Rattle.pcap_file.specs.Runs.{fault_in, packets_in, most_packet}
@@ -8,7 +8,7 @@ use Rattle.pcap_file.specs.declared.fault.RecordingFault.TheVariants.{Truncated}
 use Rattle.run_outcome.specs.declared.refusal.Refusal.{Refusal}
 use Rattle.run_outcome.specs.declared.refusal.Refusal.TheVariants.{Recording}
 use Rattle.inspect_engine.specs.Arrivals.{arrivals_of, omissions_of}
-use Rattle.inspect_engine.specs.Inspected.{IsFaultOf, inspection_text, is_cut, is_told}
+use Rattle.inspect_engine.specs.Inspected.{IsFirstFault, inspection_text, is_cut, is_told}
 use Rattle.inspect_engine.specs.declared.form.Form.{Form}
 use Rattle.recording_counts.specs.LeftOut.{left_out_of}
 
@@ -28,10 +28,10 @@ pub record Tells {S : Type 0} (form : Form) (told : S → List ℕ → Type 0) (
   pub cuts : (octets : List (List ℕ)) → AllZip told recordings octets
       → cut ≡ list_any (λ o. is_cut (fault_in most_packet o)) octets
 
--- The refusals of `inspect`: that a recording was cut short, and then all was printed; the fault of
--- a recording, and then nothing was.
+-- The refusals of `inspect`: that a recording was cut short, and then all was printed, for none has
+-- another fault; the first other fault of the recordings in turn, and then nothing was.
 abbrev pub IsInspectRefusal : {S : Type 0} → Form → (S → List ℕ → Type 0) → List S → List ℕ
     → List ℕ → Refusal → Type 0
 IsInspectRefusal form told recordings shown shown' r =
     ((r ≡ Recording Truncated) × Tells form told recordings true shown shown')
-    ⊎ ((shown' ≡ shown) × Any (λ z. IsFaultOf most_packet (told z) r) recordings)
+    ⊎ ((shown' ≡ shown) × IsFirstFault most_packet told recordings r)

@@ -1,11 +1,12 @@
 //! Noting the packets of recordings, one after the other.
 ghost use Rattle.std.specs.Prelude.{◌≡◌, ◌<◌, ◌∷◌, [], IfErr, IfOk, length, sum_by};
-ghost use Rattle.std.specs.List.{Any, zip};
+ghost use Rattle.std.specs.List.{zip};
 ghost use Rattle.run_outcome.specs.Fault.{Accounts, counts};
 ghost use Rattle.run_outcome.specs.Moments.{WasRead};
 ghost use Rattle.run_outcome.specs.Refusing.{OfRefusal};
 ghost use Rattle.st_format.specs.History.{IsRead};
-ghost use Rattle.inspect_engine.specs.Inspected.{IsFaultOf, NotesAll, NotesOctets, end_of};
+ghost use Rattle.inspect_engine.specs.Inspected.{IsFaultOf, IsFirstFault, NotesAll, NotesOctets};
+ghost use Rattle.inspect_engine.specs.Inspected.{end_of};
 
 use crate::inspection::Inspection;
 use crate::recording::note_recording;
@@ -31,8 +32,8 @@ pub fn note_recordings<A: Allocator + Copy, S: ByteSource>(
     ensures len { length recordings.new ≡ length recordings.old }
     ensures noted { IfOk result (λ cut. NotesAll (length buf.old) (WasRead S.gave S.ended)
         (zip recordings.old recordings.new) cut inspection.old inspection.new) }
-    ensures refusal { IfErr result (λ f. OfRefusal f (λ r. Any (λ z. IsFaultOf (length buf.old)
-        (WasRead S.gave S.ended z) r) (zip recordings.old recordings.new))) }
+    ensures refusal { IfErr result (λ f. OfRefusal f (IsFirstFault (length buf.old)
+        (WasRead S.gave S.ended) (zip recordings.old recordings.new))) }
     ensures failures { Accounts result (counts (sum_by S.failures recordings.old)
         (sum_by S.failures recordings.new) ∷ []) }
 {

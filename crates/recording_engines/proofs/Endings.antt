@@ -1,5 +1,5 @@
 -- What was written of files, by what was read of them.
-use Rattle.std.proofs.Common.{◌≡◌, ◌≤◌, ℕ, inl, inr, List, [], ◌∷◌, ◌++◌, Option, None, Some}
+use Rattle.std.proofs.Common.{◌≡◌, ◌<◌, ◌≤◌, ℕ, inl, inr, List, [], ◌∷◌, ◌++◌, Option, None, Some}
 use Rattle.std.proofs.Common.{refl, sym, ap, subst, ◌∙◌, append_assoc, arith, map, length}
 use Rattle.std.proofs.Common.{append-nil}
 use Rattle.std.specs.List.{AllByRecursion, AllZip, zip}
@@ -25,7 +25,10 @@ use Rattle.recording_engines.specs.Files.{AllOpened, AllReady, AreLeftOut, IsAt,
 use Rattle.recording_engines.specs.Files.{IsReadByFlows, IsReady, begun_of, ended_by, gave_by}
 use Rattle.recording_engines.specs.Files.{next_of, standing_of, standings}
 use Rattle.recording_engines.specs.Imported.{AreOver, AsksFlows, Imports, IsJoinRefusal}
-use Rattle.recording_engines.specs.Joining.{Joins, JoinsTo, OneAt, OneHasMore, Strand}
+use Rattle.recording_engines.specs.Joining.{ComesLater, ComesNoFault, ComesNoSooner, GoFurther}
+use Rattle.recording_engines.specs.Joining.{GoesOn, IsNext, Joins, JoinsTo, OneAt, OneHasMore}
+use Rattle.recording_engines.specs.Joining.{Strand}
+use Rattle.recording_engines.specs.Opened.{Begins}
 use Rattle.recording_engines.specs.Progress.{JoinsAll, OneComes}
 use Rattle.recording_engines.specs.Progress.{OneFileAt, StopsJoining, count_of}
 use Rattle.recording_engines.specs.Steps.{Ahead, AllFresh, AllLay, Coming, HasJoined, Over, Standing}
@@ -86,15 +89,37 @@ over_at f (Closed s) at = absurd at
 over_at f (Open r) at = ap (λ (s : Stand). ahead_by s r.at_hand) at
 over_at f Taken at = absurd at
 
+-- files that were read on are at no fault
+going_by : (stand : Stand) (at_hand : Option Entry) (r : Strand) → HasAhead stand at_hand
+    → GoesOn (left_by (ahead_by stand at_hand) r)
+going_by Reads None r ready = absurd ready
+going_by Reads (Some e) r ready = tt
+going_by Ended None r ready = tt
+going_by Ended (Some e) r ready = absurd ready
+going_by (Failed f) None r ready = absurd ready
+going_by (Failed f) (Some e) r ready = absurd ready
+
+pub file_going : {X S : Type 0} (f : ImportFile X S) → IsReady f → (r : Strand)
+    → GoesOn (left_by (standing_of f).ahead r)
+file_going (Closed s) ready r = absurd ready
+file_going (Open x) ready r = going_by x.standing x.at_hand r ready
+file_going Taken ready r = absurd ready
+
+all_going : {X S : Type 0} (fs : List (ImportFile X S)) → AllByRecursion IsReady fs
+    → (rs : List Strand) → AllByRecursion GoesOn (lefts (standings fs) rs)
+all_going [] ready rs = tt
+all_going (f ∷ fs) ready [] = (file_going f ready.0 nothing, all_going fs ready.1 [])
+all_going (f ∷ fs) ready (r ∷ rs) = (file_going f ready.0 r, all_going fs ready.1 rs)
+
 at_fault : {X S : Type 0} (f : ReadingFault) (fs : List (ImportFile X S)) → OneFileAt f fs
     → (rs : List Strand) → OneAt f (lefts (standings fs) rs)
 at_fault f [] one rs = absurd one
 at_fault f (x ∷ xs) (inl one) [] =
-    inl (ap (λ (a : Ahead). left_by a nothing) (over_at f x one))
+    inl (ap (λ (a : Ahead). left_by a nothing) (over_at f x one.0), all_going xs one.1 [])
 at_fault f (x ∷ xs) (inl one) (r ∷ rs) =
-    inl (ap (λ (a : Ahead). left_by a r) (over_at f x one))
-at_fault f (x ∷ xs) (inr one) [] = inr (at_fault f xs one [])
-at_fault f (x ∷ xs) (inr one) (r ∷ rs) = inr (at_fault f xs one rs)
+    inl (ap (λ (a : Ahead). left_by a r) (over_at f x one.0), all_going xs one.1 rs)
+at_fault f (x ∷ xs) (inr one) [] = inr (file_going x one.0 nothing, at_fault f xs one.1 [])
+at_fault f (x ∷ xs) (inr one) (r ∷ rs) = inr (file_going x one.0 r, at_fault f xs one.1 rs)
 
 comes_more : (a : Ahead) (e : Entry) (r : Strand) → a ≡ Coming e
     → (x : Entry) × (xs : List Entry) × ((left_by a r).entries ≡ x ∷ xs)
@@ -196,7 +221,8 @@ has_imported gave ended each olds mids news text took mid took' w opened same kn
       entries = had.entries;
       few = omega (arith, had.number, joins.few);
       by_flows = λ octets read.
-          taken_all gave ended each olds mids news octets opened same known kind joins.ready read;
+          taken_all gave ended each olds mids news octets opened same known kind
+          (all_ready news joins.ready) read;
       joined = λ octets read.
           joins_to AreOver (strands_in each octets) (standings news) had.entries
           (strands_whole (gave_by gave) (ended_by ended) (zip olds news) each (standings news) octets
@@ -211,43 +237,106 @@ has_imported gave ended each olds mids news text took mid took' w opened same kn
       b = omega (arith, had.writes.b);
     }
 
+-- where a record was joined no strand was at a fault before
+comes_later : (moment : ℕ) (es : List Entry) (f : Option ReadingFault) → ComesLater moment es f
+    → ComesNoFault es f
+comes_later moment [] None is = tt
+comes_later moment [] (Some f) is = absurd is
+comes_later moment (e ∷ es) f is = tt
+
+comes_no_sooner : (moment : ℕ) (es : List Entry) (f : Option ReadingFault)
+    → ComesNoSooner moment es f → ComesNoFault es f
+comes_no_sooner moment [] None is = tt
+comes_no_sooner moment [] (Some f) is = absurd is
+comes_no_sooner moment (e ∷ es) f is = tt
+
+all_no_sooner : (moment : ℕ) (ss : List Strand)
+    → AllByRecursion (λ t. ComesNoSooner moment t.entries t.fault) ss → AllByRecursion GoesOn ss
+all_no_sooner moment [] is = tt
+all_no_sooner moment (s ∷ ss) is =
+    (comes_no_sooner moment s.entries s.fault is.0, all_no_sooner moment ss is.1)
+
+next_going : (ss : List Strand) (e : Entry) (left : List Strand) → IsNext ss e left
+    → AllByRecursion GoesOn ss
+next_going [] e left next = absurd next
+next_going (s ∷ ss) e [] next = absurd next
+next_going (s ∷ ss) e (l ∷ ls) (inl next) =
+    (subst GoesOn (sym next.0) tt, all_no_sooner e.moment ss next.2)
+next_going (s ∷ ss) e (l ∷ ls) (inr next) =
+    (comes_later e.moment s.entries s.fault next.1, next_going ss e ls next.2)
+
+joins_going : (ss : List Strand) (es : List Entry) (left : List Strand) → 0 < length es
+    → Joins ss es left → AllByRecursion GoesOn ss
+joins_going ss [] left lt joins = absurd (omega (arith, lt))
+joins_going ss (e ∷ es) left lt joins = next_going ss e joins.0 joins.1
+
+-- so none of the files was refused before its first record
+all_begin : (each : List (Option Flows)) (octets : List (List ℕ)) → AllZip IsTakenBy each octets
+    → AllByRecursion GoesOn (strands_in each octets) → AllZip Begins each octets
+all_begin [] [] taken going = tt
+all_begin [] (o ∷ os) taken going = absurd taken
+all_begin (f ∷ fs) [] taken going = absurd taken
+all_begin (f ∷ fs) (o ∷ os) taken going =
+    ((taken.0, going.0), all_begin fs os taken.1 going.1)
+
+begin_joined : (Ends : List Strand → Type 0) (each : List (Option Flows)) (octets : List (List ℕ))
+    (es : List Entry) → 0 < length es → AllZip IsTakenBy each octets
+    → JoinsTo Ends (strands_in each octets) es → AllZip Begins each octets
+begin_joined Ends each octets es some taken joins =
+    all_begin each octets taken
+    (joins_going (strands_in each octets) es joins.left some joins.joins)
+
 pub has_stopped : {X S : Type 0} (gave : S → List ℕ) (ended : S → Type 0)
     (each : List (Option Flows)) (olds mids news : List (ImportFile X S))
     (text took mid took' : List ℕ) (r : Refusal) → AllOpened gave each olds mids
     → map begun_of news ≡ map begun_of mids → AllByRecursion (IsKnown gave ended) news
-    → mid ≡ took ++ front_text Two text → StopsJoining r news mid took'
+    → AllByRecursion IsReadByFlows news → mid ≡ took ++ front_text Two text
+    → StopsJoining r news mid took'
     → IsJoinRefusal (WasRead (gave_by gave) (ended_by ended)) each text (zip olds news) took took' r
-has_stopped gave ended each olds mids news text took mid took' r opened same known front
+has_stopped gave ended each olds mids news text took mid took' r opened same known kind front
     (inl (f, told, had)) =
-    let lay =
-    all_lay gave ended each olds mids news opened same known (all_but f r news told had.ends.0) in
+    let all = all_but f r news told had.ends.1 in
+    let lay = all_lay gave ended each olds mids news opened same known all in
+    let joined = λ (octets : List (List ℕ))
+    (read : AllZip (WasRead (gave_by gave) (ended_by ended)) (zip olds news) octets).
+    joins_to (OneAt f) (strands_in each octets) (standings news) had.entries
+    (strands_whole (gave_by gave) (ended_by ended) (zip olds news) each (standings news) octets lay
+    read) had.joined (at_fault f news had.ends.1) in
     inl (
       f,
       told,
       record {
+        begun = λ octets read.
+            begin_joined (OneAt f) each octets had.entries had.ends.0
+            (taken_all gave ended each olds mids news octets opened same known kind all read)
+            (joined octets read);
         entries = had.entries;
-        joined = λ octets read.
-            joins_to (OneAt f) (strands_in each octets) (standings news) had.entries
-            (strands_whole (gave_by gave) (ended_by ended) (zip olds news) each (standings news)
-            octets lay read) had.joined (at_fault f news had.ends.1);
+        joined = joined;
         number = tt;
         taken =
             behind_front took mid took' (front_text Two text) (records_text had.entries) front
             had.text;
       },
     )
-has_stopped gave ended each olds mids news text took mid took' r opened same known front
+has_stopped gave ended each olds mids news text took mid took' r opened same known kind front
     (inr (is, had)) =
-    let lay =
-    all_lay gave ended each olds mids news opened same known (all_ready news had.ends.1) in
+    let all = all_ready news had.ends.1 in
+    let lay = all_lay gave ended each olds mids news opened same known all in
+    let joined = λ (octets : List (List ℕ))
+    (read : AllZip (WasRead (gave_by gave) (ended_by ended)) (zip olds news) octets).
+    joins_to GoFurther (strands_in each octets) (standings news) had.entries
+    (strands_whole (gave_by gave) (ended_by ended) (zip olds news) each (standings news) octets lay
+    read) had.joined
+    (λ rs. (all_going news had.ends.1 rs, has_more (standings news) had.ends.2 rs)) in
     inr (
       is,
       record {
+        begun = λ octets read.
+            begin_joined GoFurther each octets had.entries (omega (arith, had.ends.0))
+            (taken_all gave ended each olds mids news octets opened same known kind all read)
+            (joined octets read);
         entries = had.entries;
-        joined = λ octets read.
-            joins_to OneHasMore (strands_in each octets) (standings news) had.entries
-            (strands_whole (gave_by gave) (ended_by ended) (zip olds news) each (standings news)
-            octets lay read) had.joined (has_more (standings news) had.ends.2);
+        joined = joined;
         number = had.ends.0;
         taken =
             behind_front took mid took' (front_text Two text) (records_text had.entries) front

@@ -1,5 +1,5 @@
 -- What is known of files by where their readers stand, as what was read of them.
-use Rattle.std.proofs.Common.{◌≡◌, ◌⊎◌, inl, inr, ℕ, List, [], ◌∷◌, ◌++◌, Option, None, Some}
+use Rattle.std.proofs.Common.{◌≡◌, inl, inr, ℕ, List, [], ◌∷◌, ◌++◌, Option, None, Some}
 use Rattle.std.proofs.Common.{refl, sym, ap, subst, ◌∙◌, map}
 use Rattle.std.specs.Prelude.{IsSome}
 use Rattle.std.specs.List.{AllByRecursion, AllZip, zip}
@@ -21,7 +21,7 @@ use Rattle.recording_engines.specs.Files.{AllOpened, AreLeftOut, HasAhead, IsAt,
 use Rattle.recording_engines.specs.Files.{ahead_by, begun_of, ended_by, gave_by, left_out_by}
 use Rattle.recording_engines.specs.Files.{IsReadByFlows, next_of, standing_of, standings}
 use Rattle.recording_engines.specs.Joining.{Strand}
-use Rattle.recording_engines.specs.Progress.{AllReadyBut}
+use Rattle.recording_engines.specs.Progress.{OneFileAt}
 use Rattle.recording_engines.specs.Steps.{AllLay, Lays, Standing, nothing, whole_by}
 use Rattle.recording_engines.specs.Strands.{IsTakenBy, fault_of_file, omissions_in, strand_in}
 use Rattle.recording_engines.specs.declared.file.ImportFile.{ImportFile}
@@ -111,15 +111,11 @@ pub all_ready : {A S : Type 0} (files : List (ImportFile A S)) → AllByRecursio
 all_ready [] ready = tt
 all_ready (f ∷ fs) ready = (file_ready f ready.0, all_ready fs ready.1)
 
-one_but : {A S : Type 0} (f : ReadingFault) (r : Refusal) (x : ImportFile A S)
-    → reading_fault f ≡ Refused r → IsReady x ⊎ IsAt f x → IsToldFile x
-one_but f r x told (inl ready) = file_ready x ready
-one_but f r x told (inr at) = file_at f r x told at
-
 pub all_but : {A S : Type 0} (f : ReadingFault) (r : Refusal) (files : List (ImportFile A S))
-    → reading_fault f ≡ Refused r → AllReadyBut f files → AllTold files
-all_but f r [] told but = tt
-all_but f r (x ∷ xs) told but = (one_but f r x told but.0, all_but f r xs told but.1)
+    → reading_fault f ≡ Refused r → OneFileAt f files → AllTold files
+all_but f r [] told one = absurd one
+all_but f r (x ∷ xs) told (inl one) = (file_at f r x told one.0, all_ready xs one.1)
+all_but f r (x ∷ xs) told (inr one) = (file_ready x one.0, all_but f r xs told one.1)
 
 -- files that were opened, and since read on
 pub all_lay : {A S : Type 0} (gave : S → List ℕ) (ended : S → Type 0) (each : List (Option Flows))
@@ -144,45 +140,45 @@ all_lay gave ended (f ∷ fs) (o ∷ os) (m ∷ ms) (n ∷ ns) opened same known
     )
 
 -- a recording of them is taken by flows
-taken_file : {A S : Type 0} (gave : S → List ℕ) (ended : S → Type 0) (flows : Option Flows)
+pub taken_file : {A S : Type 0} (gave : S → List ℕ) (ended : S → Type 0) (flows : Option Flows)
     (before octets : List ℕ) (f : ImportFile A S) → begun_of f ≡ (flows, before)
-    → IsKnown gave ended f → IsReadByFlows f → IsReady f
+    → IsKnown gave ended f → IsReadByFlows f → IsToldFile f
     → IsRead before (gave_by gave f) (ended_by ended f) octets → IsTakenBy flows octets
-taken_file gave ended flows before octets (Closed s) begun known kind ready read = absurd ready
-taken_file gave ended flows before octets (Open r) begun known kind ready read = λ recording.
+taken_file gave ended flows before octets (Closed s) begun known kind told read = absurd told
+taken_file gave ended flows before octets (Open r) begun known kind told read = λ recording.
     let by : r.flows ≡ flows = ap (λ (x : Option Flows × List ℕ). x.0) begun in
     let from : before ≡ r.before.gave = ap (λ (x : Option Flows × List ℕ). x.1) (sym begun) in
     let at = subst (λ (b : List ℕ). IsRead b (gave r.source) (ended r.source) octets) from read in
     subst (λ (f : Option Flows). IsSome f) by (kind (sym (known octets at).kind ∙ recording))
-taken_file gave ended flows before octets Taken begun known kind ready read = absurd ready
+taken_file gave ended flows before octets Taken begun known kind told read = absurd told
 
 pub taken_all : {A S : Type 0} (gave : S → List ℕ) (ended : S → Type 0)
     (each : List (Option Flows)) (olds mids news : List (ImportFile A S))
     (octets : List (List ℕ)) → AllOpened gave each olds mids
     → map begun_of news ≡ map begun_of mids → AllByRecursion (IsKnown gave ended) news
-    → AllByRecursion IsReadByFlows news → AllByRecursion IsReady news
+    → AllByRecursion IsReadByFlows news → AllTold news
     → AllZip (WasRead (gave_by gave) (ended_by ended)) (zip olds news) octets
     → AllZip IsTakenBy each octets
-taken_all gave ended [] [] [] [] [] opened same known kind ready read = tt
-taken_all gave ended [] [] [] [] (x ∷ xs) opened same known kind ready read = absurd read
-taken_all gave ended [] [] [] (n ∷ ns) octets opened same known kind ready read =
+taken_all gave ended [] [] [] [] [] opened same known kind told read = tt
+taken_all gave ended [] [] [] [] (x ∷ xs) opened same known kind told read = absurd read
+taken_all gave ended [] [] [] (n ∷ ns) octets opened same known kind told read =
     absurd (no_more (begun_of n) (map begun_of ns) same)
-taken_all gave ended [] [] (m ∷ ms) news octets opened same known kind ready read = absurd opened
-taken_all gave ended [] (o ∷ os) mids news octets opened same known kind ready read = absurd opened
-taken_all gave ended (f ∷ fs) [] mids news octets opened same known kind ready read = absurd opened
-taken_all gave ended (f ∷ fs) (o ∷ os) [] news octets opened same known kind ready read =
+taken_all gave ended [] [] (m ∷ ms) news octets opened same known kind told read = absurd opened
+taken_all gave ended [] (o ∷ os) mids news octets opened same known kind told read = absurd opened
+taken_all gave ended (f ∷ fs) [] mids news octets opened same known kind told read = absurd opened
+taken_all gave ended (f ∷ fs) (o ∷ os) [] news octets opened same known kind told read =
     absurd opened
-taken_all gave ended (f ∷ fs) (o ∷ os) (m ∷ ms) [] octets opened same known kind ready read =
+taken_all gave ended (f ∷ fs) (o ∷ os) (m ∷ ms) [] octets opened same known kind told read =
     absurd (no_less (begun_of m) (map begun_of ms) same)
-taken_all gave ended (f ∷ fs) (o ∷ os) (m ∷ ms) (n ∷ ns) [] opened same known kind ready read =
+taken_all gave ended (f ∷ fs) (o ∷ os) (m ∷ ms) (n ∷ ns) [] opened same known kind told read =
     absurd read
-taken_all gave ended (f ∷ fs) (o ∷ os) (m ∷ ms) (n ∷ ns) (x ∷ xs) opened same known kind ready
+taken_all gave ended (f ∷ fs) (o ∷ os) (m ∷ ms) (n ∷ ns) (x ∷ xs) opened same known kind told
     read =
     let first = same_head (begun_of n) (begun_of m) (map begun_of ns) (map begun_of ms) same in
     let rest = same_tail (begun_of n) (begun_of m) (map begun_of ns) (map begun_of ms) same in (
-      taken_file gave ended f (gave_by gave o) x n (first ∙ opened.0.begun) known.0 kind.0 ready.0
+      taken_file gave ended f (gave_by gave o) x n (first ∙ opened.0.begun) known.0 kind.0 told.0
           read.0,
-      taken_all gave ended fs os ms ns xs opened.1 rest known.1 kind.1 ready.1 read.1,
+      taken_all gave ended fs os ms ns xs opened.1 rest known.1 kind.1 told.1 read.1,
     )
 
 -- ---- what was left out

@@ -1,9 +1,9 @@
 -- Opening files, one after the other.
 use Rattle.std.proofs.Common.{◌≡◌, ℕ, zero, suc, ◌+◌, ◌<◌, ◌≤◌, inl, inr, List, [], ◌∷◌, ◌++◌}
 use Rattle.std.proofs.Common.{Option, Some, Result, Ok, Err, refl, sym, ap, subst, ◌∙◌}
-use Rattle.std.proofs.Common.{add-one, arith, get_or, length, set}
-use Rattle.std.specs.List.{Any, zip}
-use Rattle.std.specs.Prelude.{IfErr}
+use Rattle.std.proofs.Common.{add-one, arith, drop, get_or, length, set, take}
+use Rattle.std.specs.List.{AllByRecursion, zip}
+use Rattle.std.specs.Prelude.{IfErr, OnOk}
 use Rattle.flow.specs.declared.flows.Flows.{Flows}
 use Rattle.media_file.specs.Records.{Entry}
 use Rattle.recording_reader.specs.Opening.{StopsOpening}
@@ -20,16 +20,17 @@ use Rattle.st_format.specs.History.{IsRead}
 use Rattle.recording_engines.specs.Faults.{opening_fault}
 use Rattle.recording_engines.specs.Files.{AllClosed, AllOpened, IsClosed, IsKnown, IsOpened}
 use Rattle.recording_engines.specs.Files.{ReadsOn, ReadsToFault, begun_of, ended_by, gave_by}
-use Rattle.recording_engines.specs.Files.{standing_of}
-use Rattle.recording_engines.specs.Joining.{Strand}
-use Rattle.recording_engines.specs.Opened.{IsStopRefusal}
+use Rattle.recording_engines.specs.Files.{IsReadByFlows, standing_of}
+use Rattle.recording_engines.specs.Joining.{GoesOn, Strand}
+use Rattle.recording_engines.specs.Opened.{AllBegin, IsFirstStop, IsStopRefusal}
 use Rattle.recording_engines.specs.Steps.{Ahead, Coming, IsFresh, Over, ReadsMore, Standing}
 use Rattle.recording_engines.specs.Steps.{left_by, whole_by}
 use Rattle.recording_engines.specs.declared.file.ImportFile.{ImportFile}
 use Rattle.recording_engines.proofs.FileFaults.{front_strand, of_each, of_file, opening_blames}
 use Rattle.recording_engines.proofs.FileFaults.{strand}
 use Rattle.recording_engines.proofs.Going.{new_begun}
-use Rattle.recording_engines.proofs.Known.{file_at, lays_file}
+use Rattle.recording_engines.proofs.Endings.{file_going}
+use Rattle.recording_engines.proofs.Known.{file_at, file_ready, lays_file, taken_file}
 
 -- ---- one file
 
@@ -96,6 +97,22 @@ first_fresh old new none reads r =
     (subst (λ (es : List Entry). ReadsMore es (standing_of new).ahead (standing_of new).entries)
     none reads.more)
 
+-- it begins then, whatever is behind what was read
+pub first_begins : {A S V : Type 0} (gave : S → List ℕ) (ended : S → Type 0)
+    (result : Result V Fault) (old new : ImportFile A S) → (standing_of old).entries ≡ []
+    → OnOk result (ReadsOn old new) → IsKnown gave ended new → IsReadByFlows new
+    → OnOk result
+    (AllBegin (IsRead (begun_of new).1 (gave_by gave new) (ended_by ended new)) (begun_of new).0)
+first_begins gave ended (Ok v) old new none reads known kind = λ octets read.
+    let told = file_ready new reads.ready in
+    let lays = lays_file gave ended (begun_of new).0 (begun_of new).1 new refl known told in
+    let is = lays.says octets read in (
+      taken_file gave ended (begun_of new).0 (begun_of new).1 octets new refl known kind told read,
+      subst GoesOn (sym (is.1 ∙ first_fresh old new none reads is.0))
+          (file_going new reads.ready is.0),
+    )
+first_begins gave ended (Err f) old new none reads known kind = tt
+
 -- what is said of a file's beginning is said of what that is
 pub begun_refusal : (x : Option Flows × List ℕ) (flows : Option Flows) (before now : List ℕ)
     (ended : Type 0) (f : Fault) → x ≡ (flows, before)
@@ -104,6 +121,14 @@ pub begun_refusal : (x : Option Flows × List ℕ) (flows : Option Flows) (befor
 begun_refusal x flows before now ended f same is =
     subst (λ (y : Option Flows × List ℕ). OfRefusal f (IsStopRefusal (IsRead y.1 now ended) y.0)) same
     is
+
+pub begun_begins : (x : Option Flows × List ℕ) (flows : Option Flows) (before now : List ℕ)
+    (ended : Type 0) → x ≡ (flows, before) → AllBegin (IsRead x.1 now ended) x.0
+    → AllBegin (IsRead before now ended) flows
+begun_begins x flows before now ended same is =
+    subst (λ (y : Option Flows × List ℕ). AllBegin (IsRead y.1 now ended) y.0) same is
+
+pub ruleset begun_of_file = (begun_refusal, begun_begins)
 
 -- ---- all of them
 
@@ -170,31 +195,76 @@ opened_all gave (suc n) (f ∷ fs) (o ∷ os) [] had le long = absurd had
 opened_all gave (suc n) (f ∷ fs) (o ∷ os) (x ∷ xs) had le long =
     (had.0, opened_all gave n fs os xs had.1 (omega (arith, le)) (omega (arith, long)))
 
--- one of them is so
-any_there : {A B C : Type 0} (P : (A × B) × C → Type 0) (olds : List A) (news : List B)
-    (each : List C) (k : ℕ) (d : A) (y : B) (e : C) → k < length olds → k < length news
-    → k < length each → P ((get_or olds k d, y), get_or each k e)
-    → Any P (zip (zip olds (set news k y)) each)
-any_there P [] news each k d y e few many long is = absurd (omega (arith, few))
-any_there P (o ∷ os) [] each k d y e few many long is = absurd (omega (arith, many))
-any_there P (o ∷ os) (n ∷ ns) [] k d y e few many long is = absurd (omega (arith, long))
-any_there P (o ∷ os) (n ∷ ns) (f ∷ fs) zero d y e few many long is =
-    (0, ((o, y), f), omega arith, refl, is)
-any_there P (o ∷ os) (n ∷ ns) (f ∷ fs) (suc k) d y e few many long is =
-    let rest =
-    any_there P os ns fs k d y e (omega (arith, few)) (omega (arith, many)) (omega (arith, long)) is
-    in (suc rest.0, rest.1, omega (arith, rest.2), rest.3, rest.4)
+-- ---- the first that is refused
 
-pub any_stops : {A S : Type 0} (gave : S → List ℕ) (ended : S → Type 0) (k : ℕ)
+-- so many of the first files, as they were and are, with the flows of each
+abbrev pub first_files : {A C : Type 0} → ℕ → List A → List A → List C → List ((A × A) × C)
+first_files k olds news each = zip (zip (take k olds) (take k news)) (take k each)
+
+first_suc : {A C : Type 0} (P : (A × A) × C → Type 0) (olds news : List A) (each : List C) (k : ℕ)
+    (d y : A) (e : C) → k < length olds → k < length news → k < length each
+    → AllByRecursion P (first_files k olds news each) → P ((get_or olds k d, y), get_or each k e)
+    → AllByRecursion P (first_files (suc k) olds (set news k y) each)
+first_suc P [] news each k d y e few many long all is = absurd (omega (arith, few))
+first_suc P (o ∷ os) [] each k d y e few many long all is = absurd (omega (arith, many))
+first_suc P (o ∷ os) (n ∷ ns) [] k d y e few many long all is = absurd (omega (arith, long))
+first_suc P (o ∷ os) (n ∷ ns) (f ∷ fs) zero d y e few many long all is = (is, tt)
+first_suc P (o ∷ os) (n ∷ ns) (f ∷ fs) (suc k) d y e few many long all is = (
+  all.0,
+  first_suc P os ns fs k d y e (omega (arith, few)) (omega (arith, many)) (omega (arith, long))
+      all.1 is,
+)
+
+-- all files are those before one, it, and those behind it
+files_at : {A C : Type 0} (olds news : List A) (each : List C) (k : ℕ) (d y : A) (e : C)
+    → k < length olds → k < length news → k < length each
+    → zip (zip olds (set news k y)) each
+    ≡ first_files k olds news each ++ ((get_or olds k d, y), get_or each k e)
+    ∷ zip (zip (drop (suc k) olds) (drop (suc k) news)) (drop (suc k) each)
+files_at [] news each k d y e few many long = absurd (omega (arith, few))
+files_at (o ∷ os) [] each k d y e few many long = absurd (omega (arith, many))
+files_at (o ∷ os) (n ∷ ns) [] k d y e few many long = absurd (omega (arith, long))
+files_at (o ∷ os) (n ∷ ns) (f ∷ fs) zero d y e few many long = refl
+files_at {A} {C} (o ∷ os) (n ∷ ns) (f ∷ fs) (suc k) d y e few many long =
+    ap (λ (l : List ((A × A) × C)). ((o, n), f) ∷ l)
+    (files_at os ns fs k d y e (omega (arith, few)) (omega (arith, many)) (omega (arith, long)))
+
+-- so many of the first files begin, and so does the next
+pub begin_more : {A S : Type 0} (gave : S → List ℕ) (ended : S → Type 0) (k : ℕ)
+    (each : List (Option Flows)) (olds news : List (ImportFile A S)) (e : Option Flows)
+    (d y : ImportFile A S) → OpenedUpTo gave k each olds news → k < length olds
+    → length news ≡ length olds → length each ≡ length olds
+    → AllByRecursion (λ x. AllBegin (WasRead (gave_by gave) (ended_by ended) x.0) x.1)
+    (first_files k olds news each)
+    → AllBegin (IsRead (gave_by gave (get_or news k d)) (gave_by gave y) (ended_by ended y))
+    (get_or each k e)
+    → AllByRecursion (λ x. AllBegin (WasRead (gave_by gave) (ended_by ended) x.0) x.1)
+    (first_files (k + 1) olds (set news k y) each)
+begin_more {A} {S} gave ended k each olds news e d y had lt long many all is =
+    let P = λ (x : (ImportFile A S × ImportFile A S) × Option Flows).
+    AllBegin (WasRead (gave_by gave) (ended_by ended) x.0) x.1 in
+    subst (λ (n : ℕ). AllByRecursion P (first_files n olds (set news k y) each)) (sym (add-one k))
+    (first_suc P olds news each k d y e lt (omega (arith, lt, long)) (omega (arith, lt, many)) all
+    (subst (λ (x : _). AllBegin (IsRead (gave_by gave x) (gave_by gave y) (ended_by ended y))
+    (get_or each k e)) (next_same gave k each olds news d had) is))
+
+-- or it is the first that is refused
+pub first_stop : {A S : Type 0} (gave : S → List ℕ) (ended : S → Type 0) (k : ℕ)
     (each : List (Option Flows)) (olds news : List (ImportFile A S)) (e : Option Flows)
     (d y : ImportFile A S) (r : Refusal) → OpenedUpTo gave k each olds news → k < length olds
     → length news ≡ length olds → length each ≡ length olds
+    → AllByRecursion (λ x. AllBegin (WasRead (gave_by gave) (ended_by ended) x.0) x.1)
+    (first_files k olds news each)
     → IsStopRefusal (IsRead (gave_by gave (get_or news k d)) (gave_by gave y) (ended_by ended y))
     (get_or each k e) r
-    → Any (λ x. IsStopRefusal (WasRead (gave_by gave) (ended_by ended) x.0) x.1 r)
-    (zip (zip olds (set news k y)) each)
-any_stops gave ended k each olds news e d y r had lt long many is =
-    any_there (λ x. IsStopRefusal (WasRead (gave_by gave) (ended_by ended) x.0) x.1 r) olds news each
-    k d y e lt (omega (arith, lt, long)) (omega (arith, lt, many))
-    (subst (λ (x : _). IsStopRefusal (IsRead (gave_by gave x) (gave_by gave y) (ended_by ended y))
-    (get_or each k e) r) (next_same gave k each olds news d had) is)
+    → IsFirstStop (WasRead (gave_by gave) (ended_by ended)) (zip (zip olds (set news k y)) each) r
+first_stop gave ended k each olds news e d y r had lt long many all is = record {
+  front = first_files k olds news each;
+  at = ((get_or olds k d, y), get_or each k e);
+  behind = zip (zip (drop (suc k) olds) (drop (suc k) news)) (drop (suc k) each);
+  parts = files_at olds news each k d y e lt (omega (arith, lt, long)) (omega (arith, lt, many));
+  whole = all;
+  refused =
+      subst (λ (x : _). IsStopRefusal (IsRead (gave_by gave x) (gave_by gave y) (ended_by ended y))
+      (get_or each k e) r) (next_same gave k each olds news d had) is;
+}

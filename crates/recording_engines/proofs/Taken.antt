@@ -10,7 +10,7 @@ use Rattle.recording_reader.specs.declared.way.Standing.TheVariants.{Reads, Ende
 use Rattle.recording_engines.specs.Files.{AllReady, HasAhead, IsAt, IsReading, IsReady, Leads}
 use Rattle.recording_engines.specs.Files.{NextIsLater, NextIsNoSooner, ahead_by, next_of}
 use Rattle.recording_engines.specs.Files.{standing_of, standings}
-use Rattle.recording_engines.specs.Progress.{AllReadyBut, OneFileAt}
+use Rattle.recording_engines.specs.Progress.{OneFileAt}
 use Rattle.recording_engines.specs.Steps.{Coming, IsLater, IsNoSooner, ReadsMore}
 use Rattle.recording_engines.specs.Steps.{Takes}
 use Rattle.recording_engines.specs.declared.file.ImportFile.{ImportFile}
@@ -139,22 +139,12 @@ ready_set k [] f' ready is = tt
 ready_set zero (f ∷ fs) f' ready is = (is, ready.1)
 ready_set (suc k) (f ∷ fs) f' ready is = (ready.0, ready_set k fs f' ready.1 is)
 
-pub but_all : {A S : Type 0} (f : ReadingFault) (fs : List (ImportFile A S)) → AllReady fs
-    → AllReadyBut f fs
-but_all f [] ready = tt
-but_all f (x ∷ xs) ready = (inl ready.0, but_all f xs ready.1)
-
-pub but_set : {A S : Type 0} (f : ReadingFault) (k : ℕ) (fs : List (ImportFile A S))
-    (f' : ImportFile A S) → AllReady fs → IsAt f f' → AllReadyBut f (set fs k f')
-but_set f k [] f' ready is = tt
-but_set f zero (x ∷ xs) f' ready is = (inr is, but_all f xs ready.1)
-but_set f (suc k) (x ∷ xs) f' ready is = (inl ready.0, but_set f k xs f' ready.1 is)
-
 pub at_set : {A S : Type 0} (f : ReadingFault) (k : ℕ) (fs : List (ImportFile A S))
-    (f' : ImportFile A S) → k < length fs → IsAt f f' → OneFileAt f (set fs k f')
-at_set f k [] f' lt is = absurd (omega (arith, lt))
-at_set f zero (x ∷ xs) f' lt is = inl is
-at_set f (suc k) (x ∷ xs) f' lt is = inr (at_set f k xs f' (omega (arith, lt)) is)
+    (f' : ImportFile A S) → k < length fs → AllReady fs → IsAt f f' → OneFileAt f (set fs k f')
+at_set f k [] f' lt ready is = absurd (omega (arith, lt))
+at_set f zero (x ∷ xs) f' lt ready is = inl (is, ready.1)
+at_set f (suc k) (x ∷ xs) f' lt ready is =
+    inr (ready.0, at_set f k xs f' (omega (arith, lt)) ready.1 is)
 
 pub map_set : {X Y : Type 0} (g : X → Y) (xs : List X) (k : ℕ) (d y : X) → k < length xs
     → g y ≡ g (get_or xs k d) → map g (set xs k y) ≡ map g xs

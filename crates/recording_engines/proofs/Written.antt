@@ -23,7 +23,7 @@ use Rattle.recording_engines.specs.Steps.{Ahead, AllFresh, Over, ReadsMore, Stan
 use Rattle.recording_engines.specs.declared.file.ImportFile.{ImportFile}
 use Rattle.recording_engines.specs.declared.joining.Written.{Written}
 use Rattle.recording_engines.proofs.Joined.{joined_more, joined_none}
-use Rattle.recording_engines.proofs.Taken.{at_set, but_set, coming, led, ready_set, takes_led}
+use Rattle.recording_engines.proofs.Taken.{at_set, coming, led, ready_set, takes_led}
 
 -- ---- what was written
 
@@ -78,8 +78,7 @@ stops_at fs k moment d f' fault r old new w w' lt ready leads writes stops told 
             takes_led k moment fs d f' ready leads
             (over_more (standing_of (get_or fs k d)).entries (standing_of f') stops.reading
             stops.over stops.same);
-        ready = but_set stops.reading k fs f' ready stops.at;
-        stopped = at_set stops.reading k fs f' lt stops.at;
+        stopped = at_set stops.reading k fs f' lt ready stops.at;
         text = (writes is.entry is.next).text;
       },
     )
@@ -120,7 +119,7 @@ stops_joining fs fs' old now new w w' n r had (f, told, one) = inl (
     entries = had.entries ++ one.entry ∷ [];
     joined =
         joined_more (standings fs) (standings fs') had.entries one.entry had.joined one.takes;
-    ends = (one.ready, one.stopped);
+    ends = (some had.entries one.entry, one.stopped);
     text =
         one.text ∙ ap (λ (l : List ℕ). l ++ records_text (one.entry ∷ [])) had.writes.text
         ∙ append_assoc old (records_text had.entries) (records_text (one.entry ∷ []))
@@ -128,6 +127,9 @@ stops_joining fs fs' old now new w w' n r had (f, told, one) = inl (
         (sym (flat_map-append record_text had.entries (one.entry ∷ [])));
   },
 )
+  where
+    some : (es : List Entry) (e : Entry) → 0 < length (es ++ e ∷ [])
+    some es e = omega (arith, length-append es (e ∷ []))
 
 one_comes : {X S : Type 0} (fs : List (ImportFile X S)) (k moment : ℕ) → AllReady fs
     → Leads k moment fs → OneComes (standings fs)

@@ -3,7 +3,7 @@
 -- each source as it was before the run, and as it is behind it.
 use Rattle.std.specs.Prelude.{◌≡◌, ◌≢◌, ◌≤◌, ℕ, ◌⊎◌, List, [], ◌∷◌, ◌++◌, length, Option, None}
 use Rattle.std.specs.Prelude.{Some, ⊤}
-use Rattle.std.specs.List.{AllByRecursion, AllZip, Any, zip}
+use Rattle.std.specs.List.{AllByRecursion, AllZip, zip}
 use Rattle.flow.specs.Flow.{IsOnePlace}
 use Rattle.flow.specs.FlowText.{IsFlowText}
 use Rattle.flow.specs.declared.flows.Flow.{Flow}
@@ -24,8 +24,8 @@ use Rattle.sdp_format.specs.Destinations.{AreFlows, IsFlowsFault}
 use Rattle.st_format.specs.declared.path.Path.TheVariants.{A, B}
 use Rattle.st_format.specs.Device.{capped}
 use Rattle.recording_reader.specs.declared.fault.ReadingFault.{ReadingFault}
-use Rattle.recording_engines.specs.Joining.{IsOver, JoinsTo, OneAt, OneHasMore, Strand}
-use Rattle.recording_engines.specs.Opened.{IsStopRefusal}
+use Rattle.recording_engines.specs.Joining.{GoFurther, IsOver, JoinsTo, OneAt, Strand}
+use Rattle.recording_engines.specs.Opened.{Begins, IsFirstStop}
 use Rattle.recording_engines.specs.Progress.{count_of}
 use Rattle.recording_engines.specs.Strands.{IsTakenBy, TakesBy, left_out_in, omissions_in}
 use Rattle.recording_engines.specs.Strands.{strands_in}
@@ -112,41 +112,45 @@ IsFlowsRefusal a b said r = IsWordRefusal a r ⊎ IsWordRefusal b r
 abbrev pub IsPlacesRefusal : Flows → ℕ → Refusal → Type 0
 IsPlacesRefusal flows count r = (r ≡ refusal.ImportPlaces) × IsOnePlace flows × (count ≢ 2)
 
--- Records were joined and written behind the text, and it ended so.
+-- None of files was refused before its first record; records were joined and written behind the
+-- text, and it ended so.
 pub record StopsImport {S : Type 0} (Ends : List Strand → Type 0) (Number : ℕ → Type 0)
     (told : S → List ℕ → Type 0) (each : List (Option Flows)) (text : List ℕ) (files : List S)
     (took took' : List ℕ) : Type 0 where
+  pub begun : (octets : List (List ℕ)) → AllZip told files octets → AllZip Begins each octets
   pub entries : List Entry
   pub joined : (octets : List (List ℕ)) → AllZip told files octets
       → JoinsTo Ends (strands_in each octets) entries
   pub number : Number (length entries)
   pub taken : took' ≡ took ++ (front_text Two text ++ records_text entries)
 
--- the refusals of files that are written: at the fault of one; where there are too many records
+-- The refusals of files that are written: the fault of the one whose turn it is, where no other is
+-- at a fault; that there are too many records, where none is.
 abbrev pub IsJoinRefusal : {S : Type 0} → (S → List ℕ → Type 0) → List (Option Flows) → List ℕ
     → List S → List ℕ → List ℕ → Refusal → Type 0
 IsJoinRefusal told each text files took took' r =
     ((f : ReadingFault) × (reading_fault f ≡ Refused r)
     × StopsImport (OneAt f) (λ n. ⊤) told each text files took took')
     ⊎ ((r ≡ refusal.ImportRecords)
-    × StopsImport OneHasMore (λ n. n ≡ 16777216) told each text files took took')
+    × StopsImport GoFurther (λ n. n ≡ 16777216) told each text files took took')
 
--- The refusals of files by these flows: one before its first record, and then nothing is written;
--- a refusal behind that.
+-- The refusals of files by these flows: the first of one before its first record, and then nothing
+-- is written; and where there is none such, one behind that.
 abbrev pub IsFilesRefusal : {S : Type 0} → (S → List ℕ → Type 0) → Flows → List ℕ → List S
     → List ℕ → List ℕ → Refusal → Type 0
 IsFilesRefusal told flows text files took took' r =
     (each : List (Option Flows)) × TakesBy flows (length files) each
-    × (((took' ≡ took) × Any (λ x. IsStopRefusal (told x.0) x.1 r) (zip files each))
+    × (((took' ≡ took) × IsFirstStop told (zip files each) r)
     ⊎ IsJoinRefusal told each text files took took' r)
 
--- The refusals of `import`, in their order: of the SDP text; of the flows; of the files.
+-- The refusals of `import`, in their order, the first that there is: of the SDP text; of the flows;
+-- of the files.
 abbrev pub IsImportRefusal : {S : Type 0} → Option (List ℕ) → Option (List ℕ)
     → (List ℕ → Type 0) → (List ℕ → Type 0) → (S → List ℕ → Type 0) → List S → List ℕ → List ℕ
     → Refusal → Type 0
 IsImportRefusal a b sdp Said told files took took' r =
     ((took' ≡ took) × IsTextRefusal refusal.ImportSdp sdp r)
-    ⊎ ((text : List ℕ) × Said text
+    ⊎ ((text : List ℕ) × Said text × IsCaptureText text
     × (((took' ≡ took) × IsFlowsRefusal a b text r)
     ⊎ ((flows : Flows) × AsksFlows a b text flows
     × IsFilesRefusal told flows text files took took' r)))

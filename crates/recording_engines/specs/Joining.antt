@@ -42,15 +42,31 @@ Joins strands (e ∷ es) left =
 abbrev pub IsOver : Strand → Type 0
 IsOver s = s ≡ record { entries = []; fault = None }
 
--- one of some strands is at this fault
+-- a record comes next, or the end does
+abbrev pub ComesNoFault : List Entry → Option ReadingFault → Type 0
+ComesNoFault [] None = ⊤
+ComesNoFault [] (Some f) = ⊥
+ComesNoFault (e ∷ es) fault = ⊤
+
+-- so it is of a strand: it is at no fault
+abbrev pub GoesOn : Strand → Type 0
+GoesOn s = ComesNoFault s.entries s.fault
+
+-- one of some strands is at this fault, and no other is at a fault
 abbrev pub OneAt : ReadingFault → List Strand → Type 0
 OneAt f [] = ⊥
-OneAt f (s ∷ ss) = (s ≡ record { entries = []; fault = Some f }) ⊎ OneAt f ss
+OneAt f (s ∷ ss) =
+    ((s ≡ record { entries = []; fault = Some f }) × AllByRecursion GoesOn ss)
+    ⊎ (GoesOn s × OneAt f ss)
 
 -- one has a record more
 abbrev pub OneHasMore : List Strand → Type 0
 OneHasMore [] = ⊥
 OneHasMore (s ∷ ss) = ((e : Entry) × (es : List Entry) × (s.entries ≡ e ∷ es)) ⊎ OneHasMore ss
+
+-- one has, and none is at a fault
+abbrev pub GoFurther : List Strand → Type 0
+GoFurther ss = AllByRecursion GoesOn ss × OneHasMore ss
 
 -- Strands are joined to these records, and what is left is so.
 pub record JoinsTo (Ends : List Strand → Type 0) (strands : List Strand) (entries : List Entry)

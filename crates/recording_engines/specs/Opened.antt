@@ -1,7 +1,9 @@
 -- Files that are not opened.
-use Rattle.std.specs.Prelude.{◌≡◌, ℕ, ◌⊎◌, List, [], Option, None, Some, true}
+use Rattle.std.specs.Prelude.{◌≡◌, ℕ, ◌⊎◌, List, [], ◌∷◌, ◌++◌, Option, None, Some, true}
+use Rattle.std.specs.List.{AllByRecursion}
 use Rattle.flow.specs.declared.flows.Flows.{Flows}
-use Rattle.recording_engines.specs.Strands.{strand_in}
+use Rattle.recording_engines.specs.Joining.{GoesOn}
+use Rattle.recording_engines.specs.Strands.{IsTakenBy, strand_in}
 use Rattle.recording_reader.specs.Kinds.{is_recording}
 use Rattle.recording_reader.specs.declared.fault.ReadingFault.{ReadingFault}
 use Rattle.run_outcome.specs.declared.fault.Fault.TheVariants.{Refused}
@@ -18,3 +20,23 @@ IsStopRefusal told flows r =
     ⊎ ((f : ReadingFault) × (reading_fault f ≡ Refused r)
     × ((octets : List ℕ) → told octets
     → strand_in flows octets ≡ record { entries = []; fault = Some f }))
+
+-- a file that is read by these flows isn't refused so: it is no recording without flows, and its
+-- first record comes, or its end
+abbrev pub Begins : Option Flows → List ℕ → Type 0
+Begins flows octets = IsTakenBy flows octets × GoesOn (strand_in flows octets)
+
+-- so whatever was read of it
+abbrev pub AllBegin : (List ℕ → Type 0) → Option Flows → Type 0
+AllBegin told flows = (octets : List ℕ) → told octets → Begins flows octets
+
+-- The refusal of files that are opened in turn, each by flows of its own, is that of one of them,
+-- and the first: none before it is refused so.
+pub record IsFirstStop {S : Type 0} (told : S → List ℕ → Type 0) (files : List (S × Option Flows))
+    (r : Refusal) : Type 0 where
+  pub front : List (S × Option Flows)
+  pub at : S × Option Flows
+  pub behind : List (S × Option Flows)
+  pub parts : files ≡ front ++ at ∷ behind
+  pub whole : AllByRecursion (λ x. AllBegin (told x.0) x.1) front
+  pub refused : IsStopRefusal (told at.0) at.1 r

@@ -1,5 +1,5 @@
 -- What a run of `import` does from one record to the next.
-use Rattle.std.specs.Prelude.{◌≡◌, ℕ, ◌+◌, ◌≤◌, ◌⊎◌, List, [], ◌∷◌, ◌++◌, length}
+use Rattle.std.specs.Prelude.{◌≡◌, ℕ, ◌+◌, ◌<◌, ◌≤◌, ◌⊎◌, List, [], ◌∷◌, ◌++◌, length}
 use Rattle.std.specs.Prelude.{None, Some}
 use Rattle.std.specs.List.{AllByRecursion, count_by}
 use Rattle.media_file.specs.Records.{Entry, records_text}
@@ -48,21 +48,16 @@ pub record TakesOne {X S : Type 0} (files files' : List (ImportFile X S)) (old n
   pub ready : AllByRecursion IsReady files'
   pub writes : Writes (entry ∷ []) old new w w'
 
--- each file is read on, but one that is at this fault
-abbrev pub AllReadyBut : {X S : Type 0} → ReadingFault → List (ImportFile X S) → Type 0
-AllReadyBut f files = AllByRecursion (λ x. IsReady x ⊎ IsAt f x) files
-
--- one file is at this fault
+-- one file is at this fault, and each other is read on
 abbrev pub OneFileAt : {X S : Type 0} → ReadingFault → List (ImportFile X S) → Type 0
 OneFileAt f [] = ⊥
-OneFileAt f (x ∷ xs) = IsAt f x ⊎ OneFileAt f xs
+OneFileAt f (x ∷ xs) = (IsAt f x × AllByRecursion IsReady xs) ⊎ (IsReady x × OneFileAt f xs)
 
 -- The earliest record was written, and behind it its file is at a fault.
 pub record StopsOne {X S : Type 0} (f : ReadingFault) (files files' : List (ImportFile X S))
     (old new : List ℕ) : Type 0 where
   pub entry : Entry
   pub takes : Takes (standings files) entry (standings files')
-  pub ready : AllReadyBut f files'
   pub stopped : OneFileAt f files'
   pub text : new ≡ old ++ records_text (entry ∷ [])
 
@@ -103,10 +98,10 @@ pub record HasEnded {X S : Type 0} (Ends : List Entry → List (ImportFile X S) 
   pub ends : Ends entries files
   pub text : new ≡ old ++ records_text entries
 
--- those before a fault were
+-- those before a fault were, and there are some
 abbrev pub HasStopped : {X S : Type 0} → ReadingFault → List Entry → List (ImportFile X S)
     → Type 0
-HasStopped f entries files = AllReadyBut f files × OneFileAt f files
+HasStopped f entries files = (0 < length entries) × OneFileAt f files
 
 -- what comes next of one file is a record
 abbrev pub OneComes : List Standing → Type 0

@@ -1,10 +1,10 @@
 //! Opening files.
 ghost use Rattle.std.specs.Prelude.{◌≡◌, ◌≤◌, ◌∷◌, [], length, IfErr, OnOk};
-ghost use Rattle.std.specs.List.{Any, sum_by, zip};
+ghost use Rattle.std.specs.List.{sum_by, zip};
 ghost use Rattle.recording_engines.specs.Files.{AllClosed, AllOpened, IsClosed, IsNew, IsOpened};
 ghost use Rattle.recording_engines.specs.Files.{IsReady, IsUnread, begun_of, ended_by};
 ghost use Rattle.recording_engines.specs.Files.{failures_by, gave_by, standing_of};
-ghost use Rattle.recording_engines.specs.Opened.{IsStopRefusal};
+ghost use Rattle.recording_engines.specs.Opened.{AllBegin, IsFirstStop, IsStopRefusal};
 ghost use Rattle.run_outcome.specs.Fault.{Accounts, counts};
 ghost use Rattle.run_outcome.specs.Moments.{WasRead};
 ghost use Rattle.run_outcome.specs.Refusing.{OfRefusal};
@@ -85,6 +85,8 @@ fn read_first<A: Allocator, S: ByteSource>(file: &mut ImportFile<A, S>) -> Resul
     ensures begun { begun_of file.new ≡ begun_of file.old }
     ensures ready { OnOk result (IsReady file.new) }
     ensures fresh { OnOk result (IsFresh (standing_of file.new)) }
+    ensures begins { OnOk result (AllBegin (IsRead (begun_of file.new).1 (gave_by S.gave file.new)
+        (ended_by S.ended file.new)) (begun_of file.new).0) }
     ensures refusal { IfErr result (λ f. OfRefusal f (IsStopRefusal (IsRead
         (begun_of file.new).1 (gave_by S.gave file.new) (ended_by S.ended file.new))
         (begun_of file.new).0)) }
@@ -97,7 +99,7 @@ fn read_first<A: Allocator, S: ByteSource>(file: &mut ImportFile<A, S>) -> Resul
 }
 
 /// Opens a file as [`open_file`] does, and reads on as [`read_first`] does.
-#[tactic(auto, using(crate::proofs::Openings::begun_refusal))]
+#[tactic(auto, using(crate::proofs::Openings::begun_of_file))]
 fn begin_file<A: Allocator, S: ByteSource + Drop>(
     alloc: A,
     flows: Option<Flows>,
@@ -108,6 +110,8 @@ fn begin_file<A: Allocator, S: ByteSource + Drop>(
     requires text { 65535 ≤ length text.old }
     ensures room { length text.new ≡ length text.old }
     ensures opened { OnOk result (IsOpened S.gave flows file.old file.new) }
+    ensures begins { OnOk result (AllBegin (IsRead (gave_by S.gave file.old)
+        (gave_by S.gave file.new) (ended_by S.ended file.new)) flows) }
     ensures refusal { IfErr result (λ f. OfRefusal f (IsStopRefusal (IsRead
         (gave_by S.gave file.old) (gave_by S.gave file.new) (ended_by S.ended file.new)) flows)) }
     ensures failures { Accounts result (counts (failures_by S.failures file.old)
@@ -128,9 +132,8 @@ pub(crate) fn open_all<A: Allocator + Copy, S: ByteSource + Drop>(
     requires closed { AllClosed files.old }
     ensures len { length files.new ≡ length files.old }
     ensures opened { OnOk result (AllOpened S.gave each.now files.old files.new) }
-    ensures refusal { IfErr result (λ f. OfRefusal f (λ r. Any
-        (λ x. IsStopRefusal (WasRead (gave_by S.gave) (ended_by S.ended) x.0) x.1 r)
-        (zip (zip files.old files.new) each.now))) }
+    ensures refusal { IfErr result (λ f. OfRefusal f (IsFirstStop
+        (WasRead (gave_by S.gave) (ended_by S.ended)) (zip (zip files.old files.new) each.now))) }
     ensures failures { Accounts result (counts (sum_by (failures_by S.failures) files.old)
         (sum_by (failures_by S.failures) files.new) ∷ []) }
 {

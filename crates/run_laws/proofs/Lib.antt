@@ -22,6 +22,7 @@ pub mod RehearsedOnce
 pub mod NoRehearsalRefusals
 pub mod NoTraceRefusals
 pub mod NoSendRefusals
+pub mod OneSendRefusal
 pub mod NoInspectRefusals
 pub mod NoMigrateRefusals
 pub mod NoConvertRefusals
@@ -34,3 +35,4 @@ pub mod OnePlan
 pub mod OneSent
 pub mod ProcessedAgain
 pub mod NoStreamsRefusals
+pub mod OneReceiveRefusal

@@ -1,8 +1,8 @@
 -- Against what a run of `import` read that ended well no refusal speaks.
-use Rattle.std.proofs.Common.{◌≡◌, ◌∙◌, ℕ, zero, suc, ◌+◌, ◌<◌, ◌≤◌, inl, inr, List, [], ◌∷◌}
+use Rattle.std.proofs.Common.{◌≡◌, ◌∙◌, ℕ, suc, ◌+◌, ◌<◌, ◌≤◌, inl, inr, List, [], ◌∷◌, ◌++◌}
 use Rattle.std.proofs.Common.{length, map, Option, None, Some, Result, Ok, Err}
 use Rattle.std.proofs.Common.{refl, sym, ap, subst, arith}
-use Rattle.std.specs.Prelude.{IsSome, slice_index_or}
+use Rattle.std.specs.Prelude.{IsSome}
 use Rattle.std.specs.List.{AllByRecursion, AllZip, zip}
 use Rattle.st_format.proofs.Histories.{since_is}
 use Rattle.flow.specs.declared.flows.Flow.{Flow}
@@ -24,7 +24,7 @@ use Rattle.recording_engines.specs.Imported.{IsFilesRefusal, IsFlowsRefusal, IsI
 use Rattle.recording_engines.specs.Imported.{IsJoinRefusal, IsSaidRefusal, IsWordRefusal}
 use Rattle.recording_engines.specs.Joining.{IsNext, Joins, JoinsTo, OneAt, OneHasMore}
 use Rattle.recording_engines.specs.Joining.{Strand}
-use Rattle.recording_engines.specs.Opened.{IsStopRefusal}
+use Rattle.recording_engines.specs.Opened.{IsFirstStop, IsStopRefusal}
 use Rattle.recording_engines.specs.Strands.{IsTakenBy, TakesBy, strand_in, strands_in}
 use Rattle.recording_engines.specs.declared.importing.ImportCounts.{ImportCounts}
 use Rattle.run_laws.specs.Received.{all_read, read_of}
@@ -233,8 +233,8 @@ no_fault f o none some = cc
 none_at : (f : ReadingFault) (ss : List Strand) → NoneFaulty (faults ss) → OneAt f ss → ⊥
 none_at f [] none at = at
 none_at f (s ∷ ss) none (inl at) =
-    no_fault f s.fault none.0 (ap (λ (t : Strand). t.fault) at)
-none_at f (s ∷ ss) none (inr at) = none_at f ss none.1 at
+    no_fault f s.fault none.0 (ap (λ (t : Strand). t.fault) at.0)
+none_at f (s ∷ ss) none (inr at) = none_at f ss none.1 at.1
 
 more_total : (ss : List Strand) → OneHasMore ss → 0 < total ss
 more_total [] more = absurd more
@@ -265,20 +265,33 @@ module _ {F : Type 0} (gave : F → List ℕ) (ended : F → Type 0) where
       no_fault wrong.0 (strand_in flows (read_of gave s)).fault none
       (ap (λ (t : Strand). t.fault) (wrong.2 (read_of gave s) (was_read gave ended s)))
 
-  stops_not : (files : List (F × F)) (each : List (Option Flows)) (k : ℕ)
-      (x : (F × F) × Option Flows) (r : Refusal)
+  abbrev NotStopped : Refusal → List ((F × F) × Option Flows) → Type 0
+  NotStopped r files =
+      AllByRecursion (λ x. IsStopRefusal (WasRead gave ended x.0) x.1 r → ⊥) files
+
+  none_stops : (files : List (F × F)) (each : List (Option Flows)) (r : Refusal)
+      → AllZip IsTakenBy each (all_read gave files)
+      → NoneFaulty (faults (strands_in each (all_read gave files))) → NotStopped r (zip files each)
+  none_stops [] [] r by none = tt
+  none_stops [] (f ∷ fs) r by none = tt
+  none_stops (s ∷ ss) [] r by none = tt
+  none_stops (s ∷ ss) (f ∷ fs) r by none =
+      (stop_not s f r by.0 none.0, none_stops ss fs r by.1 none.1)
+
+  one_not : (front : List ((F × F) × Option Flows)) (x : (F × F) × Option Flows)
+      (behind : List ((F × F) × Option Flows)) (r : Refusal)
+      → NotStopped r (front ++ x ∷ behind) → IsStopRefusal (WasRead gave ended x.0) x.1 r → ⊥
+  one_not [] x behind r none wrong = none.0 wrong
+  one_not (y ∷ ys) x behind r none wrong = one_not ys x behind r none.1 wrong
+
+  -- so none is the first
+  stops_not : (files : List (F × F)) (each : List (Option Flows)) (r : Refusal)
       → AllZip IsTakenBy each (all_read gave files)
       → NoneFaulty (faults (strands_in each (all_read gave files)))
-      → k < length (zip files each) → slice_index_or (zip files each) k x ≡ x
-      → IsStopRefusal (WasRead gave ended x.0) x.1 r → ⊥
-  stops_not [] each k x r by none lt at wrong = absurd (omega (arith, lt))
-  stops_not (s ∷ ss) [] k x r by none lt at wrong = absurd (omega (arith, lt))
-  stops_not (s ∷ ss) (f ∷ fs) zero x r by none lt at wrong =
-      stop_not s f r by.0 none.0
-      (subst (λ (y : (F × F) × Option Flows). IsStopRefusal (WasRead gave ended y.0) y.1 r)
-      (sym at) wrong)
-  stops_not (s ∷ ss) (f ∷ fs) (suc k) x r by none lt at wrong =
-      stops_not ss fs k x r by.1 none.1 (omega (arith, lt)) at wrong
+      → IsFirstStop (WasRead gave ended) (zip files each) r → ⊥
+  stops_not files each r by none first =
+      one_not first.front first.at first.behind r
+      (subst (NotStopped r) first.parts (none_stops files each r by none)) first.refused
 
 -- ---- the run
 
@@ -332,7 +345,7 @@ module _ {D F : Type 0} (text_gave : D → List ℕ) (text_ended : D → Type 0)
           arith,
           joined_total (strands_in run.each octets) stops.entries out.left out.joins,
           all_joined,
-          more_total out.left out.ends,
+          more_total out.left out.ends.1,
           many,
           few,
         )
@@ -342,13 +355,12 @@ module _ {D F : Type 0} (text_gave : D → List ℕ) (text_ended : D → Type 0)
     files_not text other other' r (each, takes, inl wrong) =
         let same : each ≡ run.each =
         one_each run.flows (length files) each run.each takes run.taken_by in
-        let any = wrong.1 in
-        stops_not gave ended files each any.0 any.1 r
+        stops_not gave ended files each r
         (subst (λ (fs : List (Option Flows)). AllZip IsTakenBy fs octets) (sym same)
         (run.by_flows octets (zipped gave ended files)))
         (subst (λ (fs : List (Option Flows)). NoneFaulty (faults (strands_in fs octets)))
         (sym same) none_faulty)
-        any.2 any.3 any.4
+        wrong.1
     files_not text other other' r (each, takes, inr wrong) =
         join_not text other other' r
         (subst (λ (fs : List (Option Flows)). IsJoinRefusal (WasRead gave ended) fs text files other
@@ -361,10 +373,10 @@ module _ {D F : Type 0} (text_gave : D → List ℕ) (text_ended : D → Type 0)
         not_text why.ImportSdp (WasRead text_gave text_ended (sdp, later)) run.text r
         (subst (WasRead text_gave text_ended (sdp, later)) (text_is run.text run.said)
         (was_read text_gave text_ended (sdp, later))) run.described wrong.1
-    import_not other other' r (inr (text, said, inl wrong)) =
+    import_not other other' r (inr (text, said, described, inl wrong)) =
         flows_not a b run.text run.flows r run.asked
         (subst (λ (t : List ℕ). IsFlowsRefusal a b t r) (one_text text said) wrong.1)
-    import_not other other' r (inr (text, said, inr (flows, asked, wrong))) =
+    import_not other other' r (inr (text, said, described, inr (flows, asked, wrong))) =
         let same : flows ≡ run.flows =
         one_asked a b run.text flows run.flows
         (subst (λ (t : List ℕ). AsksFlows a b t flows) (one_text text said) asked) run.asked in

@@ -1,7 +1,6 @@
 -- Against what a run of `inspect` read that ended well no refusal speaks.
-use Rattle.std.proofs.Common.{◌≡◌, ℕ, zero, suc, ◌<◌, Bool, true, false, List, [], ◌∷◌, length}
-use Rattle.std.proofs.Common.{Option, Some, inl, inr, sym, ap, ◌∙◌, subst, arith}
-use Rattle.std.specs.Prelude.{slice_index_or}
+use Rattle.std.proofs.Common.{◌≡◌, ℕ, Bool, true, false, List, [], ◌∷◌, ◌++◌, Option, Some, inl}
+use Rattle.std.proofs.Common.{inr, sym, ap, ◌∙◌, subst}
 use Rattle.std.specs.List.{AllZip, list_all}
 use Rattle.std.proofs.lemmas.Bool.{and_parts}
 use Rattle.pcap_file.specs.Runs.{fault_in, most_packet}
@@ -37,17 +36,14 @@ module _ {S : Type 0} (gave : S → List ℕ) (ended : S → Type 0) where
   all_zip (s ∷ ss) = (was_read gave ended s, all_zip ss)
 
   -- what holds of the octets of each file holds of those of one
-  at_place : (test : List ℕ → Bool) (files : List (S × S)) (k : ℕ) (x : S × S)
-      → list_all test (all_read gave files) ≡ true → k < length files
-      → slice_index_or files k x ≡ x → test (read_of gave x) ≡ true
-  at_place test [] k x all lt at = absurd (omega (arith, lt))
-  at_place test (s ∷ ss) zero x all lt at =
-      subst (λ (y : S × S). test (read_of gave y) ≡ true) at
-      (and_parts (test (read_of gave s)) (list_all test (all_read gave ss)) all).0
-  at_place test (s ∷ ss) (suc k) x all lt at =
-      at_place test ss k x
-      (and_parts (test (read_of gave s)) (list_all test (all_read gave ss)) all).1
-      (omega (arith, lt)) at
+  at_one : (test : List ℕ → Bool) (front : List (S × S)) (x : S × S) (behind : List (S × S))
+      → list_all test (all_read gave (front ++ x ∷ behind)) ≡ true
+      → test (read_of gave x) ≡ true
+  at_one test [] x behind all =
+      (and_parts (test (read_of gave x)) (list_all test (all_read gave behind)) all).0
+  at_one test (s ∷ ss) x behind all =
+      at_one test ss x behind
+      (and_parts (test (read_of gave s)) (list_all test (all_read gave (ss ++ x ∷ behind))) all).1
 
 pub inspect_not : {S : Type 0} (gave : S → List ℕ) (ended : S → Type 0) (form : Form)
     (files : List (S × S)) (shown shown' : List ℕ) (r : Refusal)
@@ -57,10 +53,12 @@ inspect_not gave ended form files shown shown' r tells (inl cut) =
     let octets : List (List ℕ) = all_read gave files in
     let zipped = all_zip gave ended files in
     not_both (tells.cuts octets zipped ∙ sym (cut.1.cuts octets zipped))
-inspect_not gave ended form files shown shown' r tells (inr at) =
+inspect_not {S} gave ended form files shown shown' r tells (inr (same, first)) =
     let octets : List (List ℕ) = all_read gave files in
-    let zipped = all_zip gave ended files in
-    let one = at.1 in
-    not_fault (WasRead gave ended one.1) (read_of gave one.1) r (was_read gave ended one.1)
-    (at_place gave ended (λ o. is_told (fault_in most_packet o)) files one.0 one.1
-    (tells.ends octets zipped) one.2 one.3) one.4
+    let test = λ (o : List ℕ). is_told (fault_in most_packet o) in
+    let all = tells.ends octets (all_zip gave ended files) in
+    not_fault (WasRead gave ended first.at) (read_of gave first.at) r
+    (was_read gave ended first.at)
+    (at_one gave ended test first.front first.at first.behind
+    (subst (λ (l : List (S × S)). list_all test (all_read gave l) ≡ true) first.parts all))
+    first.refused

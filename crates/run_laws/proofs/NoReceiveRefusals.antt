@@ -1,35 +1,30 @@
 -- Against what a run of `receive` read that ended well no refusal speaks.
-use Rattle.std.proofs.Common.{◌≡◌, ◌∙◌, ℕ, inl, inr, Bool, true, false, cond, List, [], ◌∷◌}
-use Rattle.std.proofs.Common.{Option, None, Some, Result, refl, sym, ap, subst, arith}
+use Rattle.std.proofs.Common.{◌≡◌, ℕ, inl, inr, Bool, List, [], ◌∷◌}
+use Rattle.std.proofs.Common.{Option, None, Some, Result, refl, sym, subst, arith}
 use Rattle.std.specs.Prelude.{MatchOption}
 use Rattle.st_format.specs.History.{since}
 use Rattle.flow.specs.declared.flows.Flows.{Flows}
-use Rattle.media_file.specs.Fronts.{front_at}
-use Rattle.media_file.specs.declared.fault.FileFault.{FileFault}
 use Rattle.path_receiver.specs.Opening.{IsWindow}
-use Rattle.recording_reader.specs.Files.{text_before, text_of_file}
-use Rattle.recording_reader.specs.Kinds.{is_recording}
+use Rattle.recording_reader.specs.Files.{text_of_file}
 use Rattle.run_outcome.specs.Moments.{WasRead}
 use Rattle.run_outcome.specs.Timestamps.{AreTimestamps}
 use Rattle.run_outcome.specs.declared.refusal.Refusal.{Refusal}
 use Rattle.run_outcome.specs.declared.refusal.Refusal.TheVariants as why
-use Rattle.capture_engines.specs.Files.{AreReadWhole, IsTakenWhole, files_datagrams, first_way}
-use Rattle.capture_engines.specs.Files.{other_ways}
-use Rattle.capture_engines.specs.Received.{FirstFileRefuses, FirstRefuses, IsCaptureRefusal}
-use Rattle.capture_engines.specs.Received.{IsCapturesRefusal, IsFileOpenedRefusal, IsFrontRefusal}
-use Rattle.capture_engines.specs.Received.{IsGivenRefusal, IsOpenedRefusal, IsOpeningRefusal}
+use Rattle.capture_engines.specs.Files.{AreReadWhole, files_datagrams, first_way, other_ways}
+use Rattle.capture_engines.specs.Received.{FirstFileRefuses, IsFileOpenedRefusal, IsFilesRefusal}
+use Rattle.capture_engines.specs.Received.{IsFrontRefusal, IsGivenRefusal, IsOpeningRefusal}
 use Rattle.capture_engines.specs.Received.{IsReceiveRefusal, IsReceivingRefusal, IsWordRefusal}
 use Rattle.capture_engines.specs.Received.{OneFileIs, StopsFile}
 use Rattle.capture_engines.specs.Receiving.{SavesShown}
-use Rattle.capture_engines.specs.Sent.{OneIs}
 use Rattle.capture_engines.specs.Taking.{AnnouncesStream, Receives, ReceivesFiles}
 use Rattle.capture_engines.specs.Taking.{IsOpeningText, SavesHolding, said_behind}
 use Rattle.capture_engines.specs.declared.way.Way.TheVariants as way
+use Rattle.capture_engines.proofs.FirstRefused.{first_is_one}
 use Rattle.run_laws.specs.Received.{IsReceivedFile, all_read, datagrams_read, read_of}
 use Rattle.run_laws.proofs.NoTextFault.{no_text_fault}
 use Rattle.run_laws.proofs.Opened.{one_window}
 use Rattle.run_laws.proofs.Receiving.{all_were_read, files_received, run_received, was_read}
-use Rattle.run_laws.proofs.WholeFiles.{no_flows, plain_not, stops_not, text_is, window_not}
+use Rattle.run_laws.proofs.WholeFiles.{stops_not, text_is, window_not}
 
 -- ---- opening
 
@@ -45,7 +40,7 @@ module _ (window source text : List ℕ) (datagrams : List (List ℕ)) (file : L
         (subst (λ (w : List ℕ). IsWindow w)
         (one_window window is.receiver.opening.window ts is.window_is are)
         is.file_is.writable.receiver.window)
-        wrong
+        wrong.1
     opening_not r wrong = absurd wrong
 
     pub front_not : (r : Refusal) → IsFrontRefusal ts text r → ⊥
@@ -53,7 +48,7 @@ module _ (window source text : List ℕ) (datagrams : List (List ℕ)) (file : L
         let announced : AnnouncesStream [] is.receiver.opening =
         subst (λ (t : List ℕ). AnnouncesStream t is.receiver.opening) wrong is.announced in
         absurd announced.described
-    front_not r wrong = opening_not r wrong
+    front_not r wrong = opening_not r wrong.1
 
 -- the words said a window and a source
 word_not : (window source : List ℕ) (IsText : List ℕ → Type 0) (datagrams : List (List ℕ))
@@ -77,15 +72,6 @@ module _ {S : Type 0} (gave : S → List ℕ) (ended : S → Type 0) where
       stops_not (first_way ways) (WasRead gave ended s) (read_of gave s) r (was_read gave ended s)
       (whole.0 (read_of gave s) (was_read gave ended s)) wrong
   files_not ways (s ∷ ss) r whole (inr wrong) = files_not (other_ways ways) ss r whole.1 wrong
-
-  captures_not : (files : List (S × S)) (f : FileFault)
-      → AreReadWhole [] (WasRead gave ended) files
-      → OneIs (λ s. IsCaptureRefusal (WasRead gave ended s) (why.Capture f)) files → ⊥
-  captures_not [] f whole wrong = wrong
-  captures_not (s ∷ ss) f whole (inl wrong) =
-      plain_not way.Capture (WasRead gave ended s) (read_of gave s) (was_read gave ended s)
-      (whole.0 (read_of gave s) (was_read gave ended s)) (why.Capture f) (wrong, λ octets read. tt)
-  captures_not (s ∷ ss) f whole (inr wrong) = captures_not ss f whole.1 wrong
 
 module _ {S : Type 0} (gave : S → List ℕ) (ended : S → Type 0) (window source : List ℕ)
     (wanted : Bool) (shown printed old new : List ℕ)
@@ -127,48 +113,48 @@ module _ {S : Type 0} (gave : S → List ℕ) (ended : S → Type 0) (window sou
           (files_received gave ended window source t (Some t) ways files wanted shown printed old
           new shows run refl) ts are r wrong
 
+      files_refuse_not : (sdp : Option (List ℕ)) (files : List (S × S)) (ts : List ℕ)
+          (r : Refusal) → FilesRun sdp files → AreTimestamps window ts
+          → IsFilesRefusal ts sdp ways (WasRead gave ended) files r → ⊥
+      files_refuse_not sdp files ts r run are (inl stops) =
+          files_not gave ended ways files r run.whole stops
+      files_refuse_not sdp files ts r run are (inr (none, first)) =
+          first_not sdp files ts r run are none first
+
       pub receiving_not : (sdp : Option (List ℕ)) (files : List (S × S)) (r : Refusal)
           → FilesRun sdp files
           → IsReceivingRefusal window source sdp ways (WasRead gave ended) files r → ⊥
       receiving_not sdp files r run (inl word) =
           word_not window source (λ text. said_behind sdp (all_read gave files) ≡ Some text)
           (files_datagrams ways (all_read gave files)) wanted shown printed old new r
-          (run.saved (all_read gave files) (all_were_read gave ended files)) word
-      receiving_not sdp files r run (inr (ts, are, inl given)) =
-          given_not sdp files ts r run are given
-      receiving_not sdp files r run (inr (ts, are, inr (inl stops))) =
-          files_not gave ended ways files r run.whole stops
-      receiving_not sdp files r run (inr (ts, are, inr (inr (none, first)))) =
-          first_not sdp files ts r run are none first
+          (run.saved (all_read gave files) (all_were_read gave ended files)) word.0
+      receiving_not sdp files r run (inr (ts, ask, inl given)) =
+          given_not sdp files ts r run ask.0 given
+      receiving_not sdp files r run (inr (ts, ask, inr (opens, first))) =
+          files_refuse_not sdp files ts r run ask.0
+          (first_is_one ts sdp ways (WasRead gave ended) files r first)
 
     -- a run over captures
     abbrev Run : Option (S × S) → List (S × S) → Type 0
     Run sdp captures =
         Receives window source sdp (WasRead gave ended) captures wanted shown printed old new
 
-    capture_kind : (s : S × S) → IsTakenWhole way.Capture (read_of gave s) → (b : Bool)
-        → is_recording (read_of gave s) ≡ b → is_recording (read_of gave s) ≡ false
-    capture_kind s is true kind = absurd (no_flows (is.by_flows kind))
-    capture_kind s is false kind = kind
-
     capture_opened : (s : S × S) (ss : List (S × S)) (ts : List ℕ) (r : Refusal)
         → Run None (s ∷ ss) → AreTimestamps window ts
-        → IsOpenedRefusal ts (WasRead gave ended s) r → ⊥
+        → IsFileOpenedRefusal ts way.Capture (WasRead gave ended s) r → ⊥
+    capture_opened s ss ts (why.Capture f) run are wrong = wrong
     capture_opened s ss ts r run are wrong =
         let octets : List ℕ = read_of gave s in
         let at = wrong octets (was_read gave ended s) in
-        let kind : is_recording octets ≡ false =
-        capture_kind s (run.whole.0 octets (was_read gave ended s)) (is_recording octets) refl in
-        let text : text_of_file octets ≡ at.0.0 =
-        ap (λ (b : Bool). cond b [] (text_before (front_at octets))) kind ∙ ap text_before at.1 in
         front_not window source (text_of_file octets) (datagrams_read gave (s ∷ ss)) (since old new)
         (run_received gave ended window source (text_of_file octets) None (s ∷ ss) wanted shown
         printed old new shows run refl) ts are r
-        (subst (λ (t : List ℕ). IsFrontRefusal ts t r) (sym text) at.2)
+        (subst (λ (t : List ℕ). IsFrontRefusal ts t r)
+        (sym (text_is way.Capture octets at.0 at.1)) at.2)
 
     first_capture_not : (sdp : Option (S × S)) (captures : List (S × S)) (ts : List ℕ)
         (r : Refusal) → Run sdp captures → AreTimestamps window ts → sdp ≡ None
-        → FirstRefuses ts (WasRead gave ended) captures r → ⊥
+        → FirstFileRefuses ts [] (WasRead gave ended) captures r → ⊥
     first_capture_not (Some t) captures ts r run are none wrong = cc
     first_capture_not None [] ts r run are none wrong = run.opened refl refl
     first_capture_not None (s ∷ ss) ts r run are none wrong =
@@ -176,11 +162,11 @@ module _ {S : Type 0} (gave : S → List ℕ) (ended : S → Type 0) (window sou
 
     captures_refuse_not : (sdp : Option (S × S)) (captures : List (S × S)) (ts : List ℕ)
         (r : Refusal) → Run sdp captures → AreTimestamps window ts
-        → IsCapturesRefusal ts sdp (WasRead gave ended) captures r → ⊥
-    captures_refuse_not sdp captures ts (why.Capture f) run are wrong =
-        captures_not gave ended captures f run.whole wrong
-    captures_refuse_not sdp captures ts r run are wrong =
-        first_capture_not sdp captures ts r run are wrong.0 wrong.1
+        → IsFilesRefusal ts sdp [] (WasRead gave ended) captures r → ⊥
+    captures_refuse_not sdp captures ts r run are (inl stops) =
+        files_not gave ended [] captures r run.whole stops
+    captures_refuse_not sdp captures ts r run are (inr (none, first)) =
+        first_capture_not sdp captures ts r run are none first
 
     text_not : (s : S × S) (captures : List (S × S)) (ts : List ℕ) (r : Refusal)
         → Run (Some s) captures → AreTimestamps window ts
@@ -194,7 +180,7 @@ module _ {S : Type 0} (gave : S → List ℕ) (ended : S → Type 0) (window sou
         opening_not window source octets (datagrams_read gave captures) (since old new)
         (run_received gave ended window source octets (Some s) captures wanted shown printed old new
         shows run refl) ts are r
-        (wrong octets (was_read gave ended s))
+        (wrong.1 octets (was_read gave ended s))
 
     given_text_not : (sdp : Option (S × S)) (captures : List (S × S)) (ts : List ℕ)
         (r : Refusal) → Run sdp captures → AreTimestamps window ts
@@ -208,8 +194,9 @@ module _ {S : Type 0} (gave : S → List ℕ) (ended : S → Type 0) (window sou
     receive_not sdp captures r run (inl word) =
         word_not window source (IsOpeningText (WasRead gave ended) sdp (all_read gave captures))
         (datagrams_read gave captures) wanted shown printed old new r
-        (run.saved (all_read gave captures) (all_were_read gave ended captures)) word
-    receive_not sdp captures r run (inr (ts, are, inl given)) =
-        given_text_not sdp captures ts r run are given
-    receive_not sdp captures r run (inr (ts, are, inr captures_refuse)) =
-        captures_refuse_not sdp captures ts r run are captures_refuse
+        (run.saved (all_read gave captures) (all_were_read gave ended captures)) word.0
+    receive_not sdp captures r run (inr (ts, ask, inl given)) =
+        given_text_not sdp captures ts r run ask.0 given
+    receive_not sdp captures r run (inr (ts, ask, inr (opens, first))) =
+        captures_refuse_not sdp captures ts r run ask.0
+        (first_is_one ts sdp [] (WasRead gave ended) captures r first)

@@ -9,15 +9,15 @@ use Rattle.st_format.specs.declared.format.Format.{Format}
 use Rattle.media_file.specs.declared.fault.FileFault.{FileFault}
 use Rattle.packet_plan.specs.Plan.{IsSize}
 use Rattle.packet_plan.specs.Sender.{Sender, SendsFrom}
-use Rattle.packet_plan.specs.declared.plan.PlanFault.{PlanFault}
 use Rattle.run_outcome.specs.Moments.{WasRead}
-use Rattle.run_outcome.specs.Pictures.{IsPictureRefusal, IsPlanFault}
+use Rattle.run_outcome.specs.Pictures.{IsPictureRefusal, SaysPicture, SaysPictureOf}
 use Rattle.run_outcome.specs.TextRefusals.{SaysText}
 use Rattle.run_outcome.specs.declared.refusal.Refusal.{Refusal}
 use Rattle.run_outcome.specs.declared.refusal.Refusal.TheVariants as why
 use Rattle.capture_engines.specs.Sending.{SayPictures, SendsAll, TakesPictures, run_sender}
-use Rattle.capture_engines.specs.Sent.{FirstSays, IsPicturesRefusal, IsSaidRefusal, IsSendRefusal}
-use Rattle.capture_engines.specs.Sent.{OneIs, SaysOther}
+use Rattle.capture_engines.specs.Sent.{IsFirstPictureRefusal, IsLaterPictureRefusal}
+use Rattle.capture_engines.specs.Sent.{IsPicturesRefusal, IsRestRefusal, IsSaidRefusal}
+use Rattle.capture_engines.specs.Sent.{IsSendRefusal}
 use Rattle.capture_engines.specs.declared.sender.Sending.{Sending}
 use Rattle.run_laws.specs.Received.{read_of}
 use Rattle.run_laws.proofs.NoProcessRefusals.{text_not}
@@ -47,55 +47,87 @@ module _ {S : Type 0} (gave : S → List ℕ) (ended : S → Type 0) where
   as_many (u ∷ us) (v ∷ vs) [] say = absurd say
   as_many (u ∷ us) (v ∷ vs) (p ∷ ps) say = ap (λ (n : ℕ). suc n) (as_many us vs ps say.1)
 
-  -- no source of them is at fault
-  none_at_fault : (us vs : List S) (ps : List Values) (f : FileFault)
-      → SayPictures (WasRead gave ended) us vs ps
+  -- what was read is such a picture
+  says_of : (s : S × S) (p : Values) (f : Format) → SaysPicture (WasRead gave ended s) p
+      → p.format ≡ f → SaysPictureOf (WasRead gave ended s) f
+  says_of s p f says same octets there = (p, same, says octets there)
+
+  -- it says one format
+  pub format_read : (s : S × S) (f g : Format) → SaysPictureOf (WasRead gave ended s) f
+      → SaysPictureOf (WasRead gave ended s) g → f ≡ g
+  format_read s f g says other =
+      let octets : List ℕ = read_of gave s in
+      let there = was_read gave ended s in
+      let a = says octets there in
+      let b = other octets there in
+      sym a.1 ∙ one_format octets a.0 b.0 a.2 b.2 ∙ b.1
+
+  -- so its file is not refused
+  pub file_not : (s : S × S) (f : Format) (e : FileFault) → AreOctets (read_of gave s)
+      → SaysPictureOf (WasRead gave ended s) f
+      → IsPictureRefusal (WasRead gave ended s) (why.Picture e) → ⊥
+  file_not s f e bytes says wrong =
+      let octets : List ℕ = read_of gave s in
+      let there = was_read gave ended s in
+      let p = says octets there in
+      no_picture_fault octets p.0 e bytes p.2 (wrong octets there bytes)
+
+  -- nor is it as the first one, of a format that has plans
+  pub first_not : (most : ℕ) (s : S × S) (f : Format) (r : Refusal) → AreOctets (read_of gave s)
+      → SaysPictureOf (WasRead gave ended s) f → IsSize most f
+      → IsFirstPictureRefusal most (WasRead gave ended s) r → ⊥
+  first_not most s f (why.Picture e) bytes says size wrong = file_not s f e bytes says wrong
+  first_not most s f (why.Plan e) bytes says size wrong =
+      no_plan_fault most wrong.0 e
+      (subst (λ (x : Format). IsSize most x) (format_read s f wrong.0 says wrong.1) size) wrong.2
+  first_not most s f r bytes says size wrong = absurd wrong
+
+  -- nor behind a first one of its format
+  pub later_not : (s : S × S) (f : Format) (r : Refusal) → AreOctets (read_of gave s)
+      → SaysPictureOf (WasRead gave ended s) f
+      → IsLaterPictureRefusal f (WasRead gave ended s) r → ⊥
+  later_not s f (why.Picture e) bytes says wrong = file_not s f e bytes says wrong
+  later_not s f why.SendFormats bytes says wrong =
+      wrong.unlike (format_read s wrong.other f wrong.says says)
+  later_not s f r bytes says wrong = absurd wrong
+
+  -- none of them is refused
+  rest_not : (us vs : List S) (ps : List Values) (f : Format) (r : Refusal)
+      → SayPictures (WasRead gave ended) us vs ps → AllAre f ps
       → ((s : S × S) → IsMember s (zip us vs) → AreOctets (read_of gave s))
-      → OneIs (λ s. IsPictureRefusal (WasRead gave ended s) (why.Picture f)) (zip us vs) → ⊥
-  none_at_fault [] vs ps f say bytes wrong = absurd wrong
-  none_at_fault (u ∷ us) [] ps f say bytes wrong = absurd wrong
-  none_at_fault (u ∷ us) (v ∷ vs) [] f say bytes wrong = absurd say
-  none_at_fault (u ∷ us) (v ∷ vs) (p ∷ ps) f say bytes (inl wrong) =
-      let octets : List ℕ = read_of gave (u, v) in
-      let there = was_read gave ended (u, v) in
-      let here : AreOctets octets = bytes (u, v) (inl refl) in
-      no_picture_fault octets p f here (say.0 octets there) (wrong octets there here)
-  none_at_fault (u ∷ us) (v ∷ vs) (p ∷ ps) f say bytes (inr wrong) =
-      none_at_fault us vs ps f say.1 (λ s there. bytes s (inr there)) wrong
+      → IsRestRefusal f (WasRead gave ended) (zip us vs) r → ⊥
+  rest_not [] vs ps f r say all bytes wrong = absurd wrong
+  rest_not (u ∷ us) [] ps f r say all bytes wrong = absurd wrong
+  rest_not (u ∷ us) (v ∷ vs) [] f r say all bytes wrong = absurd say
+  rest_not (u ∷ us) (v ∷ vs) (p ∷ ps) f r say all bytes (inl wrong) =
+      later_not (u, v) f r (bytes (u, v) (inl refl))
+      (says_of (u, v) p f say.0 (all p (inl refl))) wrong
+  rest_not (u ∷ us) (v ∷ vs) (p ∷ ps) f r say all bytes (inr wrong) =
+      rest_not us vs ps f r say.1 (λ q there. all q (inr there)) (λ s there. bytes s (inr there))
+      wrong.1
 
-  -- none is of another format
-  none_other : (us vs : List S) (ps : List Values) (f : Format)
-      → SayPictures (WasRead gave ended) us vs ps → ((p : Values) → IsMember p ps → p.format ≡ f)
-      → OneIs (λ s. SaysOther (WasRead gave ended s) f) (zip us vs) → ⊥
-  none_other [] vs ps f say all wrong = absurd wrong
-  none_other (u ∷ us) [] ps f say all wrong = absurd wrong
-  none_other (u ∷ us) (v ∷ vs) [] f say all wrong = absurd say
-  none_other (u ∷ us) (v ∷ vs) (p ∷ ps) f say all (inl wrong) =
-      let octets : List ℕ = read_of gave (u, v) in
-      let there = was_read gave ended (u, v) in
-      let other = wrong.says octets there in
-      wrong.unlike
-      (sym other.1 ∙ one_format octets other.0 p other.2 (say.0 octets there) ∙ all p (inl refl))
-  none_other (u ∷ us) (v ∷ vs) (p ∷ ps) f say all (inr wrong) =
-      none_other us vs ps f say.1 (λ q there. all q (inr there)) wrong
+  all_not : (most : ℕ) (us vs : List S) (ps : List Values) (f : Format) (r : Refusal)
+      → SayPictures (WasRead gave ended) us vs ps → AllAre f ps → IsSize most f
+      → ((s : S × S) → IsMember s (zip us vs) → AreOctets (read_of gave s))
+      → IsPicturesRefusal most (WasRead gave ended) (zip us vs) r → ⊥
+  all_not most [] vs ps f r say all size bytes wrong = absurd wrong
+  all_not most (u ∷ us) [] ps f r say all size bytes wrong = absurd wrong
+  all_not most (u ∷ us) (v ∷ vs) [] f r say all size bytes wrong = absurd say
+  all_not most (u ∷ us) (v ∷ vs) (p ∷ ps) f r say all size bytes (inl wrong) =
+      first_not most (u, v) f r (bytes (u, v) (inl refl))
+      (says_of (u, v) p f say.0 (all p (inl refl))) size wrong
+  all_not most (u ∷ us) (v ∷ vs) (p ∷ ps) f r say all size bytes (inr wrong) =
+      let same : f ≡ wrong.0 =
+      format_read (u, v) f wrong.0 (says_of (u, v) p f say.0 (all p (inl refl))) wrong.1 in
+      rest_not us vs ps wrong.0 r say.1 (λ q there. all q (inr there) ∙ same)
+      (λ s there. bytes s (inr there)) wrong.3
 
-  -- the first one's format is that of its picture
-  first_format : (us vs : List S) (p : Values) (ps : List Values) (f : Format)
-      → SayPictures (WasRead gave ended) us vs (p ∷ ps)
-      → FirstSays (WasRead gave ended) f (zip us vs) → p.format ≡ f
-  first_format [] vs p ps f say first = absurd first
-  first_format (u ∷ us) [] p ps f say first = absurd first
-  first_format (u ∷ us) (v ∷ vs) p ps f say first =
-      let octets : List ℕ = read_of gave (u, v) in
-      let there = was_read gave ended (u, v) in
-      let other = first octets there in
-      one_format octets p other.0 (say.0 octets there) other.2 ∙ other.1
-
-  none_first : (us vs : List S) (f : Format) → SayPictures (WasRead gave ended) us vs []
-      → FirstSays (WasRead gave ended) f (zip us vs) → ⊥
-  none_first [] vs f say first = absurd first
-  none_first (u ∷ us) [] f say first = absurd first
-  none_first (u ∷ us) (v ∷ vs) f say first = absurd say
+  -- where there is none, none is
+  none_not : (most : ℕ) (us vs : List S) (r : Refusal) → SayPictures (WasRead gave ended) us vs []
+      → IsPicturesRefusal most (WasRead gave ended) (zip us vs) r → ⊥
+  none_not most [] vs r say wrong = absurd wrong
+  none_not most (u ∷ us) [] r say wrong = absurd wrong
+  none_not most (u ∷ us) (v ∷ vs) r say wrong = absurd say
 
 module _ {S : Type 0} (gave : S → List ℕ) (ended : S → Type 0) (wanted : Sending) (text : List ℕ)
     (us vs : List S) (old new : List ℕ) (count : ℕ)
@@ -107,42 +139,15 @@ module _ {S : Type 0} (gave : S → List ℕ) (ended : S → Type 0) (wanted : S
     few (p ∷ ps) say taken =
         omega (arith, as_many gave ended us vs (p ∷ ps) say, taken.sent.few)
 
-    of_plan : (ps : List Values) (e : PlanFault) (f : Format)
-        → SayPictures (WasRead gave ended) us vs ps
-        → TakesPictures wanted text ps old new count
-        → FirstSays (WasRead gave ended) f (zip us vs) → IsPlanFault wanted.max_octets f e → ⊥
-    of_plan [] e f say taken first wrong = none_first gave ended us vs f say first
-    of_plan (p ∷ ps) e f say taken first wrong =
-        no_plan_fault wanted.max_octets f e
-        (subst (λ (x : Format). IsSize wanted.max_octets x)
-        (first_format gave ended us vs p ps f say first) taken.limits) wrong
-
-    of_formats : (ps : List Values) (f : Format) → SayPictures (WasRead gave ended) us vs ps
-        → TakesPictures wanted text ps old new count
-        → FirstSays (WasRead gave ended) f (zip us vs)
-        → OneIs (λ s. SaysOther (WasRead gave ended s) f) (zip us vs) → ⊥
-    of_formats [] f say taken first wrong = none_first gave ended us vs f say first
-    of_formats (p ∷ ps) f say taken first wrong =
-        let same : p.format ≡ f = first_format gave ended us vs p ps f say first in
-        let all : AllAre p.format (p ∷ ps) =
-        one_sent (run_sender p.format wanted) 0 wanted.first (p ∷ ps) taken.datagrams
-        taken.sent.sent in
-        none_other gave ended us vs (p ∷ ps) f say (are all same) wrong
-      where
-        are : AllAre p.format (p ∷ ps) → p.format ≡ f
-            → (q : Values) → IsMember q (p ∷ ps) → q.format ≡ f
-        are all same q there = all q there ∙ same
-
     pictures_not : (ps : List Values) (r : Refusal) → SayPictures (WasRead gave ended) us vs ps
         → TakesPictures wanted text ps old new count
         → IsPicturesRefusal wanted.max_octets (WasRead gave ended) (zip us vs) r → ⊥
-    pictures_not ps (why.Picture f) say taken wrong =
-        none_at_fault gave ended us vs ps f say bytes wrong
-    pictures_not ps (why.Plan e) say taken wrong =
-        of_plan ps e wrong.0 say taken wrong.1 wrong.2
-    pictures_not ps why.SendFormats say taken wrong =
-        of_formats ps wrong.0 say taken wrong.1 wrong.2
-    pictures_not ps r say taken wrong = absurd wrong
+    pictures_not [] r say taken wrong =
+        none_not gave ended wanted.max_octets us vs r say wrong
+    pictures_not (p ∷ ps) r say taken wrong =
+        all_not gave ended wanted.max_octets us vs (p ∷ ps) p.format r say
+        (one_sent (run_sender p.format wanted) 0 wanted.first (p ∷ ps) taken.datagrams
+        taken.sent.sent) taken.limits bytes wrong
 
     said_not : (sdp later : Option S) (ps : List Values) (r : Refusal)
         → SayPictures (WasRead gave ended) us vs ps
@@ -167,4 +172,4 @@ send_not gave ended wanted sdp sdp_later us vs old new printed printed_new r sen
 send_not gave ended wanted sdp sdp_later us vs old new printed printed_new r sent bytes
     (inr wrong) =
     pictures_not gave ended wanted sent.text us vs old new sent.count bytes
-    sent.pictures.pictures r sent.pictures.say sent.pictures.taken wrong.1
+    sent.pictures.pictures r sent.pictures.say sent.pictures.taken wrong.2

@@ -1,7 +1,7 @@
 -- Against what a run of `inspect` read that ended well, and tells streams, no refusal speaks.
 use Rattle.std.proofs.Common.{◌≡◌, ℕ, zero, suc, ◌<◌, inl, inr, true, List, [], ◌∷◌}
 use Rattle.std.proofs.Common.{length, length-append, take, Option, None, Some, Result}
-use Rattle.std.proofs.Common.{sym, ap, subst, arith}
+use Rattle.std.proofs.Common.{sym, ap, subst, arith, ◌∙◌, ◌++◌}
 use Rattle.std.specs.Prelude.{IsSome}
 use Rattle.std.specs.List.{AllZip}
 use Rattle.flow.specs.declared.flows.Flows.{Flows}
@@ -14,11 +14,13 @@ use Rattle.run_outcome.specs.Moments.{WasRead}
 use Rattle.run_outcome.specs.declared.refusal.Refusal.{Refusal}
 use Rattle.run_outcome.specs.declared.refusal.Refusal.TheVariants as why
 use Rattle.capture_engines.specs.Files.{HasFileText, IsTakenWhole, first_way, flows_in, other_ways}
-use Rattle.capture_engines.specs.Received.{FirstFileRefuses, IsFileOpenedRefusal, IsFrontRefusal}
-use Rattle.capture_engines.specs.Received.{IsOpeningRefusal, OneFileIs, StopsFile}
+use Rattle.capture_engines.specs.Files.{way_at}
+use Rattle.capture_engines.specs.Received.{IsFileOpenedRefusal, IsFrontRefusal, IsOpeningRefusal}
+use Rattle.capture_engines.specs.Received.{StopsFile}
 use Rattle.capture_engines.specs.declared.way.Way.{Way}
 use Rattle.stream_inspection.specs.Aim.{Announces, IsBeginRefusal, IsTarget}
-use Rattle.stream_inspection.specs.Read.{EndsBy, HasRecords, HaveRecords}
+use Rattle.capture_engines.proofs.Untaken.{front_stop}
+use Rattle.stream_inspection.specs.Read.{EndsBy, HasRecords, HaveRecords, IsStartRefusal}
 use Rattle.stream_inspection.specs.Told.{IsStreamsRefusal, Tells, begins}
 use Rattle.stream_inspection.specs.declared.target.Target.{Target}
 use Rattle.stream_inspection.specs.declared.target.Wanted.{Wanted}
@@ -42,7 +44,7 @@ opening_not : (text : List ℕ) (t : Target) (r : Refusal) → Announces text t
     → IsOpeningRefusal (0 ∷ []) text r → ⊥
 opening_not text t (why.Sdp at) says wrong =
     no_text_fault text says.description at.fault says.described wrong
-opening_not text t (why.Open e) says wrong = window_not e (0 ∷ []) one_window wrong
+opening_not text t (why.Open e) says wrong = window_not e (0 ∷ []) one_window wrong.1
 opening_not text t r says wrong = absurd wrong
 
 front_not : (text : List ℕ) (t : Target) (r : Refusal) → Announces text t
@@ -50,7 +52,7 @@ front_not : (text : List ℕ) (t : Target) (r : Refusal) → Announces text t
 front_not text t why.ReceiveNoSdp says wrong =
     let none : Announces [] t = subst (λ (l : List ℕ). Announces l t) wrong says in
     absurd none.described
-front_not text t r says wrong = opening_not text t r says wrong
+front_not text t r says wrong = opening_not text t r says wrong.1
 
 begin_not : (w : Wanted) (sdp : Option (List ℕ)) (files : List (List ℕ)) (t : Target)
     (r : Refusal) → IsTarget w sdp files t → IsBeginRefusal w sdp r → ⊥
@@ -114,13 +116,15 @@ module _ {S : Type 0} (gave : S → List ℕ) (ended : S → Type 0) where
     are_whole (other_ways ways) (t ∷ ss) has.1 has.4 few.1,
   )
 
-  stop_not : (ways : List (Result Flows Refusal)) (files : List (S × S)) (r : Refusal)
-      → Whole ways files → OneFileIs (λ w s. StopsFile w (WasRead gave ended s) r) ways files → ⊥
-  stop_not ways [] r whole wrong = wrong
-  stop_not ways (s ∷ ss) r whole (inl wrong) =
-      stops_not (first_way ways) (WasRead gave ended s) (read_of gave s) r (was_read gave ended s)
-      whole.0 wrong
-  stop_not ways (s ∷ ss) r whole (inr wrong) = stop_not (other_ways ways) ss r whole.1 wrong
+  -- none of them is stopped
+  stop_not : (ways : List (Result Flows Refusal)) (front : List (S × S)) (at : S × S)
+      (behind : List (S × S)) (r : Refusal) → Whole ways (front ++ at ∷ behind)
+      → StopsFile (way_at ways (length front)) (WasRead gave ended at) r → ⊥
+  stop_not ways [] at behind r whole wrong =
+      stops_not (first_way ways) (WasRead gave ended at) (read_of gave at) r
+      (was_read gave ended at) whole.0 wrong
+  stop_not ways (s ∷ ss) at behind r whole wrong =
+      stop_not (other_ways ways) ss at behind r whole.1 wrong
 
   -- none of them has a fault
   ends_not : (ways : List (Result Flows Refusal)) (files : List (S × S)) (count : ℕ)
@@ -145,14 +149,32 @@ module _ {S : Type 0} (gave : S → List ℕ) (ended : S → Type 0) where
       front_not (text_of_file octets) t r says
       (subst (λ (l : List ℕ). IsFrontRefusal (0 ∷ []) l r) (sym (text_is w octets at.0 at.1)) at.2)
 
+  -- what is looked for isn't said by no files, and the first of them isn't refused by its text
+  empty_not : (w : Wanted) (sdp : Option (List ℕ)) (t : Target) → IsTarget w sdp [] t
+      → begins w sdp ≡ None → ⊥
+  empty_not (Given u) sdp t is none = cc
+  empty_not Said (Some text) t is none = cc
+  empty_not Said None t is none = is
+
+  text_not : (w : Wanted) (sdp : Option (List ℕ)) (s : S × S) (ss : List (S × S)) (v : Way)
+      (t : Target) (r : Refusal) → IsTarget w sdp (all_read gave (s ∷ ss)) t
+      → begins w sdp ≡ None → IsFileOpenedRefusal (0 ∷ []) v (WasRead gave ended s) r → ⊥
+  text_not (Given u) sdp s ss v t r is none wrong = cc
+  text_not Said (Some text) s ss v t r is none wrong = cc
+  text_not Said None s ss v t r is none wrong = file_not s v t r is wrong
+
   first_not : (w : Wanted) (sdp : Option (List ℕ)) (ways : List (Result Flows Refusal))
-      (files : List (S × S)) (t : Target) (r : Refusal)
-      → IsTarget w sdp (all_read gave files) t → begins w sdp ≡ None
-      → FirstFileRefuses (0 ∷ []) ways (WasRead gave ended) files r → ⊥
-  first_not (Given u) sdp ways files t r is none wrong = cc
-  first_not Said (Some text) ways files t r is none wrong = cc
-  first_not Said None ways [] t r is none wrong = is
-  first_not Said None ways (s ∷ ss) t r is none wrong = file_not s (first_way ways) t r is wrong
+      (files front : List (S × S)) (at : S × S) (behind : List (S × S)) (t : Target) (r : Refusal)
+      → files ≡ front ++ at ∷ behind → IsTarget w sdp (all_read gave files) t → Whole ways files
+      → IsStartRefusal (way_at ways (length front)) ((begins w sdp ≡ None) × (front ≡ []))
+      (WasRead gave ended at) r → ⊥
+  first_not w sdp ways files front at behind t r parts is whole (inl wrong) =
+      stop_not ways front at behind r (subst (Whole ways) parts whole)
+      (front_stop (way_at ways (length front)) (WasRead gave ended at) r wrong)
+  first_not w sdp ways files front at behind t r parts is whole (inr ((none, empty), wrong)) =
+      text_not w sdp at behind (way_at ways (length front)) t r
+      (subst (λ (l : List (S × S)). IsTarget w sdp (all_read gave l) t)
+      (parts ∙ ap (λ (l : List (S × S)). l ++ at ∷ behind) empty) is) none wrong
 
   pub streams_not : (w : Wanted) (form : Form) (sdp : Option (List ℕ))
       (ways : List (Result Flows Refusal)) (files : List (S × S))
@@ -164,13 +186,15 @@ module _ {S : Type 0} (gave : S → List ℕ) (ended : S → Type 0) where
       let run = tells.printed (all_read gave files) (zipped files) in
       begin_not w sdp (all_read gave files) run.0 r run.1 begin
   streams_not w form sdp ways files shown shown' other other' r tells few
-      (inl (same, inr (inl stop))) =
+      (inl (same, inr (inl (none, empty, is)))) =
       let run = tells.printed (all_read gave files) (zipped files) in
-      stop_not ways files r (are_whole ways files run.2 run.3 few) stop
+      empty_not w sdp run.0
+      (subst (λ (l : List (S × S)). IsTarget w sdp (all_read gave l) run.0) empty run.1) none
   streams_not w form sdp ways files shown shown' other other' r tells few
-      (inl (same, inr (inr (none, first)))) =
+      (inl (same, inr (inr first))) =
       let run = tells.printed (all_read gave files) (zipped files) in
-      first_not w sdp ways files run.0 r run.1 none first
+      first_not w sdp ways files first.front first.at first.behind run.0 r first.parts run.1
+      (are_whole ways files run.2 run.3 few) first.refused
   streams_not w form sdp ways files shown shown' other other' r tells few
       (inr (f, count, is, told)) =
       let run = tells.printed (all_read gave files) (zipped files) in

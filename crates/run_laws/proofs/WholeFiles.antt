@@ -31,10 +31,10 @@ use Rattle.capture_engines.specs.declared.way.Way.TheVariants as way
 
 -- ---- a file that was taken to its end
 
-abbrev pub none_flows : Option Flows
+abbrev none_flows : Option Flows
 none_flows = None
 
-pub no_flows : IsSome none_flows → ⊥
+no_flows : IsSome none_flows → ⊥
 no_flows is = cc
 
 abbrev failed : ReadingFault → Option ReadingFault
@@ -166,11 +166,6 @@ pub stops_not : (w : Way) (told : List ℕ → Type 0) (octets : List ℕ) (r : 
     → IsTakenWhole w octets → StopsFile w told r → ⊥
 stops_not w told octets r there is wrong =
     stops_never w told octets r there (faultless w octets is) wrong
-
-pub plain_not : (w : Way) (told : List ℕ → Type 0) (octets : List ℕ) → told octets
-    → IsTakenWhole w octets → (r : Refusal) → IsPlainRefusal w told r → ⊥
-plain_not w told octets there is r wrong =
-    plain_never w told octets there (faultless w octets is) r wrong
 
 -- the text of a file is the one that it is said to have
 pub text_is : (w : Way) (octets text : List ℕ) → HasFileText w octets text

@@ -4,3 +4,4 @@ pub mod Scripts
 pub mod Sent
 pub mod Exported
 pub mod Streams
+pub mod Told

@@ -1,12 +1,13 @@
 //! Laws on whole runs: what `receive` and `merge` write, octet for octet; what is received of what
-//! `send`, `process`, `migrate` and `loop` send; what `trace` and `rehearse` print; and that no
-//! refusal speaks against a run that ended well.
+//! `send`, `process`, `migrate` and `loop` send; what `trace` and `rehearse` print; that no refusal
+//! speaks against a run that ended well; and that what was read determines which one is told.
 #![tactic(auto)]
 
 mod exported;
 mod laws;
 mod scripts;
 mod sent;
+mod told_once;
 mod unrefused;
 
 pub use exported::{exported_again, exported_and_received, imported_and_received, imported_export};
@@ -19,6 +20,7 @@ pub use sent::{
     looped_picture, migrated_again, migrated_and_received, processed_again, processed_and_received,
     processed_once, sent_and_received, sent_file, written_again,
 };
+pub use told_once::{one_receive_refusal, one_send_refusal};
 pub use unrefused::{
     convert_unrefused, export_unrefused, import_unrefused, inspect_streams_unrefused,
     inspect_unrefused, loop_unrefused, merge_unrefused, migrate_unrefused, picture_unrefused,

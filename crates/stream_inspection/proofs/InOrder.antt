@@ -1,19 +1,22 @@
 -- Files that are noted, one after the other.
 use Rattle.std.proofs.Common.{◌≡◌, ◌∙◌, ℕ, zero, suc, ◌+◌, ◌≤◌, List, [], ◌∷◌, ◌++◌, length, take}
 use Rattle.std.proofs.Common.{drop, Option, None, Some, Result, refl, ap, sym, subst, arith}
-use Rattle.std.proofs.Common.{append_assoc, append-nil}
+use Rattle.std.proofs.Common.{append_assoc, append-nil, inl, inr}
 use Rattle.std.proofs.lemmas.List.{take_all}
 use Rattle.std.specs.List.{AllZip, zip}
 use Rattle.capture_engines.specs.Files.{first_way, other_ways, way_at}
+use Rattle.capture_engines.specs.Received.{IsFileOpenedRefusal, StopsFront}
 use Rattle.capture_engines.specs.Sent.{FirstIs}
 use Rattle.capture_engines.proofs.InOrder.{NextPair, next_pair}
+use Rattle.capture_engines.proofs.ReceivedRefusals.{HasStarted}
 use Rattle.flow.specs.declared.flows.Flows.{Flows}
 use Rattle.media_file.specs.Records.{Entry}
 use Rattle.recording_reader.specs.declared.fault.ReadingFault.{ReadingFault}
 use Rattle.run_outcome.specs.declared.refusal.Refusal.{Refusal}
 use Rattle.stream_inspection.specs.Inspected.{IsInspected}
-use Rattle.stream_inspection.specs.Read.{HasRecords, HaveRecords, IfEnd, MayBe, NotesFile}
-use Rattle.stream_inspection.specs.Read.{NotesFiles, NotesUpTo, Settles}
+use Rattle.stream_inspection.specs.Read.{HasRecords, HaveRecords, IfEnd, IsFirstFront, IsSettled}
+use Rattle.stream_inspection.specs.Read.{IsStartRefusal, MayBe, NotesFile, NotesFiles, NotesUpTo}
+use Rattle.stream_inspection.specs.Read.{Settles}
 use Rattle.stream_inspection.specs.declared.inspection.Inspection.{Inspection}
 use Rattle.stream_inspection.specs.declared.target.Target.{Target}
 use Rattle.stream_inspection.proofs.Readings.{if_end}
@@ -209,3 +212,81 @@ up_to {S} ways told start now new k f before b a old mid newer files front behin
           behind is),
     ))
     one
+
+-- ---- the first front that is refused
+
+-- the pair of a place, with those before it and behind it
+record At {S : Type 0} (Is : S × S → Type 0) (start now : List S) (k : ℕ) : Type 0 where
+  pub next : S × S
+  pub is : Is next
+  pub behind : List (S × S)
+  pub parts : zip start now ≡ zip (take k start) (take k now) ++ next ∷ behind
+  pub counted : length (zip (take k start) (take k now)) ≡ k
+
+at_place : {S : Type 0} (Is : S × S → Type 0) (start now : List S) (k : ℕ)
+    → FirstIs Is (zip (drop k start) (drop k now)) → At Is start now k
+at_place Is [] now zero is = absurd is
+at_place Is (s ∷ ss) [] zero is = absurd is
+at_place Is (s ∷ ss) (t ∷ ts) zero is =
+    record { next = (s, t); is = is; behind = zip ss ts; parts = refl; counted = refl }
+at_place Is [] now (suc k) is = absurd is
+at_place Is (s ∷ ss) [] (suc k) is = absurd (no_pairs Is (drop k ss) is)
+  where
+    no_pairs : {S : Type 0} (Is : S × S → Type 0) (xs : List S) → FirstIs Is (zip xs []) → ⊥
+    no_pairs Is [] is = is
+    no_pairs Is (x ∷ xs) is = is
+at_place {S} Is (s ∷ ss) (t ∷ ts) (suc k) is =
+    let n : At Is ss ts k = at_place Is ss ts k is in
+    record {
+      next = n.next;
+      is = n.is;
+      behind = n.behind;
+      parts = ap (λ (l : List (S × S)). (s, t) ∷ l) n.parts;
+      counted = ap suc n.counted;
+    }
+
+-- by its text only the first is refused, where nothing was begun with
+turn : {S : Type 0} (ways : Ways) (told : S → List ℕ → Type 0) (front : List S) (k : ℕ)
+    (before b : Option Target) (x : S) (r : Refusal) → length front ≡ k → HasStarted k before b
+    → IsStartRefusal (way_at ways k) (b ≡ None) (told x) r
+    → IsStartRefusal (way_at ways (length front)) ((before ≡ None) × (front ≡ [])) (told x) r
+turn ways told front k before b x r counted started (inl stops) =
+    inl (subst (λ (n : ℕ). StopsFront (way_at ways n) (told x) r) (sym counted) stops)
+turn ways told front k before b x r counted (inl started) (inr opened) =
+    inr (
+      (sym started.1 ∙ opened.0, empty front (counted ∙ started.0)),
+      subst (λ (n : ℕ). IsFileOpenedRefusal (0 ∷ []) (way_at ways n) (told x) r) (sym counted)
+          opened.1,
+    )
+  where
+    empty : {T : Type 0} (xs : List T) → length xs ≡ 0 → xs ≡ []
+    empty [] is = refl
+    empty (y ∷ ys) is = absurd (omega (arith, is))
+turn ways told front k before b x r counted (inr started) (inr opened) =
+    absurd (started opened.0)
+
+-- the files before it were noted to their ends
+pub first_front : {S A : Type 0} (ways : Ways) (told : S × S → List ℕ → Type 0)
+    (start now new : List S) (k : ℕ) (before b : Option Target) (old mid : Inspection A)
+    → NotesFiles ways told (zip (take k start) (take k now)) None before b old mid
+    → take k new ≡ take k now → drop k now ≡ drop k start → HasStarted k before b → (r : Refusal)
+    → FirstIs (λ s. IsStartRefusal (way_at ways k) (b ≡ None) (told s) r)
+    (zip (drop k now) (drop k new))
+    → IsFirstFront (before ≡ None) (IsSettled before) ways told (zip start new) r
+first_front {S} ways told start now new k before b old mid files front behind started r one =
+    let Is : S × S → Type 0 = λ s. IsStartRefusal (way_at ways k) (b ≡ None) (told s) r in
+    let place : At Is start new k =
+    at_place Is start new k (subst (λ (l : List S). FirstIs Is (zip l (drop k new))) behind one) in
+    let so_far : List (S × S) = zip (take k start) (take k new) in
+    let earlier : NotesFiles ways told so_far None before b old mid =
+    subst (λ (l : List S). NotesFiles ways told (zip (take k start) l) None before b old mid)
+    (sym front) files in
+    record {
+      front = so_far;
+      at = place.next;
+      behind = place.behind;
+      parts = place.parts;
+      known = λ octets read. (b, earlier.settles octets read);
+      whole = λ octets read. (earlier.records, (earlier.noted octets read).0);
+      refused = turn ways told so_far k before b place.next r place.counted started place.is;
+    }

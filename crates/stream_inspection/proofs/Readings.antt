@@ -3,10 +3,11 @@ use Rattle.std.proofs.Common.{◌≡◌, ◌∙◌, ℕ, ◌⊎◌, inl, inr, Li
 use Rattle.std.proofs.Common.{false, Option, None, Some, Result, Ok, Err, refl, ap, sym, subst}
 use Rattle.std.specs.Prelude.{IfErr, IfOk, IsSome, MatchOption, OnOk}
 use Rattle.capture_engines.specs.Files.{HasFileText, flows_in}
-use Rattle.capture_engines.specs.Received.{IsFrontRefusal, IsTakeRefusal}
+use Rattle.capture_engines.specs.Received.{IsFrontRefusal, StopsFront}
 use Rattle.capture_engines.specs.declared.way.Way.{Way}
 use Rattle.run_outcome.proofs.Blaming.{reading_blamed}
-use Rattle.capture_engines.proofs.ReceivedRefusals.{text_refused, no_text}
+use Rattle.run_outcome.proofs.Refusals.{of_refusal_map}
+use Rattle.capture_engines.proofs.ReceivedRefusals.{no_text, text_opens}
 use Rattle.flow.specs.declared.flows.Flows.{Flows}
 use Rattle.media_file.specs.Faults.{file_fault_origin}
 use Rattle.media_file.specs.Records.{Entry, records_text}
@@ -28,7 +29,8 @@ use Rattle.st_format.specs.History.{IsRead}
 use Rattle.st_format.proofs.Origins.{if_content, if_content_weaker}
 use Rattle.stream_inspection.specs.Aim.{Announces}
 use Rattle.stream_inspection.specs.Inspected.{IsInspected, Notes}
-use Rattle.stream_inspection.specs.Read.{EndsBy, HasRecords, IfEnd, IsEnd, MayBe, NotesFile}
+use Rattle.stream_inspection.specs.Read.{EndsBy, HasRecords, IfEnd, IsEnd, IsStartRefusal, MayBe}
+use Rattle.stream_inspection.specs.Read.{NotesFile}
 use Rattle.stream_inspection.specs.Read.{NotesRecords, Settles, SettlesBy, counts_end, ended_by}
 use Rattle.stream_inspection.specs.declared.inspection.Inspection.{Inspection}
 use Rattle.stream_inspection.specs.declared.target.Target.{Target}
@@ -226,22 +228,35 @@ file_noted_if r lent gave ended old now w text before after i j (Err e) was is b
     parts at notes = tt
 
 -- and of the refusal of its text
-pub text_refuses : {S T X V : Type 0} (window text : List ℕ) (w : Way) (begun : Option X)
+pub text_refuses : {S T V : Type 0} (text : List ℕ) (w : Way) (Unknown : Type 0)
     (r : FileReader T) (lent : T → S) (gave : S → List ℕ) (ended : S → Type 0) (old now : S)
     (result : Result V Fault) → r.before.gave ≡ gave old → now ≡ lent r.source
     → r.flows ≡ flows_in w → text ≡ r.text → (r.is_recording ≡ true → IsSome r.flows)
     → HasGivenFile (λ (x : T). gave (lent x)) (λ (x : T). ended (lent x)) r
     → (r.is_recording ≡ false → HasGivenRecords (λ (x : T). gave (lent x)) (λ (x : T). ended (lent x)) r)
-    → IfErr result (λ f. OfRefusal f (λ x. (begun ≡ None) × IsFrontRefusal window text x))
-    → IfErr result (λ f. OfRefusal f (IsTakeRefusal window w begun
+    → IfErr result (λ f. OfRefusal f (λ x. Unknown × IsFrontRefusal (0 ∷ []) text x))
+    → IfErr result (λ f. OfRefusal f (IsStartRefusal w Unknown
     (IsRead (gave old) (gave now) (ended now))))
-text_refuses window text w begun r lent gave ended old now (Ok v) was is by same flows given parts
-    of = tt
-text_refuses {S} {T} window text w begun r lent gave ended old now (Err f) was is by same flows given
-    parts of =
-    subst (λ (s : S). OfRefusal f (IsTakeRefusal window w begun
-    (IsRead (gave old) (gave s) (ended s)))) (sym is)
-    (subst (λ (l : List ℕ). OfRefusal f (IsTakeRefusal window w begun
+text_refuses text w Unknown r lent gave ended old now (Ok v) was is by same flows given parts of = tt
+text_refuses {S} {T} text w Unknown r lent gave ended old now (Err f) was is by same flows given parts
+    of =
+    subst (λ (s : S). OfRefusal f (IsStartRefusal w Unknown (IsRead (gave old) (gave s) (ended s))))
+    (sym is)
+    (subst (λ (l : List ℕ). OfRefusal f (IsStartRefusal w Unknown
     (IsRead l (gave (lent r.source)) (ended (lent r.source))))) was
-    (text_refused window text w begun (λ (x : T). gave (lent x)) (λ (x : T). ended (lent x)) r f by flows same
-    given parts of))
+    (of_refusal_map f
+    (λ x refused. inr (
+      refused.0,
+      text_opens (λ (y : T). gave (lent y)) (λ (y : T). ended (lent y)) r w by flows given parts x
+          (0 ∷ []) text same refused.1,
+    )) of))
+
+-- what stopped a file before its records is its refusal
+pub front_refuses : {T : Type 0} (w : Way) (Unknown : Type 0) (gave : T → List ℕ)
+    (ended : T → Type 0) (old new now : T) (f : Fault) → new ≡ now
+    → OfRefusal f (StopsFront w (IsRead (gave old) (gave now) (ended now)))
+    → OfRefusal f (IsStartRefusal w Unknown (IsRead (gave old) (gave new) (ended new)))
+front_refuses {T} w Unknown gave ended old new now f same stops =
+    subst (λ (t : T). OfRefusal f (IsStartRefusal w Unknown
+    (IsRead (gave old) (gave t) (ended t)))) (sym same)
+    (of_refusal_map f (λ x is. inl is) stops)

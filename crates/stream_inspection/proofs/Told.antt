@@ -1,9 +1,9 @@
 -- What was printed is the text of what was read.
 use Rattle.std.proofs.Common.{◌≡◌, ◌∙◌, ℕ, List, [], ◌∷◌, ◌++◌, take, Option, None, Some, refl, ap, sym, subst}
-use Rattle.std.proofs.Common.{map, inl, inr}
+use Rattle.std.proofs.Common.{map, inl, inr, length}
 use Rattle.std.specs.List.{flat_map, zip}
 use Rattle.std.proofs.Common.{Result, Ok, Err, OnOk}
-use Rattle.capture_engines.specs.Received.{FirstFileRefuses}
+use Rattle.capture_engines.specs.Files.{way_at}
 use Rattle.flow.specs.declared.flows.Flows.{Flows}
 use Rattle.media_file.specs.Records.{Entry}
 use Rattle.media_file.specs.declared.fault.FileFault.TheVariants as file
@@ -16,17 +16,16 @@ use Rattle.run_outcome.specs.declared.fault.Fault.{Fault}
 use Rattle.run_outcome.specs.declared.fault.Fault.TheVariants.{Refused, Device, Memory}
 use Rattle.run_outcome.specs.Refusing.{OfRefusal}
 use Rattle.run_outcome.specs.declared.refusal.Refusal.{Refusal}
-use Rattle.run_outcome.specs.declared.refusal.Refusal.TheVariants as refusal
 use Rattle.run_outcome.specs.LowerFaults.{reading_fault}
 use Rattle.recording_counts.specs.Streams.{is_same, key_of}
 use Rattle.recording_counts.specs.Tables.{different, of_key}
 use Rattle.recording_counts.specs.declared.packet.Packet.{Packet}
 use Rattle.recording_counts.specs.declared.packet.StreamKey.{StreamKey}
-use Rattle.stream_inspection.specs.Aim.{Announces, IsBegun, IsTarget}
+use Rattle.stream_inspection.specs.Aim.{Announces, IsAimed, IsBegun, IsTarget}
 use Rattle.stream_inspection.specs.Inspected.{IsInspected}
 use Rattle.stream_inspection.specs.Numbers.{told_stream, told_streams}
-use Rattle.stream_inspection.specs.Read.{IfEnd, MayBe, NotesFiles, NotesUpTo}
-use Rattle.stream_inspection.specs.Read.{Settles, ended_by}
+use Rattle.stream_inspection.specs.Read.{IfEnd, IsFirstFront, IsSettled, IsStartRefusal, MayBe}
+use Rattle.stream_inspection.specs.Read.{NotesFiles, NotesUpTo, Settles, ended_by}
 use Rattle.stream_inspection.specs.Streams.{stream_lines}
 use Rattle.stream_inspection.specs.Told.{IsEndRefusal, IsStreamsRefusal, IsText}
 use Rattle.stream_inspection.specs.Told.{Prints, Tells, begins}
@@ -156,12 +155,44 @@ memory_blamed Device d e not is same = absurd (not refl)
 memory_blamed Memory d e not is same = (is, same)
 
 -- a run with no file
-pub no_files : {S : Type 0} (ways : List (Result Flows Refusal))
-    (told : S × S → List ℕ → Type 0) (old new : List S) → old ≡ []
-    → FirstFileRefuses (0 ∷ []) ways told (zip old new) refusal.ReceiveNoSdp
-no_files ways told old new none =
-    subst (λ (l : List _). FirstFileRefuses (0 ∷ []) ways told (zip l new) refusal.ReceiveNoSdp)
-    (sym none) refl
+pub no_files : {S : Type 0} (old new : List S) → old ≡ [] → zip old new ≡ []
+no_files {S} old new none = subst (λ (l : List S). zip l new ≡ []) (sym none) refl
+
+-- what is looked for is known behind files, by what is wanted
+is_aimed : (w : Wanted) (sdp : Option (List ℕ)) (begun after : Option Target)
+    (octets : List (List ℕ)) → IsBegun w sdp begun → Settles begun octets after
+    → IsAimed w sdp octets
+is_aimed (Given u) sdp begun after octets opens settles = tt
+is_aimed Said (Some text) begun after octets opens settles = (opens.0, opens.2)
+is_aimed Said None begun after [] opens settles = tt
+is_aimed Said None begun after (o ∷ os) opens settles =
+    let first = subst (λ (b : Option Target). Settles b (o ∷ os) after) opens settles in
+    (first.0, first.2)
+
+-- so the first front that is refused is the first of a run
+pub front_aimed : {S : Type 0} (w : Wanted) (sdp : Option (List ℕ)) (begun : Option Target)
+    (ways : List (Result Flows Refusal)) (told : S → List ℕ → Type 0) (files : List S)
+    → IsBegun w sdp begun → (r : Refusal)
+    → IsFirstFront (begun ≡ None) (IsSettled begun) ways told files r
+    → IsFirstFront (begins w sdp ≡ None) (IsAimed w sdp) ways told files r
+front_aimed w sdp begun ways told files opens r first = record {
+  front = first.front;
+  at = first.at;
+  behind = first.behind;
+  parts = first.parts;
+  known = λ octets read.
+      let settled = first.known octets read in
+      is_aimed w sdp begun settled.0 octets opens settled.1;
+  whole = first.whole;
+  refused = by first.refused;
+}
+  where
+    by : IsStartRefusal (way_at ways (length first.front)) ((begun ≡ None) × (first.front ≡ []))
+        (told first.at) r
+        → IsStartRefusal (way_at ways (length first.front))
+        ((begins w sdp ≡ None) × (first.front ≡ [])) (told first.at) r
+    by (inl stops) = inl stops
+    by (inr opened) = inr ((begun_none w sdp begun opens opened.0.0, opened.0.1), opened.1)
 
 -- ---- the run
 

@@ -1,5 +1,5 @@
 -- What the datagrams of a stream are to be, and what says it (own).
-use Rattle.std.specs.Prelude.{◌≡◌, ℕ, List, [], ◌∷◌, Option, None, Some, MatchOption}
+use Rattle.std.specs.Prelude.{◌≡◌, ℕ, List, [], ◌∷◌, Option, None, Some, MatchOption, ⊤}
 use Rattle.sdp_format.specs.Bytes.{lines}
 use Rattle.sdp_format.specs.Grammar.{IsDescribed}
 use Rattle.sdp_format.specs.Sections.{Description, video_sections}
@@ -29,6 +29,14 @@ abbrev pub IsTarget : Wanted → Option (List ℕ) → List (List ℕ) → Targe
 IsTarget (Given u) sdp files t = t ≡ u
 IsTarget Said None files t = FirstAnnounces files t
 IsTarget Said (Some text) files t = Announces text t
+
+-- It is known behind some files: what is given; or the SDP text that is given says it; or else that
+-- of the first file, where there is one.
+abbrev pub IsAimed : Wanted → Option (List ℕ) → List (List ℕ) → Type 0
+IsAimed (Given u) sdp files = ⊤
+IsAimed Said (Some text) files = (t : Target) × Announces text t
+IsAimed Said None [] = ⊤
+IsAimed Said None (octets ∷ files) = (t : Target) × Announces (text_of_file octets) t
 
 -- what is known of it before files are read
 abbrev pub IsBegun : Wanted → Option (List ℕ) → Option Target → Type 0

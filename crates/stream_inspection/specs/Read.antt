@@ -3,7 +3,8 @@
 use Rattle.std.specs.Prelude.{◌≡◌, ℕ, ◌-◌, ◌^◌, ◌⊎◌, ⊤, List, [], ◌∷◌, ◌++◌, length, take}
 use Rattle.std.specs.Prelude.{Option, None, Some, Result, Ok, Err}
 use Rattle.std.specs.List.{AllZip}
-use Rattle.capture_engines.specs.Files.{HasFileText, first_way, flows_in, other_ways}
+use Rattle.capture_engines.specs.Files.{HasFileText, first_way, flows_in, other_ways, way_at}
+use Rattle.capture_engines.specs.Received.{IsFileOpenedRefusal, StopsFront}
 use Rattle.capture_engines.specs.declared.way.Way.{Way}
 use Rattle.flow.specs.declared.flows.Flows.{Flows}
 use Rattle.media_file.specs.Records.{Entry}
@@ -81,6 +82,28 @@ HaveRecords ways (octets ∷ (next ∷ files)) records end =
     × HasRecords (first_way ways) octets first None
     × HaveRecords (other_ways ways) (next ∷ files) others end
 
+-- ---- the first refusal
+
+-- The refusals of the front of a file that is taken so: what stops it before its records; and of
+-- its text, where what is looked for isn't known.
+abbrev pub IsStartRefusal : Way → Type 0 → (List ℕ → Type 0) → Refusal → Type 0
+IsStartRefusal w Unknown told r =
+    StopsFront w told r ⊎ (Unknown × IsFileOpenedRefusal (0 ∷ []) w told r)
+
+-- The front of a file is refused, of files that are read in turn, each taken so, and it is the
+-- first: those before it are whole, and what is looked for is known behind them.
+pub record IsFirstFront {S : Type 0} (Unknown : Type 0) (Known : List (List ℕ) → Type 0)
+    (ways : List (Result Flows Refusal)) (told : S → List ℕ → Type 0) (files : List S)
+    (r : Refusal) : Type 0 where
+  pub front : List S
+  pub at : S
+  pub behind : List S
+  pub parts : files ≡ front ++ at ∷ behind
+  pub known : (octets : List (List ℕ)) → AllZip told front octets → Known octets
+  pub whole : (octets : List (List ℕ)) → AllZip told front octets
+      → (records : List Entry) × HaveRecords ways octets records None
+  pub refused : IsStartRefusal (way_at ways (length front)) (Unknown × (front ≡ [])) (told at) r
+
 -- ---- on the way there
 
 -- what is looked for behind files, by what was begun with: that, or what the first one's text says
@@ -89,6 +112,10 @@ Settles (Some t) files after = after ≡ Some t
 Settles None [] after = after ≡ None
 Settles None (octets ∷ files) after =
     (t : Target) × (after ≡ Some t) × Announces (text_of_file octets) t
+
+-- it is known then
+abbrev pub IsSettled : Option Target → List (List ℕ) → Type 0
+IsSettled begun files = (after : Option Target) × Settles begun files after
 
 -- so behind one with this text
 abbrev pub SettlesBy : Option Target → List ℕ → Option Target → Type 0

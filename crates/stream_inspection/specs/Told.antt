@@ -3,7 +3,6 @@ use Rattle.std.specs.Prelude.{◌≡◌, ℕ, ◌⊎◌, List, [], ◌∷◌, �
 use Rattle.std.specs.Prelude.{Some}
 use Rattle.std.specs.Prelude.{Result}
 use Rattle.std.specs.List.{AllZip, flat_map}
-use Rattle.capture_engines.specs.Received.{IsFilesRefusal}
 use Rattle.path_receiver.specs.Tallied.{Tallies, slot_of}
 use Rattle.path_receiver.specs.declared.tally.Tally.{Tally}
 use Rattle.flow.specs.declared.flows.Flows.{Flows}
@@ -13,18 +12,19 @@ use Rattle.path_receiver.specs.Answers.{all_refusals}
 use Rattle.recording_reader.specs.declared.fault.ReadingFault.{ReadingFault}
 use Rattle.run_outcome.specs.declared.fault.Fault.TheVariants as outcome
 use Rattle.run_outcome.specs.declared.refusal.Refusal.{Refusal}
+use Rattle.run_outcome.specs.declared.refusal.Refusal.TheVariants as refusal
 use Rattle.run_outcome.specs.LowerFaults.{reading_fault}
 use Rattle.recording_counts.specs.Timestamps.{timestamps_of}
 use Rattle.recording_counts.specs.declared.stream.StreamCount.{StreamCount}
 use Rattle.recording_counts.specs.declared.timestamp.TimestampCount.{TimestampCount}
-use Rattle.stream_inspection.specs.Aim.{IsBeginRefusal, IsTarget}
+use Rattle.stream_inspection.specs.Aim.{IsAimed, IsBeginRefusal, IsTarget}
 use Rattle.stream_inspection.specs.Arrivals.{Arrival, answers_of, arrivals_of, packets, video_of}
 use Rattle.stream_inspection.specs.Columns.{window_column}
 use Rattle.stream_inspection.specs.Inspected.{IsInspected, controls_of}
 use Rattle.stream_inspection.specs.Json.{window_json}
 use Rattle.stream_inspection.specs.Lines.{counted_line, row_line}
 use Rattle.stream_inspection.specs.Numbers.{told_streams}
-use Rattle.stream_inspection.specs.Read.{HaveRecords}
+use Rattle.stream_inspection.specs.Read.{HaveRecords, IsFirstFront}
 use Rattle.stream_inspection.specs.Skews.{IsOrderOf, skew_row, skews_in}
 use Rattle.stream_inspection.specs.Streams.{stream_lines}
 use Rattle.stream_inspection.specs.Timestamps.{timestamps_text, window_of}
@@ -93,14 +93,16 @@ begins (wanted.Given t) sdp = Some tt
 begins wanted.Said None = None
 begins wanted.Said (Some text) = Some tt
 
--- The refusals. Nothing was printed: those of the SDP text, or of the files, as `receive` refuses
--- them. All was printed that came before: the fault of a file.
+-- The refusals, each the first. Nothing was printed: of the SDP text; that nothing says what is
+-- looked for, since there are no files; of the front of a file. All was printed that came before:
+-- the fault of a file behind its front, of which those before it are whole.
 abbrev pub IsStreamsRefusal : {S : Type 0} → Wanted → Form → Option (List ℕ)
     → List (Result Flows Refusal) → (S → List ℕ → Type 0) → List S → List ℕ → List ℕ → Refusal
     → Type 0
 IsStreamsRefusal w form sdp ways told files shown shown' r =
     ((shown' ≡ shown) × (IsBeginRefusal w sdp r
-    ⊎ IsFilesRefusal (0 ∷ []) (begins w sdp) ways told files r))
+    ⊎ ((begins w sdp ≡ None) × (files ≡ []) × (r ≡ refusal.ReceiveNoSdp))
+    ⊎ IsFirstFront (begins w sdp ≡ None) (IsAimed w sdp) ways told files r))
     ⊎ ((f : ReadingFault) × (count : ℕ) × (reading_fault f ≡ outcome.Refused r)
     × Tells w form sdp ways told (take count files) (Some f) shown shown')
 

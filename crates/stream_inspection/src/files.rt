@@ -3,7 +3,7 @@ ghost use Rattle.std.specs.Prelude.{◌≡◌, ◌≤◌, ◌<◌, ◌+◌, ◌�
 ghost use Rattle.std.specs.Prelude.{drop, length, sum_by, take, OnOk};
 ghost use Rattle.std.specs.List.{zip};
 ghost use Rattle.capture_engines.specs.Files.{way_at};
-ghost use Rattle.capture_engines.specs.Received.{IsFilesRefusal, IsFrontRefusal, IsTakeRefusal};
+ghost use Rattle.capture_engines.specs.Received.{IsFrontRefusal};
 ghost use Rattle.capture_engines.specs.Sent.{FirstIs};
 ghost use Rattle.recording_reader.specs.FileReader.{IsSameFile};
 ghost use Rattle.recording_reader.specs.declared.way.Standing.TheVariants.{Reads};
@@ -11,7 +11,8 @@ ghost use Rattle.run_outcome.specs.Fault.{Accounts, counts};
 ghost use Rattle.run_outcome.specs.Moments.{WasRead};
 ghost use Rattle.run_outcome.specs.Refusing.{OfRefusal};
 ghost use Rattle.st_format.specs.History.{IsRead};
-ghost use Rattle.stream_inspection.specs.Read.{IfEnd, IsEnd, NotesFile, NotesRecords, NotesUpTo};
+ghost use Rattle.stream_inspection.specs.Read.{IfEnd, IsEnd, IsFirstFront, IsSettled};
+ghost use Rattle.stream_inspection.specs.Read.{IsStartRefusal, NotesFile, NotesRecords, NotesUpTo};
 ghost use Rattle.stream_inspection.specs.Read.{ended_by};
 
 use crate::inspection::Inspection;
@@ -47,8 +48,8 @@ pub(crate) fn note_files<A: Allocator + Copy, S: ByteSource>(
     ensures noted { IfOk result (λ end. IfEnd end (NotesUpTo ways.now (WasRead S.gave S.ended)
         (zip files.old files.new) end begun.old begun.new inspection.old inspection.new)) }
     ensures none { OnOk result (begun.new ≡ None → (begun.old ≡ None) × (files.old ≡ [])) }
-    ensures refusal { IfErr result (λ f. OfRefusal f (IsFilesRefusal (0 ∷ []) begun.old ways.now
-        (WasRead S.gave S.ended) (zip files.old files.new))) }
+    ensures refusal { IfErr result (λ f. OfRefusal f (IsFirstFront (begun.old ≡ None)
+        (IsSettled begun.old) ways.now (WasRead S.gave S.ended) (zip files.old files.new))) }
     ensures failures { Accounts (ended_by result) (counts (sum_by S.failures files.old)
         (sum_by S.failures files.new) ∷ []) }
 {
@@ -83,8 +84,8 @@ fn note_at<A: Allocator + Copy, S: ByteSource>(
         inspection.old inspection.new) (zip (drop place files.old) (drop place files.new)))) }
     ensures begun { OnOk result (begun.new ≢ None) }
     ensures refusal { IfErr result (λ f. OfRefusal f (λ r. FirstIs
-        (λ s. IsTakeRefusal (0 ∷ []) (way_at ways.now place) begun.old (WasRead S.gave S.ended s) r)
-        (zip (drop place files.old) (drop place files.new)))) }
+        (λ s. IsStartRefusal (way_at ways.now place) (begun.old ≡ None)
+        (WasRead S.gave S.ended s) r) (zip (drop place files.old) (drop place files.new)))) }
     ensures failures { Accounts (ended_by result) (counts (sum_by S.failures files.old)
         (sum_by S.failures files.new) ∷ []) }
 {
@@ -118,7 +119,7 @@ fn note_one<A: Allocator + Copy, S: ByteSource>(
         (S.gave file.new) (S.ended file.new)) end begun.old begun.new inspection.old
         inspection.new)) }
     ensures begun { OnOk result (begun.new ≢ None) }
-    ensures refusal { IfErr result (λ f. OfRefusal f (IsTakeRefusal (0 ∷ []) way begun.old
+    ensures refusal { IfErr result (λ f. OfRefusal f (IsStartRefusal way (begun.old ≡ None)
         (IsRead (S.gave file.old) (S.gave file.new) (S.ended file.new)))) }
     ensures failures { Accounts (ended_by result) (counts (S.failures file.old)
         (S.failures file.new) ∷ []) }

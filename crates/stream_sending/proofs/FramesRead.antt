@@ -16,6 +16,7 @@ use Rattle.picture_forms.specs.Frames.{GaveFrame, TakesFrame, frame_walk}
 use Rattle.picture_forms.specs.Layouts.{planes_text}
 use Rattle.picture_forms.specs.Streams.{standing_after}
 use Rattle.picture_forms.specs.Walks.{GaveFault}
+use Rattle.packet_plan.specs.Plan.{IsSize}
 use Rattle.packet_plan.specs.declared.plan.PlanFault.{PlanFault}
 use Rattle.packet_plan.specs.declared.plan.PlanFault.TheVariants.{NoMemory, BadPacketSize}
 use Rattle.run_outcome.proofs.Blaming.{failed_one}
@@ -26,7 +27,8 @@ use Rattle.run_outcome.specs.Refusing.{OfRefusal}
 use Rattle.run_outcome.specs.declared.refusal.Refusal.{Refusal}
 use Rattle.run_outcome.specs.declared.refusal.Refusal.TheVariants as refusal
 use Rattle.convert_engine.specs.Converting.{form_fault}
-use Rattle.stream_sending.specs.Reading.{GaveFrames, GaveNext, GaveWrong, IsNextRefusal}
+use Rattle.stream_sending.specs.Reading.{GaveFrameFault, GaveFrames, GaveNext, GaveWrong}
+use Rattle.stream_sending.specs.Reading.{IsNextRefusal}
 use Rattle.stream_sending.specs.Reading.{IsOpenedRefusal, IsReadRefusal}
 use Rattle.stream_sending.specs.Streams.{BeginsFrames}
 
@@ -156,35 +158,53 @@ form_blames form.ValueTooLarge old new is = is
 
 -- of the next frame, behind others
 pub refused_behind : (count : ℕ) (f : Format) (vs : List Values) (a b c : List ℕ) (ended : Type 0)
-    → GaveFrames f vs a b → (r : Refusal) → IsNextRefusal f b c ended r
+    → GaveFrames f vs a b → length vs < count → (r : Refusal) → IsNextRefusal f b c ended r
     → IsReadRefusal count f a c ended r
-refused_behind count f vs a b c ended p (refusal.Form e) wrong =
-    record { pictures = vs; between = b; gave = p; fault = wrong }
-refused_behind count f vs a b c ended p r wrong = absurd wrong
+refused_behind count f vs a b c ended p few (refusal.Form e) wrong =
+    (record { pictures = vs; between = b; gave = p; fault = wrong }, few)
+refused_behind count f vs a b c ended p few r wrong = absurd wrong
+
+-- its format has plans
+pub sized : (most m : ℕ) (f g h : Format) → IsSize m h → m ≡ most → h ≡ g → g ≡ f → IsSize most f
+sized most m f g h size same made read =
+    subst (λ (x : Format). IsSize most x) (made ∙ read)
+    (subst (λ (n : ℕ). IsSize n h) same size)
 
 -- of the first one
-pub refused_next : (most : ℕ) (f : Format) (a b : List ℕ) (ended : Type 0) (r : Refusal)
-    → IsNextRefusal f a b ended r → IsOpenedRefusal most f a b ended r
-refused_next most f a b ended (refusal.Form e) wrong =
-    record { pictures = []; between = a; gave = gave_none f a; fault = wrong }
-refused_next most f a b ended r wrong = absurd wrong
+pub refused_next : (most : ℕ) (f : Format) (a b : List ℕ) (ended : Type 0) → IsSize most f
+    → (r : Refusal) → IsNextRefusal f a b ended r → IsOpenedRefusal most f a b ended r
+refused_next most f a b ended size (refusal.Form e) wrong = (
+  size,
+  refused_behind 4294967296 f [] a a b ended (gave_none f a) (omega arith) (refusal.Form e) wrong,
+)
+refused_next most f a b ended size r wrong = absurd wrong
 
 -- of those behind the first
 pub refused_first : (most : ℕ) (f : Format) (v : Values) (a b c : List ℕ) (ended : Type 0)
-    → GaveNext f a b ⊥ (Some v) → (r : Refusal) → IsReadRefusal 4294967295 f b c ended r
-    → IsOpenedRefusal most f a c ended r
-refused_first most f v a b c ended first (refusal.Form e) wrong = record {
-  pictures = v ∷ wrong.pictures;
-  between = wrong.between;
-  gave = gave_first f v wrong.pictures a b wrong.between first wrong.gave;
-  fault = wrong.fault;
-}
-refused_first most f v a b c ended first refusal.SendPictures wrong = record {
-  pictures = v ∷ wrong.pictures;
-  gave = gave_first f v wrong.pictures a b c first wrong.gave;
-  many = omega (arith, wrong.many);
-}
-refused_first most f v a b c ended first r wrong = absurd wrong
+    → IsSize most f → GaveNext f a b ⊥ (Some v) → (r : Refusal)
+    → IsReadRefusal 4294967295 f b c ended r → IsOpenedRefusal most f a c ended r
+refused_first most f v a b c ended size first (refusal.Form e) wrong =
+    let behind : GaveFrameFault f b c ended e = wrong.0 in (
+      size,
+      (
+        record {
+          pictures = v ∷ behind.pictures;
+          between = behind.between;
+          gave = gave_first f v behind.pictures a b behind.between first behind.gave;
+          fault = behind.fault;
+        },
+        omega (arith, wrong.1),
+      ),
+    )
+refused_first most f v a b c ended size first refusal.SendPictures wrong = (
+  size,
+  record {
+    pictures = v ∷ wrong.pictures;
+    gave = gave_first f v wrong.pictures a b c first wrong.gave;
+    many = omega (arith, wrong.many);
+  },
+)
+refused_first most f v a b c ended size first r wrong = absurd wrong
 
 -- that there is no plan
 pub plan_refused : (most : ℕ) (f g : Format) (a : List ℕ) (ended : Type 0) (e : PlanFault) → g ≡ f

@@ -21,9 +21,10 @@ use Rattle.run_outcome.specs.declared.refusal.Refusal.{Refusal}
 use Rattle.run_outcome.specs.declared.refusal.Refusal.TheVariants as refusal
 use Rattle.capture_engines.specs.declared.sender.Sending.{Sending}
 use Rattle.convert_engine.specs.Converting.{form_fault}
-use Rattle.stream_sending.specs.Reading.{GaveFrames, IsOpenedRefusal, SendsOpened}
-use Rattle.stream_sending.specs.Sent.{IsFramesRefusal, SendsFrames}
-use Rattle.stream_sending.specs.Streams.{BeginsFrames, BeginsStream, IsStreamFault, IsStreamOf}
+use Rattle.stream_sending.specs.Reading.{GaveFrameFault, GaveFrames, GaveMany, IsOpenedRefusal}
+use Rattle.stream_sending.specs.Reading.{SendsOpened}
+use Rattle.stream_sending.specs.Sent.{IsFramesRefusal, IsStreamFault, SendsFrames}
+use Rattle.stream_sending.specs.Streams.{BeginsFrames, BeginsStream, IsStreamOf}
 
 -- what was read first, then, and is behind it
 two_parts : (a b c first next octets : List ℕ) (ended : Type 0) → b ≡ a ++ first → c ≡ b ++ next
@@ -75,10 +76,11 @@ frames_sent wanted text f a b c ended old new count h sends = record {
 -- ---- a fault
 
 -- of the head
-head_fault : (a b : List ℕ) (ended : Type 0) (e : FormFault) (part : List ℕ) → b ≡ a ++ part
+head_fault : (most : ℕ) (a b : List ℕ) (ended : Type 0) (e : FormFault) (part : List ℕ)
+    → b ≡ a ++ part
     → ((behind : List ℕ) → (ended → behind ≡ []) → head_walk (part ++ behind) ≡ Err e)
-    → (octets : List ℕ) → IsRead a b ended octets → IsStreamFault octets e
-head_fault a b ended e part grown says octets q =
+    → (octets : List ℕ) → IsRead a b ended octets → IsStreamFault most octets e
+head_fault most a b ended e part grown says octets q =
     inl (ap head_walk (one_part a b part octets ended grown q) ∙ says q.behind q.all)
 
 pub head_refused : (most : ℕ) (a b : List ℕ) (ended : Type 0) (e : FormFault)
@@ -87,17 +89,17 @@ pub head_refused : (most : ℕ) (a b : List ℕ) (ended : Type 0) (e : FormFault
 head_refused most a b ended form.NoMemory g = tt
 head_refused most a b ended form.Device g = tt
 head_refused most a b ended form.BadMagic g =
-    head_fault a b ended form.BadMagic g.part g.grown g.says
+    head_fault most a b ended form.BadMagic g.part g.grown g.says
 head_refused most a b ended form.BadHeader g =
-    head_fault a b ended form.BadHeader g.part g.grown g.says
+    head_fault most a b ended form.BadHeader g.part g.grown g.says
 head_refused most a b ended form.UnsupportedForm g =
-    head_fault a b ended form.UnsupportedForm g.part g.grown g.says
+    head_fault most a b ended form.UnsupportedForm g.part g.grown g.says
 head_refused most a b ended form.BadFormat g =
-    head_fault a b ended form.BadFormat g.part g.grown g.says
+    head_fault most a b ended form.BadFormat g.part g.grown g.says
 head_refused most a b ended form.Truncated g =
-    head_fault a b ended form.Truncated g.part g.grown g.says
+    head_fault most a b ended form.Truncated g.part g.grown g.says
 head_refused most a b ended form.ValueTooLarge g =
-    head_fault a b ended form.ValueTooLarge g.part g.grown g.says
+    head_fault most a b ended form.ValueTooLarge g.part g.grown g.says
 
 more : (a b c first next : List ℕ) → b ≡ a ++ first → c ≡ b ++ next → c ≡ a ++ (first ++ next)
 more a b c first next p q = q ∙ ap (λ (l : List ℕ). l ++ next) p ∙ append_assoc a first next
@@ -118,15 +120,21 @@ begun f ps a b c d next octets ended h g grown q = record {
 opened_refused : (most : ℕ) (f : Format) (a b c : List ℕ) (ended : Type 0)
     → GaveValue head_walk a b (fields_of f) → (r : Refusal) → IsOpenedRefusal most f b c ended r
     → IsFramesRefusal most (IsRead a c ended) r
-opened_refused most f a b c ended h (refusal.Form e) wrong = λ octets q. inr (record {
-  format = f;
-  before = wrong.pictures;
-  rest = wrong.fault.part ++ q.behind;
-  begins = begun f wrong.pictures a b wrong.between c wrong.fault.part octets ended h wrong.gave
-      wrong.fault.grown q;
-  some = omega (arith, wrong.fault.some, length-append wrong.fault.part q.behind);
-  fault = wrong.fault.says q.behind q.all;
-})
+opened_refused most f a b c ended h (refusal.Form e) wrong =
+    let gave : GaveFrameFault f b c ended e = wrong.1.0 in
+    λ octets q. inr (
+      record {
+        format = f;
+        before = gave.pictures;
+        rest = gave.fault.part ++ q.behind;
+        begins = begun f gave.pictures a b gave.between c gave.fault.part octets ended h gave.gave
+            gave.fault.grown q;
+        some = omega (arith, gave.fault.some, length-append gave.fault.part q.behind);
+        fault = gave.fault.says q.behind q.all;
+      },
+      wrong.0,
+      wrong.1.1,
+    )
 opened_refused most f a b c ended h (refusal.Plan e) wrong = (
   f,
   (λ octets q. (
@@ -135,14 +143,19 @@ opened_refused most f a b c ended h (refusal.Plan e) wrong = (
   )),
   wrong.1,
 )
-opened_refused most f a b c ended h refusal.SendPictures wrong = λ octets q. record {
-  format = f;
-  pictures = wrong.pictures;
-  rest = q.behind;
-  begins = begun f wrong.pictures a b c c [] octets ended h wrong.gave (sym (append-nil c)) q;
-  many = wrong.many;
-}
-opened_refused most f a b c ended h r wrong = absurd wrong
+opened_refused most f a b c ended h refusal.SendPictures wrong =
+    let gave : GaveMany 4294967296 f b c = wrong.1 in
+    λ octets q. (
+      record {
+        format = f;
+        pictures = gave.pictures;
+        rest = q.behind;
+        begins = begun f gave.pictures a b c c [] octets ended h gave.gave (sym (append-nil c)) q;
+        many = gave.many;
+      },
+      wrong.0,
+    )
+opened_refused most f a b c ended h r wrong = absurd wrong.1
 
 pub frames_refused : {V : Type 0} (most : ℕ) (f : Format) (r : Result V Fault) (a b c : List ℕ)
     (ended : Type 0) → GaveValue head_walk a b (fields_of f)

@@ -5,6 +5,7 @@ use Rattle.st_format.specs.Given.{GaveValue}
 use Rattle.st_format.specs.Picture.{IsPicture, Values}
 use Rattle.st_format.specs.declared.device.ByteSink.{Ghosts}
 use Rattle.st_format.specs.declared.format.Format.{Format}
+use Rattle.packet_plan.specs.Plan.{IsSize}
 use Rattle.picture_forms.specs.declared.fault.FormFault.{FormFault}
 use Rattle.picture_forms.specs.Frames.{frame_walk}
 use Rattle.picture_forms.specs.Layouts.{planes_text}
@@ -58,20 +59,20 @@ pub record GaveMany (count : ℕ) (f : Format) (before now : List ℕ) : Type 0 
   pub gave : GaveFrames f pictures before now
   pub many : length pictures ≡ count
 
--- the refusals of frames, of which there are fewer than so many
+-- the refusal of frames: of one before which there are fewer than so many; that there are so many
 abbrev pub IsReadRefusal : ℕ → Format → List ℕ → List ℕ → Type 0 → Refusal → Type 0
-IsReadRefusal count f before now ended (refusal.Form e) = GaveFrameFault f before now ended e
+IsReadRefusal count f before now ended (refusal.Form e) =
+    (fault : GaveFrameFault f before now ended e) × (length fault.pictures < count)
 IsReadRefusal count f before now ended refusal.SendPictures = GaveMany count f before now
 IsReadRefusal count f before now ended r = ⊥
 
--- The refusals behind a stream's head, of this format: that it has no plan, before a frame is read;
--- of the frames.
+-- The refusal behind a stream's head, of this format: that it has no plan, before a frame is read;
+-- or it has, and the refusal is that of the frames.
 abbrev pub IsOpenedRefusal : ℕ → Format → List ℕ → List ℕ → Type 0 → Refusal → Type 0
 IsOpenedRefusal most f before now ended (refusal.Plan e) =
     (now ≡ before) × IsPlanFault most f e
-IsOpenedRefusal most f before now ended (refusal.Form e) = GaveFrameFault f before now ended e
-IsOpenedRefusal most f before now ended refusal.SendPictures = GaveMany 4294967296 f before now
-IsOpenedRefusal most f before now ended r = ⊥
+IsOpenedRefusal most f before now ended r =
+    IsSize most f × IsReadRefusal 4294967296 f before now ended r
 
 -- A sender that had sent none sent this picture, and behind it those of all frames that a source
 -- gave up to its end.

@@ -1,6 +1,8 @@
--- What `send` of a stream writes, and which refusal ends it (own). The octets that were read of the
+-- What `send` of a stream writes, and which refusal ends it: the first in the order in which it
+-- looks (own). The octets that were read of the
 -- stream are told by a predicate, as those of a picture's file are.
-use Rattle.std.specs.Prelude.{◌≡◌, ℕ, ◌⊎◌, Bool, true, false, List, [], ◌∷◌, ◌++◌, length, Option}
+use Rattle.std.specs.Prelude.{◌≡◌, ◌<◌, ℕ, ◌⊎◌, Bool, true, false, List, [], ◌∷◌, ◌++◌, length}
+use Rattle.std.specs.Prelude.{Err, Option}
 use Rattle.st_format.specs.Device.{capped}
 use Rattle.st_format.specs.Fields.{fields_of}
 use Rattle.st_format.specs.Picture.{Values}
@@ -8,7 +10,8 @@ use Rattle.st_format.specs.declared.format.Format.{Format}
 use Rattle.media_file.specs.Writer.{written_text}
 use Rattle.packet_plan.specs.Plan.{IsSize}
 use Rattle.packet_plan.specs.Sender.{SendsFrom}
-use Rattle.picture_forms.specs.Heads.{HasHead}
+use Rattle.picture_forms.specs.declared.fault.FormFault.{FormFault}
+use Rattle.picture_forms.specs.Heads.{HasHead, head_walk}
 use Rattle.run_outcome.specs.Line.{line_text}
 use Rattle.run_outcome.specs.Pictures.{IsPlanFault}
 use Rattle.run_outcome.specs.TextRefusals.{IsTextOfRun, SaysText}
@@ -16,9 +19,10 @@ use Rattle.run_outcome.specs.declared.line.Line.TheVariants as line
 use Rattle.run_outcome.specs.declared.refusal.Refusal.{Refusal}
 use Rattle.run_outcome.specs.declared.refusal.Refusal.TheVariants as refusal
 use Rattle.capture_engines.specs.Sending.{run_sender}
+use Rattle.capture_engines.specs.Sent.{SaysTextOfRun}
 use Rattle.capture_engines.specs.Typed.{IsTypedBy}
 use Rattle.capture_engines.specs.declared.sender.Sending.{Sending}
-use Rattle.stream_sending.specs.Streams.{HasFrames, IsStreamFault, IsStreamOf}
+use Rattle.stream_sending.specs.Streams.{HasFrameFault, HasFrames, IsStreamOf}
 
 -- ---- what is written
 
@@ -72,18 +76,29 @@ abbrev pub SaysHead : (List ℕ → Type 0) → Format → Type 0
 SaysHead read f = (octets : List ℕ) → read octets
     → (frames : List ℕ) × HasHead octets frames (fields_of f)
 
--- The refusals of a stream: its first fault; that its format has no plan; that it has more than
+-- The fault of a stream: of its head; or of the first frame that isn't whole and right, where its
+-- format has plans of packets of so many octets, and no more frames are before it than are sent.
+abbrev pub IsStreamFault : ℕ → List ℕ → FormFault → Type 0
+IsStreamFault most octets e =
+    (head_walk octets ≡ Err e)
+    ⊎ ((fault : HasFrameFault octets e) × IsSize most fault.format
+    × (length fault.before < 4294967296))
+
+-- The refusal of a stream: its fault; that its format has no plan; that it has one, and more than
 -- 4,294,967,295 frames.
 abbrev pub IsFramesRefusal : ℕ → (List ℕ → Type 0) → Refusal → Type 0
 IsFramesRefusal most read (refusal.Form e) =
-    (octets : List ℕ) → read octets → IsStreamFault octets e
+    (octets : List ℕ) → read octets → IsStreamFault most octets e
 IsFramesRefusal most read (refusal.Plan e) = (f : Format) × SaysHead read f × IsPlanFault most f e
 IsFramesRefusal most read refusal.SendPictures =
-    (octets : List ℕ) → read octets → HasFrames 4294967296 octets
+    (octets : List ℕ) → read octets
+    → (frames : HasFrames 4294967296 octets) × IsSize most frames.format
 IsFramesRefusal most read r = ⊥
 
--- the refusals of `send` of a stream: of the SDP text, where one is given, and those
+-- the refusal of `send` of a stream: of the SDP text, where one is given; or nothing is wrong with
+-- that, and it is that of the stream
 abbrev pub IsStreamRefusal : {S : Type 0} → ℕ → Option S → Option S → (S × S → List ℕ → Type 0)
     → (List ℕ → Type 0) → Refusal → Type 0
 IsStreamRefusal most sdp sdp_later told read r =
-    IsTextOfRun told sdp sdp_later r ⊎ IsFramesRefusal most read r
+    IsTextOfRun told sdp sdp_later r
+    ⊎ (SaysTextOfRun told sdp sdp_later × IsFramesRefusal most read r)

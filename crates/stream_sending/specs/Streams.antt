@@ -1,11 +1,11 @@
--- A YUV4MPEG2 stream as pictures, and the first fault of one.
-use Rattle.std.specs.Prelude.{◌≡◌, ◌<◌, ℕ, ◌⊎◌, List, [], ◌∷◌, length, Result, Ok, Err}
+-- A YUV4MPEG2 stream as pictures, and the first fault of its frames.
+use Rattle.std.specs.Prelude.{◌≡◌, ◌<◌, ℕ, List, [], ◌∷◌, length, Result, Ok, Err}
 use Rattle.st_format.specs.declared.format.Format.{Format}
 use Rattle.st_format.specs.Fields.{fields_of}
 use Rattle.st_format.specs.Picture.{IsPicture, Values}
 use Rattle.picture_forms.specs.declared.fault.FormFault.{FormFault}
 use Rattle.picture_forms.specs.Frames.{frame_walk}
-use Rattle.picture_forms.specs.Heads.{HasHead, head_walk}
+use Rattle.picture_forms.specs.Heads.{HasHead}
 use Rattle.picture_forms.specs.Layouts.{planes_text}
 
 -- Octets begin with a frame of this picture, of this format, and what is behind it is so.
@@ -45,10 +45,6 @@ pub record HasFrameFault (octets : List ℕ) (e : FormFault) : Type 0 where
   pub begins : BeginsStream octets format before rest
   pub some : 0 < length rest
   pub fault : frame_walk format rest ≡ Err e
-
--- the first fault of a stream: of its head, or of the first frame that isn't whole and right
-abbrev pub IsStreamFault : List ℕ → FormFault → Type 0
-IsStreamFault octets e = (head_walk octets ≡ Err e) ⊎ HasFrameFault octets e
 
 -- octets begin with a head and so many frames
 pub record HasFrames (count : ℕ) (octets : List ℕ) : Type 0 where

@@ -1,11 +1,20 @@
+use Rattle.std.proofs.Common.{inl}
 use Rattle.std.proofs.lemmas.Result.{err_from_is_err_and}
 use Rattle.std.specs.List.{zip}
 use Rattle.run_outcome.specs.Moments.{WasRead, pair}
 use Rattle.run_outcome.proofs.Printed.{on_ok}
 use Rattle.run_outcome.proofs.Refusals.{if_err_map, of_refusal_map}
 use Rattle.capture_engines.proofs.Accounting.{accounts_front}
+use Rattle.capture_engines.proofs.FirstRefused.{of_both}
 use Rattle.capture_engines.proofs.Said.{long_refused, said_receives, said_refused}
 use Rattle.capture_engines.proofs.receiving.receive.Goals as goal
+
+pub returns-in_err-check_words-clause-refusal : goal.returns-in_err-check_words-clause-refusal
+returns-in_err-check_words-clause-refusal g c =
+    let p = err_from_is_err_and c.from_residual.result c.from_residual.ensures.1 in
+    rw (p.1, p.2) (of_refusal_map c.in_err-check_words.field-0.0 (λ r both. inl both)
+    (of_both _ _ c.in_err-check_words.field-0.0 c.in_err-check_words.ensures.refusal
+    c.in_err-check_words.ensures.first))
 
 pub returns-in_err-said-clause-refusal : goal.returns-in_err-said-clause-refusal
 returns-in_err-said-clause-refusal g c =
@@ -16,7 +25,7 @@ returns-in_err-said-clause-refusal g c =
     (long_refused c.args.wanted.window.now c.args.wanted.ssrc.now
     c.in_ok-check_words.ensures.window.0 (pair c.args.sdp.now c.read_said.new.sdp)
     (WasRead told.gave told.ended) (zip c.args.captures.now c.args.captures.now)
-    c.in_ok-check_words.ensures.window.1)
+    (c.in_ok-check_words.ensures.window.1, c.in_ok-check_words.ensures.source))
     c.in_err-said.ensures.refusal)
 
 pub returns-clause-taken : goal.returns-clause-taken

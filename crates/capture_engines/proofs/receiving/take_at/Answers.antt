@@ -1,9 +1,10 @@
+use Rattle.std.proofs.Common.{◌≡◌, None}
 use Rattle.run_outcome.specs.Moments.{WasRead}
 use Rattle.run_outcome.proofs.Printed.{on_ok}
 use Rattle.run_outcome.proofs.Refusals.{if_err_map, of_refusal_map}
 use Rattle.run_outcome.proofs.SetSums.{set_counted}
 use Rattle.capture_engines.specs.Files.{way_at}
-use Rattle.capture_engines.specs.Received.{IsTakeRefusal}
+use Rattle.capture_engines.specs.Received.{FileOpens, IsTurnRefusal}
 use Rattle.capture_engines.specs.Rescued.{TakesPart}
 use Rattle.capture_engines.specs.Taking.{TakesFile}
 use Rattle.capture_engines.proofs.OneOf.{first_at}
@@ -19,14 +20,24 @@ returns-clause-taken g c =
     c.requires.place taken)
     (rw c.at-way.ensures at c.take_one.ensures.taken)
 
+pub returns-clause-opens : goal.returns-clause-opens
+returns-clause-opens g c =
+    let told = WasRead g.S.ByteSource.gave g.S.ByteSource.ended in
+    on_ok c.take_one.result _ _
+    (λ opens none. first_at
+    (λ s. FileOpens c.args.opening.now.window.items (way_at c.args.ways.now c.args.place) (told s))
+    c.args.files.now c.args.place c.index-files-place.result c.take_one.new.file
+    c.requires.place (opens none))
+    (rw c.at-way.ensures at c.take_one.ensures.opens)
+
 pub returns-clause-refusal : goal.returns-clause-refusal
 returns-clause-refusal g c =
     let told = WasRead g.S.ByteSource.gave g.S.ByteSource.ended in
     if_err_map c.take_one.result
     (λ f. of_refusal_map f
     (λ r is. first_at
-    (λ s. IsTakeRefusal c.args.opening.now.window.items (way_at c.args.ways.now c.args.place)
-    c.args.begun.now (told s) r)
+    (λ s. IsTurnRefusal c.args.opening.now.window.items (way_at c.args.ways.now c.args.place)
+    (c.args.begun.now ≡ None) (told s) r)
     c.args.files.now c.args.place c.index-files-place.result c.take_one.new.file
     c.requires.place is))
     (rw c.at-way.ensures at c.take_one.ensures.refusal)

@@ -1,9 +1,9 @@
-use Rattle.std.proofs.Common.{rules}
+use Rattle.std.proofs.Common.{◌≡◌, None, rules}
 use Rattle.run_outcome.proofs.SetSums.{counted_by}
 use Rattle.recording_reader.proofs.Standings.{exact_between}
 use Rattle.capture_engines.specs.Taking.{Stands}
 use Rattle.capture_engines.proofs.Readings.{ended_taken, part_taken}
-use Rattle.capture_engines.proofs.ReceivedRefusals.{file_refused, unopened_refused}
+use Rattle.capture_engines.proofs.FirstRefused.{front_turn, opens_lent, turn_lent}
 use Rattle.capture_engines.proofs.receiving.take_one.Goals as goal
 
 pub returns-clause-failures : goal.returns-clause-failures
@@ -32,18 +32,27 @@ returns-clause-sound g c =
     (exact_between c.take_opened-taken.new.reader.standing reads)) c.history.ensures.of_capture
     c.take_opened-taken.ensures.stop
 
+pub returns-clause-opens : goal.returns-clause-opens
+returns-clause-opens g c =
+    let told = g.S.ByteSource in
+    opens_lent c.args.opening.now.window.items _ c.args.way (c.args.begun.now ≡ None)
+    c.take_opened-taken.new.reader (λ s. s.now) told.gave told.ended c.args.file.now _
+    (search rules) (search rules) (search rules) c.history.ensures.by_flows (search rules)
+    c.history.ensures.known c.history.ensures.parts c.take_opened-taken.result
+    c.take_opened-taken.ensures.opens
+
 pub returns-clause-refusal : goal.returns-clause-refusal
 returns-clause-refusal g c =
     let told = g.S.ByteSource in
-    file_refused c.args.opening.now.window.items _ c.args.way c.args.begun.now
-    c.take_opened-taken.new.reader (λ s. s.now) told.gave told.ended c.args.file.now _ _ _
-    c.take_opened-taken.result (search rules) (search rules) (search rules)
-    c.history.ensures.by_flows (search rules) c.history.ensures.known c.history.ensures.parts
-    c.take_opened-taken.ensures.stop
+    turn_lent c.args.opening.now.window.items _ c.args.way (c.args.begun.now ≡ None)
+    c.take_opened-taken.new.reader (λ s. s.now) told.gave told.ended c.args.file.now _
+    (search rules) (search rules) (search rules) c.history.ensures.by_flows (search rules)
+    c.history.ensures.known c.history.ensures.parts c.take_opened-taken.result
+    c.take_opened-taken.ensures.refusal
 
 pub returns-in-Err-clause-refusal : goal.returns-in-Err-clause-refusal
 returns-in-Err-clause-refusal g c =
     let told = g.S.ByteSource in
-    unopened_refused c.args.opening.now.window.items c.args.way c.args.begun.now told.gave
+    front_turn c.args.opening.now.window.items c.args.way (c.args.begun.now ≡ None) told.gave
     told.ended c.args.file.now _ c.unopened.new.source c.unopened.result (search rules)
-    (c.unopened.ensures.refusal (told.gave c.args.file.now) (search rules) (search rules))
+    (c.unopened.ensures.front (told.gave c.args.file.now) (search rules) (search rules))

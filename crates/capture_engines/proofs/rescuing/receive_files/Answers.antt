@@ -1,4 +1,4 @@
-use Rattle.std.proofs.Common.{inr, refl}
+use Rattle.std.proofs.Common.{inl, inr, refl}
 use Rattle.std.proofs.lemmas.Result.{err_from_is_err_and}
 use Rattle.std.specs.List.{zip}
 use Rattle.std.specs.Option.{option_copied}
@@ -6,7 +6,7 @@ use Rattle.run_outcome.specs.Moments.{WasRead}
 use Rattle.run_outcome.proofs.Refusals.{of_refusal_map}
 use Rattle.capture_engines.specs.Counted.{CountsReceived}
 use Rattle.capture_engines.proofs.InOrder.{receives}
-use Rattle.capture_engines.proofs.ReceivedRefusals.{files_refused}
+use Rattle.capture_engines.proofs.FirstRefused.{files_said}
 use Rattle.capture_engines.proofs.Rescues.{counted_if, counts, on_ok_both, on_ok_each}
 use Rattle.capture_engines.proofs.Rescues.{part_refused, rescued_if, rescues}
 use Rattle.capture_engines.proofs.rescuing.receive_files.Goals as goal
@@ -71,18 +71,14 @@ returns-in-Part-clause-rescued g c =
 pub returns-in-Part-clause-refusal : goal.returns-in-Part-clause-refusal
 returns-in-Part-clause-refusal g c =
     let told = g.S.ByteSource in
-    let window = c.in_ok-opening.opening.window.items in
     let taken = rw c.in-Part.is at c.in_ok-intake.ensures.taken in
     part_refused c.put_part.result c.in-Part.fault _
     (of_refusal_map c.in-Part.fault
-    (λ r is. inr (
-      window,
-      c.in_ok-opening.ensures.window,
-      inr (files_refused window
-          c.in_ok-begun.begun (option_copied c.args.sdp) c.args.ways.now (WasRead told.gave told.ended)
-          (zip c.args.files.now c.rescue_files.new.files)
-          c.in_ok-begun.ensures.none r is),
-    ))
+    (files_said c.args.wanted.window.now c.args.wanted.ssrc.now c.in_ok-opening.opening
+    (option_copied c.args.sdp) c.args.ways.now (WasRead told.gave told.ended)
+    (zip c.args.files.now c.rescue_files.new.files) c.in_ok-begun.begun
+    (c.in_ok-opening.ensures.window, (_, c.in_ok-opening.ensures.source))
+    c.in_ok-begun.ensures.begun c.in_ok-begun.ensures.none c.in_ok-begun.ensures.opens)
     taken.1)
     c.put_part.ensures.refused
 
@@ -93,32 +89,36 @@ returns-in-Part-clause-failures g c =
 pub returns-clause-refusal : goal.returns-clause-refusal
 returns-clause-refusal g c =
     let told = g.S.ByteSource in
-    let window = c.in_ok-opening.opening.window.items in
     let taken = rw c.in-Part.is at c.in_ok-intake.ensures.taken in
     of_refusal_map c.in-Part.fault
-    (λ r is. inr (
-      window,
-      c.in_ok-opening.ensures.window,
-      inr (files_refused window
-          c.in_ok-begun.begun (option_copied c.args.sdp) c.args.ways.now (WasRead told.gave told.ended)
-          (zip c.args.files.now c.rescue_files.new.files)
-          c.in_ok-begun.ensures.none r is),
-    ))
+    (files_said c.args.wanted.window.now c.args.wanted.ssrc.now c.in_ok-opening.opening
+    (option_copied c.args.sdp) c.args.ways.now (WasRead told.gave told.ended)
+    (zip c.args.files.now c.rescue_files.new.files) c.in_ok-begun.begun
+    (c.in_ok-opening.ensures.window, (_, c.in_ok-opening.ensures.source))
+    c.in_ok-begun.ensures.begun c.in_ok-begun.ensures.none c.in_ok-begun.ensures.opens)
     taken.1
 
 pub returns-in_err-intake-clause-refusal : goal.returns-in_err-intake-clause-refusal
 returns-in_err-intake-clause-refusal g c =
     let told = g.S.ByteSource in
-    let window = c.in_ok-opening.opening.window.items in
     let p = err_from_is_err_and c.from_residual-in_err-intake.result
     c.from_residual-in_err-intake.ensures.1 in
     rw (p.1, p.2) (of_refusal_map c.in_err-intake.field-0.0
-    (λ r is. inr (
-      window,
-      c.in_ok-opening.ensures.window,
-      inr (files_refused window
-          c.in_ok-begun.begun (option_copied c.args.sdp) c.args.ways.now (WasRead told.gave told.ended)
-          (zip c.args.files.now c.rescue_files.new.files)
-          c.in_ok-begun.ensures.none r is),
-    ))
+    (files_said c.args.wanted.window.now c.args.wanted.ssrc.now c.in_ok-opening.opening
+    (option_copied c.args.sdp) c.args.ways.now (WasRead told.gave told.ended)
+    (zip c.args.files.now c.rescue_files.new.files) c.in_ok-begun.begun
+    (c.in_ok-opening.ensures.window, (_, c.in_ok-opening.ensures.source))
+    c.in_ok-begun.ensures.begun c.in_ok-begun.ensures.none c.in_ok-begun.ensures.opens)
     c.in_err-intake.ensures.refusal)
+
+pub returns-in_err-begun-clause-refusal : goal.returns-in_err-begun-clause-refusal
+returns-in_err-begun-clause-refusal g c =
+    let p = err_from_is_err_and c.from_residual-in_err-begun.result
+    c.from_residual-in_err-begun.ensures.1 in
+    rw (p.1, p.2) (of_refusal_map c.in_err-begun.field-0.0
+    (λ r is. inr (
+      c.in_ok-opening.opening.window.items,
+      (c.in_ok-opening.ensures.window, (_, c.in_ok-opening.ensures.source)),
+      inl is,
+    ))
+    c.in_err-begun.ensures.refusal)

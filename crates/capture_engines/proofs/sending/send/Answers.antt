@@ -1,6 +1,9 @@
-use Rattle.std.proofs.Common.{List, subst, sym, ℕ}
+use Rattle.std.proofs.Common.{List, inr, subst, sym, ℕ}
+use Rattle.std.proofs.lemmas.Result.{err_from_is_err_and}
 use Rattle.run_outcome.proofs.Printed.{on_ok}
+use Rattle.run_outcome.proofs.Refusals.{of_refusal_map}
 use Rattle.run_outcome.specs.TextRefusals.{SaysText}
+use Rattle.capture_engines.proofs.SentRefusals.{text_says}
 use Rattle.capture_engines.proofs.sending.send.Goals as goal
 
 pub returns-clause-sent : goal.returns-clause-sent
@@ -16,3 +19,14 @@ returns-clause-sent g c =
       pictures = c.in_ok-sent.ensures.sent;
       line = printed;
     }) c.print.ensures.printed
+
+pub returns-in_err-sent-clause-refusal : goal.returns-in_err-sent-clause-refusal
+returns-in_err-sent-clause-refusal g c =
+    let says =
+    text_says g.S.ByteSource.gave g.S.ByteSource.ended c.args.sdp.now c.read_said.new.sdp _
+    c.in_ok-said.ensures.says in
+    let p =
+    err_from_is_err_and c.from_residual-in_err-sent.result
+    c.from_residual-in_err-sent.ensures.1 in
+    rw (p.1, p.2) (of_refusal_map c.in_err-sent.field-0.0
+    (λ r is. inr (c.in_ok-said.ensures.few, says, is)) c.in_err-sent.ensures.refusal)

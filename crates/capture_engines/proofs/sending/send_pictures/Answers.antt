@@ -13,7 +13,7 @@ returns-clause-refusal g c =
     if_err_map c.send_first_and_rest.result
     (λ e. of_refusal_map e
     (λ r is. rest_refused c.args.wanted.max_octets format told c.args.pictures.now _ _ r
-    first.says first.behind c.send_first_and_rest.ensures.front is))
+    first.says first.limits first.behind c.send_first_and_rest.ensures.front is))
     c.send_first_and_rest.ensures.refusal
 
 pub returns-clause-sent : goal.returns-clause-sent

@@ -3,7 +3,8 @@ use Rattle.std.proofs.lemmas.Result.{err_from_is_err_and}
 use Rattle.run_outcome.specs.Moments.{WasRead}
 use Rattle.run_outcome.proofs.Refusals.{of_refusal_map}
 use Rattle.capture_engines.proofs.OneOf.{front_stays}
-use Rattle.capture_engines.proofs.SentRefusals.{next_refused, other_refused}
+use Rattle.capture_engines.proofs.SentRefusals.{next_refused, none_are, one_more}
+use Rattle.capture_engines.proofs.SentRefusals.{other_refused}
 use Rattle.capture_engines.proofs.Sendings.{more_so_far, none_so_far, rest_sent}
 use Rattle.capture_engines.proofs.sending.send_rest.Goals as goal
 
@@ -15,7 +16,8 @@ returns-in_err-picture-clause-refusal g c =
     let p = err_from_is_err_and c.from_residual.result c.from_residual.ensures.1 in
     rw (p.1, p.2) (of_refusal_map c.in_err-picture.field-0.0
     (next_refused c.args.sender.now.plan.format told c.loop-place.place start now _
-    (omega (arith, c.loop-place.auto.place)) c.loop-place.invariant.behind)
+    (omega (arith, c.loop-place.auto.place)) c.loop-place.invariant.behind
+    c.in_err-picture.ensures.before c.loop-place.invariant.alike)
     c.in_err-picture.ensures.refusal)
 
 pub returns-in_err-send-clause-refusal : goal.returns-in_err-send-clause-refusal
@@ -29,7 +31,7 @@ returns-in_err-send-clause-refusal g c =
     rw (p.1, p.2) (of_refusal_map c.in_err-send.field-0.0
     (other_refused c.args.sender.now.plan.format c.loop-place.sender.plan.format other told
     c.loop-place.place start now _ (omega (arith, c.loop-place.auto.place))
-    c.loop-place.invariant.behind
+    c.loop-place.invariant.behind c.in_ok-picture.ensures.before c.loop-place.invariant.alike
     (ap (λ x. x.format) c.loop-place.invariant.plan) c.in_ok-picture.ensures.says)
     c.in_err-send.ensures.refusal)
 
@@ -46,6 +48,8 @@ loop-place-init g c = record {
   names = refl;
   sent = none_so_far (WasRead g.S.ByteSource.gave g.S.ByteSource.ended) g.K.ByteSink.took
       c.args.pictures.now c.args.sender.now;
+  alike = none_are (WasRead g.S.ByteSource.gave g.S.ByteSource.ended)
+      c.args.sender.now.plan.format c.args.pictures.now c.args.pictures.now;
 }
 
 pub loop-place-preserved : goal.loop-place-preserved
@@ -68,6 +72,12 @@ loop-place-preserved g c =
           l.sender c.send.new.self l.invariant.sent l.invariant.behind
           c.in_ok-picture.ensures.before c.in_ok-picture.ensures.shows
           c.in_ok-send.ensures.sent;
+      alike = one_more (WasRead g.S.ByteSource.gave g.S.ByteSource.ended)
+          c.args.sender.now.plan.format c.in_ok-picture.picture.format l.place
+          c.args.pictures.now l.pictures _ (omega (arith, l.auto.place)) l.invariant.behind
+          c.in_ok-picture.ensures.before l.invariant.alike
+          (c.in_ok-send.ensures.sent.format ∙ ap (λ x. x.format) l.invariant.plan)
+          c.in_ok-picture.ensures.says;
     }
 
 pub returns-clause-sent : goal.returns-clause-sent

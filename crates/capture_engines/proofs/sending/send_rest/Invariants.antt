@@ -2,6 +2,7 @@ use Rattle.std.proofs.Common.{◌≡◌, drop, false, length, take}
 use Rattle.std.specs.List.{sum_by}
 use Rattle.run_outcome.specs.Moments.{WasRead}
 use Rattle.capture_engines.proofs.Sendings.{SoFar}
+use Rattle.capture_engines.proofs.SentRefusals.{AreOf}
 use Rattle.capture_engines.proofs.sending.send_rest.Given as goal
 
 abbrev pub invariant-loop-place : goal.invariant-loop-place
@@ -20,4 +21,6 @@ invariant-loop-place g l = record {
       ≡ g.K.ByteSink.names l.initial.sender.writer.sink;
   sent : SoFar (WasRead g.S.ByteSource.gave g.S.ByteSource.ended) g.K.ByteSink.took l.place
       l.initial.pictures l.pictures l.initial.sender l.sender;
+  alike : AreOf (WasRead g.S.ByteSource.gave g.S.ByteSource.ended) l.initial.sender.plan.format
+      l.place l.initial.pictures l.pictures;
 }

@@ -7,6 +7,7 @@ use Rattle.capture_engines.specs.Sent.{IsPicturesRefusal}
 use Rattle.run_outcome.proofs.Printed.{on_ok}
 use Rattle.run_outcome.specs.TextRefusals.{IsCaptureText, SaysText}
 use Rattle.capture_engines.specs.Typed.{IsTypedBy}
+use Rattle.capture_engines.proofs.SentRefusals.{text_says}
 use Rattle.capture_engines.proofs.TypedTexts.{text_given}
 use Rattle.capture_engines.proofs.typed.send_typed.Goals as goal
 
@@ -44,5 +45,7 @@ returns-in_err-sent-clause-refusal g c =
     rw (p.1, p.2)
     (of_refusal_map f (λ r is. inr (
       c.in_ok-said.ensures.few,
+      text_says g.S.ByteSource.gave g.S.ByteSource.ended c.args.sdp.now c.read_said.new.sdp _
+          c.in_ok-said.ensures.says,
       subst (λ (n : ℕ). IsPicturesRefusal n told pictures r) c.in_ok-typed.ensures.size is,
     )) c.in_err-sent.ensures.refusal)

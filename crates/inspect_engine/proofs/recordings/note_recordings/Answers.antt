@@ -8,7 +8,7 @@ use Rattle.run_outcome.proofs.SetSums.{set_counted}
 use Rattle.run_outcome.proofs.Refusals.{of_refusal_map}
 use Rattle.inspect_engine.specs.Inspected.{IsFaultOf, NotesAll, NotesOctets, end_of}
 use Rattle.inspect_engine.proofs.Noting.{more_noted}
-use Rattle.inspect_engine.proofs.Telling.{one_of}
+use Rattle.inspect_engine.proofs.Telling.{first_fault}
 use Rattle.inspect_engine.proofs.recordings.note_recordings.Goals as goal
 use Rattle.inspect_engine.proofs.recordings.note_recordings.Goals.{then-cut, else-cut}
 
@@ -63,8 +63,8 @@ returns-in_err-short-clause-refusal g c =
     rw (p.1, p.2)
     (of_refusal_map c.in_err-short.field-0.0
     (λ r is.
-    one_of (λ z. IsFaultOf (length c.args.buf.now) (told z) r) c.args.recordings.now l.recordings
-    l.place d y i.behind i.len lt c.index-recordings-place.is
+    first_fault (length c.args.buf.now) told c.args.recordings.now l.recordings l.place d y l.cut
+    c.args.inspection.now l.inspection r i.noted i.behind i.len lt c.index-recordings-place.is
     (subst (λ (n : _). IsFaultOf n (told (d, y)) r) l.auto.buf
     (subst (λ (s : _). IsFaultOf (length l.buf) (told (s, y)) r)
     (sym c.index-recordings-place.is) is))) c.in_err-short.ensures.refusal)

@@ -8,7 +8,7 @@ use Rattle.run_outcome.proofs.Refusals.{none_refused, of_refusal_map}
 use Rattle.run_outcome.proofs.Blaming.{failed_one}
 use Rattle.std.proofs.lemmas.Result.{err_from_is_err_and}
 use Rattle.recording_engines.specs.Files.{AllOpened}
-use Rattle.recording_engines.specs.Imported.{AsksFlows}
+use Rattle.recording_engines.specs.Imported.{AsksFlows, IsFlowsRefusal}
 use Rattle.recording_engines.proofs.Blames.{blames_files, blames_joined, blames_output}
 use Rattle.recording_engines.proofs.Quiet.{if_refused, never_refused}
 use Rattle.recording_engines.proofs.Endings.{given_read, has_imported, has_stopped, imports}
@@ -73,6 +73,25 @@ returns-clause-imported g c =
     (c.in_ok-said.ensures.says text (given_read c.in_ok-said.ensures.read)) asked taken
     c.in_ok-counts.ensures.left c.total.ensures.all c.in_ok-print.ensures.printed
 
+pub returns-in_err-flows-clause-refusal : goal.returns-in_err-flows-clause-refusal
+returns-in_err-flows-clause-refusal g c =
+    let text = c.in_ok-said.said.items in
+    let p = err_from_is_err_and c.from_residual-in_err-flows.result
+    c.from_residual-in_err-flows.ensures.1 in
+    rw (p.1, p.2)
+    (of_refusal_map c.in_err-flows.field-0.0
+    (λ r is. inr (
+      text,
+      c.in_ok-said.ensures.read,
+      c.in_ok-said.ensures.says text (given_read c.in_ok-said.ensures.read),
+      inl (
+        refl,
+        subst (λ (l : List ℕ). IsFlowsRefusal (option_copied c.args.wanted.a)
+            (option_copied c.args.wanted.b) l r) c.deref.ensures.value is,
+      ),
+    ))
+    c.in_err-flows.ensures.refusal)
+
 pub returns-in_err-open_all-clause-refusal : goal.returns-in_err-open_all-clause-refusal
 returns-in_err-open_all-clause-refusal g c =
     let olds = c.args.files.now in
@@ -89,6 +108,7 @@ returns-in_err-open_all-clause-refusal g c =
     (λ r is. inr (
       c.in_ok-said.said.items,
       c.in_ok-said.ensures.read,
+      c.in_ok-said.ensures.says c.in_ok-said.said.items (given_read c.in_ok-said.ensures.read),
       inr (
         flows,
         asked,
@@ -131,6 +151,7 @@ returns-in_err-counts-clause-refusal g c =
     (λ r is. inr (
       text,
       c.in_ok-said.ensures.read,
+      c.in_ok-said.ensures.says text (given_read c.in_ok-said.ensures.read),
       inr (
         flows,
         asked,
@@ -139,7 +160,8 @@ returns-in_err-counts-clause-refusal g c =
           taken,
           inr (has_stopped gave ended each olds mids news text (took c.args.capture.now)
               (took c.write_front.new.sink) (took c.join_all.new.capture) r opened
-              c.in_err-counts.ensures.begun c.in_err-counts.ensures.known front is),
+              c.in_err-counts.ensures.begun c.in_err-counts.ensures.known
+              c.in_err-counts.ensures.by_flows front is),
         ),
       ),
     ))

@@ -7,12 +7,12 @@ use Rattle.run_outcome.proofs.SetSums.{set_counted}
 use Rattle.run_outcome.specs.Fault.{Blames, counts}
 use Rattle.recording_engines.specs.Files.{IsClosed, failures_by}
 use Rattle.recording_engines.specs.declared.file.ImportFile.{ImportFile}
-use Rattle.recording_engines.proofs.Openings.{any_stops, closed_there, next_same, opened_all}
-use Rattle.recording_engines.proofs.Openings.{opened_more}
+use Rattle.recording_engines.proofs.Openings.{begin_more, closed_there, first_stop, next_same}
+use Rattle.recording_engines.proofs.Openings.{opened_all, opened_more}
 use Rattle.recording_engines.proofs.opening.open_all.Goals as goal
 
 pub loop-place-init : goal.loop-place-init
-loop-place-init g c = record { len = refl; opened = refl; failures = refl }
+loop-place-init g c = record { len = refl; opened = refl; begin = tt; failures = refl }
 
 pub begin_file-requires-clause-closed : goal.begin_file-requires-clause-closed
 begin_file-requires-clause-closed g c =
@@ -39,6 +39,9 @@ loop-place-preserved g c =
       len = length-set l.files l.place y ∙ l.invariant.len;
       opened = opened_more told.gave l.place c.args.each.now c.args.files.now l.files _ d y
           l.invariant.opened lt c.requires.count c.in_ok-begin_file.ensures.opened;
+      begin = begin_more told.gave told.ended l.place c.args.each.now c.args.files.now l.files _ d y
+          l.invariant.opened lt l.invariant.len c.requires.count l.invariant.begin
+          c.in_ok-begin_file.ensures.begins;
       failures = (rw c.in_ok-begin_file.was at counts) ∙ l.invariant.failures;
     }
 
@@ -52,9 +55,9 @@ returns-in_err-begin_file-clause-refusal g c =
     c.from_residual-in_err-begin_file.ensures.1 in
     rw (p.1, p.2)
     (of_refusal_map c.in_err-begin_file.field-0.0
-    (λ r is. any_stops told.gave told.ended l.place c.args.each.now c.args.files.now l.files _
+    (λ r is. first_stop told.gave told.ended l.place c.args.each.now c.args.files.now l.files _
     c.index-files-place.result c.begin_file.new.file r l.invariant.opened lt l.invariant.len
-    c.requires.count is) c.in_err-begin_file.ensures.refusal)
+    c.requires.count l.invariant.begin is) c.in_err-begin_file.ensures.refusal)
 
 pub returns-in_err-begin_file-clause-failures : goal.returns-in_err-begin_file-clause-failures
 returns-in_err-begin_file-clause-failures g c =

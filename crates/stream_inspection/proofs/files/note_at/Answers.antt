@@ -1,11 +1,10 @@
-use Rattle.std.proofs.Common.{[], ◌∷◌}
+use Rattle.std.proofs.Common.{◌≡◌, None}
 use Rattle.run_outcome.specs.Moments.{WasRead}
 use Rattle.run_outcome.proofs.Refusals.{if_err_map, of_refusal_map}
 use Rattle.run_outcome.proofs.SetSums.{set_counted}
 use Rattle.capture_engines.specs.Files.{way_at}
-use Rattle.capture_engines.specs.Received.{IsTakeRefusal}
 use Rattle.capture_engines.proofs.OneOf.{first_at}
-use Rattle.stream_inspection.specs.Read.{NotesFile, ended_by}
+use Rattle.stream_inspection.specs.Read.{IsStartRefusal, NotesFile, ended_by}
 use Rattle.stream_inspection.proofs.Readings.{if_end, if_ok}
 use Rattle.stream_inspection.proofs.files.note_at.Goals as goal
 
@@ -27,7 +26,7 @@ returns-clause-refusal g c =
     if_err_map c.note_one.result
     (λ f. of_refusal_map f
     (λ r is. first_at
-    (λ s. IsTakeRefusal (0 ∷ []) (way_at c.args.ways.now c.args.place) c.args.begun.now (told s) r)
+    (λ s. IsStartRefusal (way_at c.args.ways.now c.args.place) (c.args.begun.now ≡ None) (told s) r)
     c.args.files.now c.args.place c.index-files-place.result c.note_one.new.file
     c.requires.place is))
     (rw c.at-way.ensures at c.note_one.ensures.refusal)

@@ -1,12 +1,11 @@
-use Rattle.std.proofs.Common.{[], ◌∷◌, ◌∙◌, None, ap, arith, drop, drop-drop, inl, inr, refl, sym}
+use Rattle.std.proofs.Common.{◌∙◌, None, ap, arith, drop, drop-drop, inl, inr, refl, sym}
 use Rattle.std.proofs.lemmas.Result.{err_from_is_err_and}
-use Rattle.std.specs.List.{zip}
 use Rattle.run_outcome.specs.Moments.{WasRead}
 use Rattle.run_outcome.proofs.Refusals.{of_refusal_map}
-use Rattle.capture_engines.proofs.InOrder.{pairs_left}
-use Rattle.capture_engines.proofs.ReceivedRefusals.{next_refuses, none_started}
+use Rattle.capture_engines.proofs.ReceivedRefusals.{none_started}
 use Rattle.capture_engines.proofs.Taken.{none_begun}
-use Rattle.stream_inspection.proofs.InOrder.{all_noted, more_noted, none_noted, up_to}
+use Rattle.stream_inspection.proofs.InOrder.{all_noted, first_front, more_noted, none_noted}
+use Rattle.stream_inspection.proofs.InOrder.{up_to}
 use Rattle.stream_inspection.proofs.files.note_files.Goals as goal
 
 pub loop-place-init : goal.loop-place-init
@@ -22,15 +21,14 @@ loop-place-init g c = record {
 pub returns-in_err-end-clause-refusal : goal.returns-in_err-end-clause-refusal
 returns-in_err-end-clause-refusal g c =
     let l = c.loop-place in
-    let now = c.note_at.new.files in
+    let at = c.in_err-end.ensures in
     let p = err_from_is_err_and c.from_residual.result c.from_residual.ensures.1 in
     rw (p.1, p.2) (of_refusal_map c.in_err-end.field-0.0
-    (next_refuses (0 ∷ []) c.args.ways.now (WasRead g.S.ByteSource.gave g.S.ByteSource.ended)
-    l.place (zip c.args.files.now now) (zip (drop l.place l.files) (drop l.place now))
-    c.args.begun.now l.begun (pairs_left l.place c.args.files.now l.files now
-    l.invariant.behind)
+    (first_front c.args.ways.now (WasRead g.S.ByteSource.gave g.S.ByteSource.ended)
+    c.args.files.now l.files c.note_at.new.files l.place c.args.begun.now l.begun
+    c.args.inspection.now l.inspection l.invariant.noted at.front l.invariant.behind
     l.invariant.begun)
-    c.in_err-end.ensures.refusal)
+    at.refusal)
 
 pub returns-in-Some-clause-noted : goal.returns-in-Some-clause-noted
 returns-in-Some-clause-noted g c =

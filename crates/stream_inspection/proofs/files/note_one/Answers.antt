@@ -1,16 +1,15 @@
-use Rattle.std.proofs.Common.{[], ◌∷◌, rules}
+use Rattle.std.proofs.Common.{◌≡◌, None, rules}
 use Rattle.run_outcome.proofs.SetSums.{counted_by}
-use Rattle.capture_engines.proofs.ReceivedRefusals.{unopened_refused}
 use Rattle.stream_inspection.specs.Read.{ended_by}
-use Rattle.stream_inspection.proofs.Readings.{file_noted_if, text_refuses}
+use Rattle.stream_inspection.proofs.Readings.{file_noted_if, front_refuses, text_refuses}
 use Rattle.stream_inspection.proofs.files.note_one.Goals as goal
 
 pub returns-in-Err-clause-refusal : goal.returns-in-Err-clause-refusal
 returns-in-Err-clause-refusal g c =
     let told = g.S.ByteSource in
-    unopened_refused (0 ∷ []) c.args.way c.args.begun.now told.gave told.ended c.args.file.now _
+    front_refuses c.args.way (c.args.begun.now ≡ None) told.gave told.ended c.args.file.now _
     c.unopened.new.source c.unopened.result (search rules)
-    (c.unopened.ensures.refusal (told.gave c.args.file.now) (search rules) (search rules))
+    (c.unopened.ensures.front (told.gave c.args.file.now) (search rules) (search rules))
 
 pub returns-clause-failures : goal.returns-clause-failures
 returns-clause-failures g c =
@@ -29,7 +28,7 @@ returns-clause-noted g c =
 pub returns-clause-refusal : goal.returns-clause-refusal
 returns-clause-refusal g c =
     let told = g.S.ByteSource in
-    text_refuses (0 ∷ []) _ c.args.way c.args.begun.now c.note_opened-noted.new.reader (λ s. s.now)
+    text_refuses _ c.args.way (c.args.begun.now ≡ None) c.note_opened-noted.new.reader (λ s. s.now)
     told.gave told.ended c.args.file.now _ c.note_opened-noted.result (search rules)
     (search rules) (search rules) (search rules) c.history.ensures.by_flows
     c.history.ensures.known c.history.ensures.parts c.note_opened-noted.ensures.refusal

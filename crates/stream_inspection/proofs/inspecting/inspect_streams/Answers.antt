@@ -4,10 +4,9 @@ use Rattle.std.specs.List.{zip}
 use Rattle.std.specs.Option.{option_copied}
 use Rattle.run_outcome.specs.Moments.{WasRead}
 use Rattle.run_outcome.proofs.Refusals.{if_err_map, of_refusal_map}
-use Rattle.capture_engines.proofs.ReceivedRefusals.{files_refused}
 use Rattle.capture_engines.proofs.Taken.{none_begun}
-use Rattle.stream_inspection.specs.Told.{begins}
-use Rattle.stream_inspection.proofs.Told.{begun_none, no_files, streams_refused, told_if}
+use Rattle.stream_inspection.proofs.Told.{begun_none, front_aimed, no_files, streams_refused}
+use Rattle.stream_inspection.proofs.Told.{told_if}
 use Rattle.stream_inspection.proofs.inspecting.inspect_streams.Goals as goal
 
 pub returns-in_err-end-clause-refusal : goal.returns-in_err-end-clause-refusal
@@ -20,22 +19,21 @@ returns-in_err-end-clause-refusal g c =
     rw (p.1, p.2) (of_refusal_map c.in_err-end.field-0.0
     (λ r is. inl (
       refl,
-      inr (files_refused (0 ∷ []) c.in_ok-begun.begun (begins c.args.wanted sdp) c.args.ways.now
-          told (zip c.args.files.now c.note_files.new.files)
-          (begun_none c.args.wanted sdp c.in_ok-begun.begun c.in_ok-begun.ensures.begun) r is),
+      inr (inr (front_aimed c.args.wanted sdp c.in_ok-begun.begun c.args.ways.now told
+          (zip c.args.files.now c.note_files.new.files) c.in_ok-begun.ensures.begun r is)),
     ))
     c.in_err-end.ensures.refusal)
 
 pub returns-in_default-clause-refusal : goal.returns-in_default-clause-refusal
 returns-in_default-clause-refusal g c =
-    let told = WasRead g.S.ByteSource.gave g.S.ByteSource.ended in
     let sdp = option_copied c.args.sdp in
     let none = c.in_ok-end.ensures.none (none_begun c.note_files.new.begun c.in_default.not-Some) in
     inl (
       refl,
-      inr (inr (
+      inr (inl (
         begun_none c.args.wanted sdp c.in_ok-begun.begun c.in_ok-begun.ensures.begun none.0,
-        no_files c.args.ways.now told c.args.files.now c.note_files.new.files none.1,
+        no_files c.args.files.now c.note_files.new.files none.1,
+        refl,
       )),
     )
 

@@ -80,7 +80,14 @@ returns-in_err-next-clause-refusal g c =
     c.from_residual-in_err-next.ensures.1 in
     rw (p.1, p.2) (of_refusal_map c.in_err-next.field-0.0
     (refused_behind 4294967295 c.args.reader.now.format l.invariant.sent.rest
-    (told.gave c.args.reader.now.source) (told.gave l.reader.source) _ _ l.invariant.sent.gave)
+    (told.gave c.args.reader.now.source) (told.gave l.reader.source) _ _ l.invariant.sent.gave
+    (omega (
+      arith,
+      c.loop-place-test.true,
+      l.invariant.sent.count,
+      ap length l.invariant.sent.read,
+      length-append l.invariant.sent.sent (l.picture ∷ []),
+    )))
     (rw l.invariant.stream at c.in_err-next.ensures.refusal))
 
 pub returns-clause-refusal : goal.returns-clause-refusal

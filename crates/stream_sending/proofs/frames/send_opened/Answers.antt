@@ -2,7 +2,7 @@ use Rattle.std.proofs.Common.{[], ◌∷◌, Err, ap, refl}
 use Rattle.std.proofs.lemmas.Result.{IfOk-weaker, err_from_is_err_and}
 use Rattle.run_outcome.proofs.Refusals.{if_err_map, of_refusal_map}
 use Rattle.stream_sending.proofs.FramesRead.{gave_end, gave_first, gave_none, plan_refused}
-use Rattle.stream_sending.proofs.FramesRead.{refused_first, refused_next}
+use Rattle.stream_sending.proofs.FramesRead.{refused_first, refused_next, sized}
 use Rattle.stream_sending.proofs.frames.send_opened.Goals as goal
 
 pub returns-in_err-plan-clause-refusal : goal.returns-in_err-plan-clause-refusal
@@ -18,7 +18,9 @@ returns-in_err-first-clause-refusal g c =
     let p = err_from_is_err_and c.from_residual-in_err-first.result
     c.from_residual-in_err-first.ensures.1 in
     rw (p.1, p.2) (of_refusal_map c.in_err-first.field-0.0
-    (refused_next c.args.wanted.max_octets c.args.reader.now.format _ _ _)
+    (refused_next c.args.wanted.max_octets c.args.reader.now.format _ _ _
+    (sized c.args.wanted.max_octets _ c.args.reader.now.format _ _ c.facts.ensures.full.limits
+    c.in_ok-plan.ensures.made.1 c.in_ok-plan.ensures.made.0 c.format-format.ensures.value))
     c.in_err-first.ensures.refusal)
 
 pub returns-in-None-clause-sent : goal.returns-in-None-clause-sent
@@ -52,5 +54,7 @@ returns-in-Some-clause-refusal g c =
     let next = c.in_ok-first.ensures in
     if_err_map c.send_from.result
     (λ e. of_refusal_map e (refused_first c.args.wanted.max_octets f c.in-Some.first _ _ _ _
+    (sized c.args.wanted.max_octets _ f _ _ c.facts.ensures.full.limits
+    c.in_ok-plan.ensures.made.1 c.in_ok-plan.ensures.made.0 c.format-format.ensures.value)
     (rw c.in-Some.is at next.gave)))
     (rw next.format at c.send_from.ensures.refusal)

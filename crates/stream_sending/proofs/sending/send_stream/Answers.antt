@@ -5,6 +5,7 @@ use Rattle.run_outcome.proofs.Printed.{on_ok}
 use Rattle.run_outcome.proofs.Refusals.{of_refusal_map}
 use Rattle.run_outcome.specs.TextRefusals.{IsCaptureText, SaysText}
 use Rattle.capture_engines.proofs.Sendings.{on_any}
+use Rattle.capture_engines.proofs.SentRefusals.{text_says}
 use Rattle.capture_engines.proofs.TypedTexts.{text_given}
 use Rattle.stream_sending.specs.Sent.{IsFramesRefusal, IsSentBy}
 use Rattle.stream_sending.proofs.sending.send_stream.Goals as goal
@@ -39,11 +40,15 @@ returns-in_err-sent-clause-refusal g c =
     let f = c.in_err-sent.field-0.0 in
     let p = err_from_is_err_and c.from_residual-in_err-sent.result
     c.from_residual-in_err-sent.ensures.1 in
+    let says =
+    text_says told.gave told.ended c.args.sdp.now c.read_if_given.new.sdp _
+    c.in_ok-said.ensures.says in
     rw (p.1, p.2)
     (of_refusal_map f (λ r is. inr (
-    subst (λ (n : ℕ). IsFramesRefusal n (IsRead (told.gave c.args.stream.now)
-    (told.gave c.send_frames.new.stream) (told.ended c.send_frames.new.stream)) r)
-    c.in_ok-sending.ensures.size is
+      says,
+      subst (λ (n : ℕ). IsFramesRefusal n (IsRead (told.gave c.args.stream.now)
+          (told.gave c.send_frames.new.stream) (told.ended c.send_frames.new.stream)) r)
+          c.in_ok-sending.ensures.size is,
     )) c.in_err-sent.ensures.refusal)
 
 pub returns-clause-ended : goal.returns-clause-ended

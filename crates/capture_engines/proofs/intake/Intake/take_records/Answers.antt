@@ -1,5 +1,5 @@
-use Rattle.std.proofs.Common.{◌≡◌, ◌∷◌, [], ap, arith, false, length, length-append, refl, rules}
-use Rattle.std.proofs.Common.{true, ◌∙◌}
+use Rattle.std.proofs.Common.{◌≡◌, ◌∷◌, [], ap, arith, false, inl, inr, length, length-append}
+use Rattle.std.proofs.Common.{refl, rules, true, ◌∙◌}
 use Rattle.run_outcome.proofs.Blaming.{reading_blamed}
 use Rattle.capture_engines.proofs.Readings.{same_twice}
 use Rattle.capture_engines.proofs.Taken.{takes_found, takes_no_records, takes_same}
@@ -51,6 +51,20 @@ returns-in-Ok-false-clause-few g c =
     let none : w.field-0 ≡ false = search rules in
     let found = rw none at w.ensures.found in
     omega (arith, ap length found.records, c.loop.invariant.count)
+
+pub returns-in-Ok-false-clause-within : goal.returns-in-Ok-false-clause-within
+returns-in-Ok-false-clause-within g c =
+    let w = c.in-Ok-false in
+    let none : w.field-0 ≡ false = search rules in
+    let found = rw none at w.ensures.found in
+    inl (omega (arith, ap length found.records, c.loop.invariant.count))
+
+pub returns-in-Err-clause-within : goal.returns-in-Err-clause-within
+returns-in-Err-clause-within g c =
+    inl (omega (arith, ap length c.in-Err.ensures.fault.records, c.loop.invariant.count))
+
+pub returns-clause-within : goal.returns-clause-within
+returns-clause-within g c = inr c.loop.invariant.reads
 
 pub returns-in-Err-clause-taken : goal.returns-in-Err-clause-taken
 returns-in-Err-clause-taken g c =
