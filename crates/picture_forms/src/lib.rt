@@ -27,7 +27,10 @@ pub use pictures::read_y4m_frame;
 pub use pixmap_head_reading::read_pixmap_head;
 pub use pixmap_pictures::read_pixmap_raster;
 pub use pixmap_writing::{write_pixmap, write_pixmap_samples};
+pub use planes::{Spelling, Stride, spell};
 pub use streams::{Standing, StreamReader};
 pub use y4m_head_reading::read_y4m_head;
 pub use y4m_header::format_of_head;
-pub use y4m_writing::{write_y4m_frame, write_y4m_head, write_y4m_samples};
+pub use y4m_writing::{
+    plane_count_of, spelling_of, stride_of, write_y4m_frame, write_y4m_head, write_y4m_samples,
+};

@@ -14,7 +14,7 @@ pub(crate) const PIECE: usize = 2048;
 
 /// How a sample stands in a file.
 #[derive(Clone, Copy)]
-pub(crate) enum Spelling {
+pub enum Spelling {
     /// An octet.
     One,
     /// Two octets, the low one first.
@@ -25,7 +25,7 @@ pub(crate) enum Spelling {
 
 impl Spelling {
     /// How many octets a sample takes.
-    pub(crate) fn size(self) -> usize
+    pub fn size(self) -> usize
         ensures value { result ≡ sample_size self }
         ensures few { (0 < result) × (result ≤ 2) }
     {
@@ -38,13 +38,13 @@ impl Spelling {
 
 /// Which samples of a list a plane has: the first, and each that is so many behind.
 #[derive(Clone, Copy)]
-pub(crate) struct Stride {
-    pub(crate) first: usize,
-    pub(crate) step: usize,
+pub struct Stride {
+    pub first: usize,
+    pub step: usize,
 }
 
-/// Spells samples of a plane, `count` from the `start`-th on.
-fn spell(
+/// Spells samples of a plane, `count` from the `start`-th on, into `octets`, which have just the room.
+pub fn spell(
     spelling: Spelling,
     samples: &[u16],
     stride: Stride,

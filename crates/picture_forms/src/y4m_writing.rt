@@ -232,7 +232,7 @@ fn write_component<K: ByteSink>(
 }
 
 /// How a sample of this depth stands in a stream.
-pub(crate) fn spelling_of(depth: Depth) -> Spelling
+pub fn spelling_of(depth: Depth) -> Spelling
     ensures { result ≡ y4m_spelling depth }
 {
     match depth {
@@ -242,7 +242,7 @@ pub(crate) fn spelling_of(depth: Depth) -> Spelling
 }
 
 /// Where the samples of a component stand among a picture's.
-pub(crate) fn stride_of(sampling: Sampling, component: u8) -> Stride
+pub fn stride_of(sampling: Sampling, component: u8) -> Stride
     requires { component < 3 }
     ensures first { result.first ≡ plane_first sampling component }
     ensures step { result.step ≡ plane_step sampling component }
@@ -262,9 +262,10 @@ pub(crate) fn stride_of(sampling: Sampling, component: u8) -> Stride
 }
 
 /// How many samples a plane has.
-pub(crate) fn plane_count_of(format: &Format, component: u8) -> usize
+pub fn plane_count_of(format: &Format, component: u8) -> usize
     requires { component < 3 }
-    ensures { result ≡ plane_count format.now component }
+    ensures value { result ≡ plane_count format.now component }
+    ensures few { result ≤ 8192 * 8192 }
 {
     let columns = match (format.sampling(), component) {
         (Sampling::Ycc422, 1 | 2) => format.width() / 2,

@@ -184,6 +184,12 @@ all_at P [] all k d lt = absurd (omega (arith, lt))
 all_at P (x ∷ xs) all zero d lt = all.0
 all_at P (x ∷ xs) all (suc k) d lt = all_at P xs all.1 k d (omega (arith, lt))
 
+-- as many samples from the first on
+pub inside_from_zero : (samples : List ℕ) (first step count : ℕ) → Inside samples first step count
+    → Inside samples first step (0 + count)
+inside_from_zero samples first step count within =
+    subst (λ (n : ℕ). Inside samples first step n) (omega arith) within
+
 within_limit : (d : Depth) (v : ℕ) → v < 2 ^ bits_of d → v < sample_limit (y4m_spelling d)
 within_limit D8 v lt = lt
 within_limit D10 v lt = omega (arith, lt)

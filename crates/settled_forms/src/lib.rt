@@ -4,7 +4,6 @@
 mod plane_writing;
 mod planes;
 mod settled;
-mod spelling;
 
 pub use plane_writing::write_planes;
 pub use planes::{planes_size, settle_planes};

@@ -11,9 +11,9 @@ ghost use Rattle.settled_forms.specs.Pieces.{HasGroups, PutsGroups, group_share,
 ghost use Rattle.st_format.specs.Pgroup.{pixel_group};
 ghost use Rattle.st_format.specs.Position.{group_count};
 
-use crate::spelling::{Stride, spell};
 use frame_assembly::{Base, Frame};
-use st_format::{Depth, Format, Sampling};
+use picture_forms::{plane_count_of, spell, spelling_of, stride_of};
+use st_format::{Format, Sampling};
 use std::alloc::Allocator;
 
 /// How many pgroups are settled at once: their samples stay near the processor.
@@ -30,7 +30,7 @@ pub fn planes_size(format: &Format) -> usize
     requires { IsYcc format.now.sampling }
     ensures { result ≡ planes_size format.now }
 {
-    octets_of(format.depth()) * format.sample_count()
+    spelling_of(format.depth()).size() * format.sample_count()
 }
 
 /// Settles a frame, which is YCbCr, into the planes of Y, Cb and Cr, as they stand one behind the
@@ -165,12 +165,13 @@ fn put_groups(
     ensures { PutsGroups format.now component first count samples.now plane.old plane.new }
 {
     let share = share_of(format, component);
-    let size = octets_of(format.depth());
+    let spelling = spelling_of(format.depth());
+    let size = spelling.size();
     let start = size * (share * first);
     let long = size * (share * count);
     let part = &mut plane[start..start + long];
     let stride = stride_of(format.sampling(), component);
-    spell(format.depth(), samples, stride, share * count, part);
+    spell(spelling, samples, stride, 0, share * count, part);
 }
 
 /// How many octets a plane takes.
@@ -178,31 +179,7 @@ fn plane_size(format: &Format, component: u8) -> usize
     requires { component < 3 }
     ensures { result ≡ octets_for format.now (plane_count format.now component) }
 {
-    octets_of(format.depth()) * plane_count_of(format, component)
-}
-
-/// How many samples a plane has.
-fn plane_count_of(format: &Format, component: u8) -> usize
-    requires { component < 3 }
-    ensures value { result ≡ plane_count format.now component }
-    ensures few { result ≤ 8192 * 8192 }
-{
-    let columns = match (format.sampling(), component) {
-        (Sampling::Ycc422, 1 | 2) => format.width() / 2,
-        _ => format.width(),
-    };
-    format.height() as usize * columns as usize
-}
-
-/// How many octets a sample takes.
-fn octets_of(depth: Depth) -> usize
-    ensures value { result ≡ sample_size (y4m_spelling depth) }
-    ensures few { (0 < result) × (result ≤ 2) }
-{
-    match depth {
-        Depth::D8 => 1,
-        Depth::D10 | Depth::D12 | Depth::D16 => 2,
-    }
+    spelling_of(format.depth()).size() * plane_count_of(format, component)
 }
 
 /// How many samples of a component a pgroup has.
@@ -215,25 +192,5 @@ fn share_of(format: &Format, component: u8) -> usize
     match (format.sampling(), component) {
         (Sampling::Ycc422, 1 | 2) => pixels / 2,
         _ => pixels,
-    }
-}
-
-/// Where the samples of a component stand among a picture's.
-fn stride_of(sampling: Sampling, component: u8) -> Stride
-    requires { component < 3 }
-    ensures first { result.first ≡ plane_first sampling component }
-    ensures step { result.step ≡ plane_step sampling component }
-{
-    match (sampling, component) {
-        (Sampling::Ycc422, 0) => Stride { first: 1, step: 2 },
-        (Sampling::Ycc422, 1) => Stride { first: 0, step: 4 },
-        (Sampling::Ycc422, _) => Stride { first: 2, step: 4 },
-        (Sampling::Ycc444, 0) => Stride { first: 1, step: 3 },
-        (Sampling::Ycc444, 1) => Stride { first: 0, step: 3 },
-        (Sampling::Ycc444, _) => Stride { first: 2, step: 3 },
-        (Sampling::Rgb, c) => Stride {
-            first: c as usize,
-            step: 3,
-        },
     }
 }

@@ -8,7 +8,7 @@ read_plane-requires g c =
     rw (
       c.stride_of-stride.ensures.first,
       c.stride_of-stride.ensures.step,
-      c.plane_count_of-count.ensures,
+      c.plane_count_of-count.ensures.value,
       c.sampling.ensures,
     ) (record {
       inside =
@@ -22,7 +22,7 @@ returns-clause-given g c =
     (rw (
       c.stride_of-stride.ensures.first,
       c.stride_of-stride.ensures.step,
-      c.plane_count_of-count.ensures,
+      c.plane_count_of-count.ensures.value,
       c.sampling.ensures,
       c.spelling_of.ensures,
       c.depth.ensures,

@@ -8,7 +8,7 @@ write_plane-requires-clause-inside g c =
     rw (
       c.stride_of-stride.ensures.first,
       c.stride_of-stride.ensures.step,
-      c.plane_count_of-count.ensures,
+      c.plane_count_of-count.ensures.value,
       c.sampling.ensures,
     ) (plane_inside v c.args.component c.requires.ycc c.requires.component c.requires.whole)
 
@@ -19,7 +19,7 @@ returns-clause-ok g c =
     (rw (
       c.stride_of-stride.ensures.first,
       c.stride_of-stride.ensures.step,
-      c.plane_count_of-count.ensures,
+      c.plane_count_of-count.ensures.value,
       c.sampling.ensures,
       c.spelling_of.ensures,
       c.depth.ensures,
@@ -32,7 +32,7 @@ returns-clause-fault g c =
     (rw (
       c.stride_of-stride.ensures.first,
       c.stride_of-stride.ensures.step,
-      c.plane_count_of-count.ensures,
+      c.plane_count_of-count.ensures.value,
       c.sampling.ensures,
       c.spelling_of.ensures,
       c.depth.ensures,

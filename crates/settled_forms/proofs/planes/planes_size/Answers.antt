@@ -3,5 +3,5 @@ use Rattle.settled_forms.proofs.planes.planes_size.Goals as goal
 
 pub returns : goal.returns
 returns c =
-    rw (c.octets_of.ensures.value, c.depth.ensures, c.sample_count.ensures.value)
+    rw (c.size.ensures.value, c.spelling_of.ensures, c.depth.ensures, c.sample_count.ensures.value)
     (planes_long c.args.format.now c.requires)

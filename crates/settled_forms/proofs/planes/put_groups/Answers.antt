@@ -1,54 +1,54 @@
-use Rattle.std.proofs.Common.{◌≡◌, ◌≤◌, ◌+◌, ◌-◌, ◌*◌, ◌∙◌, ℕ, length, ap, sym, arith}
+use Rattle.std.proofs.Common.{◌≡◌, ◌≤◌, ◌+◌, ◌-◌, ◌*◌, ◌∙◌, ℕ, length, ap, arith}
 use Rattle.picture_forms.specs.Layouts.{y4m_spelling}
 use Rattle.picture_forms.specs.Planes.{sample_size}
-use Rattle.st_format.specs.declared.sampling.Depth.{Depth}
-use Rattle.settled_forms.proofs.Groups.{part_long, part_within, puts_groups, share_inside}
+use Rattle.settled_forms.proofs.Groups.{inside_from_zero, part_long, part_within, puts_groups}
+use Rattle.settled_forms.proofs.Groups.{share_inside}
 use Rattle.settled_forms.proofs.planes.put_groups.Goals as goal
 
 pub slice_bounds-part-end : goal.slice_bounds-part-end
 slice_bounds-part-end c =
     part_within c.args.format.now c.args.component c.args.first c.args.count
-    c.octets_of-size.result c.share_of-share.result c.args.plane.now
-    (c.octets_of-size.ensures.value
-    ∙ ap (λ (d : Depth). sample_size (y4m_spelling d)) c.depth.ensures)
+    c.size-size.result c.share_of-share.result c.args.plane.now
+    (c.size-size.ensures.value ∙ ap sample_size
+    (c.spelling_of-spelling.ensures ∙ ap y4m_spelling c.depth.ensures))
     c.share_of-share.ensures.value c.requires.inside c.requires.room
 
 pub spell-requires-clause-inside : goal.spell-requires-clause-inside
 spell-requires-clause-inside c =
-    rw (
+    inside_from_zero c.args.samples.now c.stride_of-stride.result.first
+    c.stride_of-stride.result.step (c.share_of-share.result * c.args.count)
+    (rw (
       c.stride_of-stride.ensures.first,
       c.stride_of-stride.ensures.step,
       c.sampling.ensures,
       c.share_of-share.ensures.value,
     ) (share_inside c.args.format.now c.args.component c.args.count c.args.samples.now
-    c.requires.component c.requires.samples)
+    c.requires.component c.requires.samples))
 
 pub spell-requires-clause-room : goal.spell-requires-clause-room
 spell-requires-clause-room c =
-    let size : ℕ = c.octets_of-size.result in
+    let size : ℕ = c.size-size.result in
     let share : ℕ = c.share_of-share.result in
     let start : ℕ = size * (share * c.args.first) in
     let long : ℕ = size * (share * c.args.count) in
     let within : start + long ≤ length c.args.plane.now =
     part_within c.args.format.now c.args.component c.args.first c.args.count size share
     c.args.plane.now
-    (c.octets_of-size.ensures.value
-    ∙ ap (λ (d : Depth). sample_size (y4m_spelling d)) c.depth.ensures)
+    (c.size-size.ensures.value ∙ ap sample_size
+    (c.spelling_of-spelling.ensures ∙ ap y4m_spelling c.depth.ensures))
     c.share_of-share.ensures.value c.requires.inside c.requires.room in
     part_long start (start + long - start) long c.args.plane.now (omega arith) within
-    ∙ ap (λ (n : ℕ). n * (share * c.args.count))
-    (c.octets_of-size.ensures.value
-    ∙ ap (λ (d : Depth). sample_size (y4m_spelling d)) (c.depth.ensures ∙ sym c.depth-2.ensures))
+    ∙ ap (λ (n : ℕ). n * (share * c.args.count)) c.size-size.ensures.value
 
 pub returns : goal.returns
 returns c =
-    let size : ℕ = c.octets_of-size.result in
+    let size : ℕ = c.size-size.result in
     let share : ℕ = c.share_of-share.result in
     let start : ℕ = size * (share * c.args.first) in
     let long : ℕ = size * (share * c.args.count) in
     let is_size : size ≡ sample_size (y4m_spelling c.args.format.now.depth) =
-    c.octets_of-size.ensures.value
-    ∙ ap (λ (d : Depth). sample_size (y4m_spelling d)) c.depth.ensures in
+    c.size-size.ensures.value ∙ ap sample_size
+    (c.spelling_of-spelling.ensures ∙ ap y4m_spelling c.depth.ensures) in
     let within : start + long ≤ length c.args.plane.now =
     part_within c.args.format.now c.args.component c.args.first c.args.count size share
     c.args.plane.now is_size c.share_of-share.ensures.value c.requires.inside c.requires.room in
@@ -59,6 +59,7 @@ returns c =
       c.stride_of-stride.ensures.first,
       c.stride_of-stride.ensures.step,
       c.sampling.ensures,
-      c.depth-2.ensures,
+      c.spelling_of-spelling.ensures,
+      c.depth.ensures,
       c.share_of-share.ensures.value,
     ) at c.spell.ensures)
