@@ -10,6 +10,7 @@ use std::str;
 use text_line::add;
 
 /// Adds a segment in lower-case hex digits, without leading zeros.
+#[tactic(auto, unfolding(std::specs::Net::Text::hex))]
 pub(crate) fn add_hex<const N: usize>(text: &mut ArrayString<N>, segment: u16)
     requires { array_string_len text.old + 4 ≤ N }
     ensures text { text.new.bytes ≡ text.old.bytes ++ hex segment }

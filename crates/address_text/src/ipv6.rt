@@ -28,6 +28,7 @@ pub(crate) fn add_ipv6<const N: usize>(text: &mut ArrayString<N>, address: Ipv6A
 
 /// Adds segments with the longest run of zeros as `::`, of two such runs the first, where the run
 /// is of two segments or more.
+#[tactic(auto, unfolding(std::specs::Net::Text::hex_groups_text))]
 fn add_compressed<const N: usize>(text: &mut ArrayString<N>, segments: &[u16])
     requires { array_string_len text.old + 5 * length segments.now ≤ N }
     ensures text { text.new.bytes ≡ text.old.bytes ++ hex_groups_text segments.now }

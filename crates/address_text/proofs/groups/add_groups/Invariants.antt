@@ -1,4 +1,4 @@
-use Rattle.std.proofs.Common.{◌≡◌, ◌≤◌, ◌+◌, ◌*◌, ◌++◌, ◌∷◌, length, get_or, take}
+use Rattle.std.proofs.Common.{◌≡◌, ◌≤◌, ◌+◌, ◌*◌, ◌++◌, ◌∷◌, get_or, take}
 use Rattle.std.specs.Net.Text.{groups_text}
 use Rattle.arrayvec.specs.ArrayString.{array_string_len}
 use Rattle.address_text.proofs.groups.add_groups.Given as goal

@@ -1,8 +1,6 @@
-use Rattle.std.proofs.Common.{ℕ, ◌<◌, ◌-◌, List, [], ◌∷◌, IsUtf8, arith, drop, rules, take}
-use Rattle.std.proofs.lemmas.Grind.{common_steps}
+use Rattle.std.proofs.Common.{ℕ, ◌<◌, ◌-◌, List, [], ◌∷◌, IsUtf8, drop, take}
 use Rattle.std.proofs.lemmas.Str.{IsAscii-drop, IsAscii-take, IsUtf8-from_ascii}
 use Rattle.std.proofs.lemmas.Str.Ascii.{IsAscii-cons, IsAscii-nil}
-use Rattle.std.specs.Net.Text.{hex}
 use Rattle.address_text.proofs.hex.add_hex.Goals as goal
 
 -- the last of four digits are text
@@ -21,7 +19,3 @@ unreachable-requires g c =
     c.hex_digit-3.result c.hex_digit-4.result c.leading_zero_digits.result
     c.hex_digit.ensures.ascii c.hex_digit-2.ensures.ascii c.hex_digit-3.ensures.ascii
     c.hex_digit-4.ensures.ascii)
-
-pub returns-clause-text : goal.returns-clause-text
-unfolding hex
-returns-clause-text g c = first_of (search rules, grind (arith, common_steps))
