@@ -8,6 +8,5 @@ mod BothLaws
 pub mod StreamLaws
 pub mod Kept
 pub mod Said
-pub mod Wide
 pub mod Texts
 pub mod Omissions

@@ -1,18 +1,37 @@
 //! What is counted of a flow, as text for a person.
-ghost use Rattle.std.specs.Prelude.{◌≡◌, ◌<◌, Some};
-ghost use Rattle.recording_counts.specs.FlowLines.{count_text, moment_text, nine_digits};
-ghost use Rattle.recording_counts.specs.FlowLines.{others_text};
-ghost use Rattle.recording_counts.specs.FlowLines.{rate_text, rtcp_text, stream_text, streams_text};
-ghost use Rattle.recording_counts.specs.FlowLines.{hundredths, hundredths_text, times_text};
-ghost use Rattle.recording_counts.specs.FlowLines.{two_digits};
+ghost use Rattle.std.specs.Prelude.{◌≡◌, ◌<◌, ◌≤◌, ◌+◌, ◌*◌, ◌++◌, Some, length};
+ghost use Rattle.std.specs.List.{flat_map};
+ghost use Rattle.arrayvec.specs.ArrayString.{array_string_len};
+ghost use Rattle.recording_counts.specs.FlowLines.{count_text, hundredths, others_text, rate_text};
+ghost use Rattle.recording_counts.specs.FlowLines.{rtcp_text, span_text, stream_text};
+ghost use Rattle.recording_counts.specs.FlowLines.{streams_text, times_text};
 
 use crate::flow_count::FlowCount;
+use crate::number_text::{add_hundredths, add_moment};
 use crate::rtp_stream::RtpStream;
 use crate::rtp_streams::Streams;
 use crate::times::Times;
+use address_text::add_socket;
+use arrayvec::ArrayString;
 use std::fmt;
+use text_line::{add, add_number};
 
-/// A flow in lines, the last without an end of line:
+/// Room for what is told of a flow, in lines or as an object of JSON, in octets.
+pub const FLOW_TEXT: usize = 3328;
+
+/// A flow in lines, as `add_count_lines` adds them.
+impl fmt::Display for FlowCount {
+    ghost output = { λ c. Some (count_text c) };
+
+    fn fmt<W: fmt::Write>(&self, f: &mut fmt::Formatter<W>) -> fmt::Result {
+        let mut text = ArrayString::<FLOW_TEXT>::new();
+        add_count_lines(&mut text, self);
+        f.write_str(text.as_str())
+    }
+}
+
+/// Adds a flow in lines, the last without an end of line, to a text that has room for `FLOW_TEXT`
+/// octets more:
 ///
 /// ```text
 /// flow 239.20.0.1:5004
@@ -24,166 +43,118 @@ use std::fmt;
 /// RTCP is told where a datagram is such. A line is there for each stream of RTP, and one that
 /// there are others where there are. The last one is there where a datagram has a time. A rate is
 /// told where the last time is behind the first.
-impl fmt::Display for FlowCount {
-    ghost output = { λ c. Some (count_text c) };
+pub fn add_count_lines<const N: usize>(text: &mut ArrayString<N>, count: &FlowCount)
+    requires { array_string_len text.old + FLOW_TEXT ≤ N }
+    ensures text { text.new.bytes ≡ text.old.bytes ++ count_text count.now }
+    ensures room { array_string_len text.new ≤ array_string_len text.old + FLOW_TEXT }
+{
+    add(text, "flow ");
+    add_socket(text, count.destination);
+    add_number(text, "\n  datagrams ", count.datagrams);
+    add_number(text, ", octets ", count.octets);
+    add_number(text, ", RTP ", count.rtp.datagrams);
+    add_rtcp(text, count.rtp.rtcp);
+    add_streams(text, &count.rtp.streams);
+    add_times(text, count.times, count.octets);
+}
 
-    fn fmt<W: fmt::Write>(&self, f: &mut fmt::Formatter<W>) -> fmt::Result {
-        let destination = self.destination;
-        let datagrams = self.datagrams;
-        let octets = self.octets;
-        let rtp = self.rtp.datagrams;
-        let rtcp = Rtcp(self.rtp.rtcp);
-        let streams = StreamLines(&self.rtp.streams);
-        let times = TimesLine(self.times, octets);
-        write!(
-            f,
-            "flow {destination}\n  datagrams {datagrams}, octets {octets}, \
-             RTP {rtp}{rtcp}{streams}{times}"
-        )
+/// Adds how many datagrams are of RTCP, where there are such.
+fn add_rtcp<const N: usize>(text: &mut ArrayString<N>, count: u64)
+    requires { array_string_len text.old + 27 ≤ N }
+    ensures text { text.new.bytes ≡ text.old.bytes ++ rtcp_text count }
+    ensures room { array_string_len text.new ≤ array_string_len text.old + 27 }
+{
+    if count == 0 {
+        return;
+    }
+    add_number(text, ", RTCP ", count);
+}
+
+/// Adds a line for each stream, and one that there are others, where there are.
+fn add_streams<const N: usize>(text: &mut ArrayString<N>, streams: &Streams)
+    requires { array_string_len text.old + 2477 ≤ N }
+    ensures text { text.new.bytes ≡ text.old.bytes ++ streams_text streams.now }
+    ensures room { array_string_len text.new ≤ array_string_len text.old + 2477 }
+{
+    add_each(text, streams.kept.as_slice());
+    add_others(text, streams.others);
+}
+
+/// Adds that there are others, where there are.
+fn add_others<const N: usize>(text: &mut ArrayString<N>, others: bool)
+    requires { array_string_len text.old + 13 ≤ N }
+    ensures text { text.new.bytes ≡ text.old.bytes ++ others_text others }
+    ensures room { array_string_len text.new ≤ array_string_len text.old + 13 }
+{
+    if others {
+        add(text, "\n  and others");
     }
 }
 
-/// How many datagrams are of RTCP, where there are such.
-#[derive(Clone, Copy)]
-struct Rtcp(u64);
-
-impl fmt::Display for Rtcp {
-    ghost output = { λ r. Some (rtcp_text r.0) };
-
-    fn fmt<W: fmt::Write>(&self, f: &mut fmt::Formatter<W>) -> fmt::Result {
-        let count = self.0;
-        if count == 0 {
-            return Ok(());
-        }
-        write!(f, ", RTCP {count}")
+/// Adds a line for each stream.
+fn add_each<const N: usize>(text: &mut ArrayString<N>, streams: &[RtpStream])
+    requires { array_string_len text.old + 154 * length streams.now ≤ N }
+    ensures text { text.new.bytes ≡ text.old.bytes ++ flat_map stream_text streams.now }
+    ensures room { array_string_len text.new
+        ≤ array_string_len text.old + 154 * length streams.now }
+{
+    for stream in streams {
+        add_stream(text, *stream);
     }
 }
 
-/// A line for each stream, and one that there are others, where there are.
-#[derive(Clone, Copy)]
-struct StreamLines<'a>(&'a Streams);
-
-impl fmt::Display for StreamLines<'_> {
-    ghost output = { λ l. Some (streams_text l.0.now) };
-
-    fn fmt<W: fmt::Write>(&self, f: &mut fmt::Formatter<W>) -> fmt::Result {
-        let kept = EachStream(self.0.kept.as_slice());
-        let others = Others(self.0.others);
-        write!(f, "{kept}{others}")
-    }
+/// Adds the line of a stream.
+fn add_stream<const N: usize>(text: &mut ArrayString<N>, stream: RtpStream)
+    requires { array_string_len text.old + 154 ≤ N }
+    ensures text { text.new.bytes ≡ text.old.bytes ++ stream_text stream }
+    ensures room { array_string_len text.new ≤ array_string_len text.old + 154 }
+{
+    add_number(text, "\n  payload type ", u64::from(stream.payload_type));
+    add_number(text, ", source ", u64::from(stream.ssrc));
+    add_number(text, ": datagrams ", stream.datagrams);
+    add_number(text, ", timestamps ", u64::from(stream.first));
+    add_number(text, " to ", u64::from(stream.last));
 }
 
-/// That there are others, where there are.
-#[derive(Clone, Copy)]
-struct Others(bool);
-
-impl fmt::Display for Others {
-    ghost output = { λ o. Some (others_text o.0) };
-
-    fn fmt<W: fmt::Write>(&self, f: &mut fmt::Formatter<W>) -> fmt::Result {
-        if self.0 {
-            f.write_str("\n  and others")
-        } else {
-            Ok(())
-        }
-    }
+/// Adds the least and the greatest time, where there are such, and the rate of so many octets
+/// between them.
+fn add_times<const N: usize>(text: &mut ArrayString<N>, times: Times, octets: u64)
+    requires { array_string_len text.old + 164 ≤ N }
+    ensures text { text.new.bytes ≡ text.old.bytes ++ times_text times octets }
+    ensures room { array_string_len text.new ≤ array_string_len text.old + 164 }
+{
+    let (Some(first), Some(last)) = (times.first, times.last) else {
+        return;
+    };
+    add_span(text, first, last, octets);
 }
 
-/// A line for each stream.
-#[derive(Clone, Copy)]
-struct EachStream<'a>(&'a [RtpStream]);
-
-impl fmt::Display for EachStream<'_> {
-    ghost use Rattle.std.specs.List.{flat_map};
-
-    ghost output = { λ e. Some (flat_map stream_text e.0.now) };
-
-    fn fmt<W: fmt::Write>(&self, f: &mut fmt::Formatter<W>) -> fmt::Result {
-        for stream in self.0 {
-            write!(f, "{}", StreamLine(*stream))?;
-        }
-        Ok(())
-    }
+/// Adds the line of two times, and the rate of so many octets between them.
+fn add_span<const N: usize>(text: &mut ArrayString<N>, first: u64, last: u64, octets: u64)
+    requires { array_string_len text.old + 164 ≤ N }
+    ensures text { text.new.bytes ≡ text.old.bytes ++ span_text octets (Some first) (Some last) }
+    ensures room { array_string_len text.new ≤ array_string_len text.old + 164 }
+{
+    add(text, "\n  from ");
+    add_moment(text, first);
+    add(text, " to ");
+    add_moment(text, last);
+    add_rate(text, octets, first, last);
 }
 
-/// The line of a stream.
-#[derive(Clone, Copy)]
-struct StreamLine(RtpStream);
-
-impl fmt::Display for StreamLine {
-    ghost output = { λ l. Some (stream_text l.0) };
-
-    fn fmt<W: fmt::Write>(&self, f: &mut fmt::Formatter<W>) -> fmt::Result {
-        let payload_type = self.0.payload_type;
-        let source = self.0.ssrc;
-        let datagrams = self.0.datagrams;
-        let first = self.0.first;
-        let last = self.0.last;
-        write!(
-            f,
-            "\n  payload type {payload_type}, source {source}: datagrams {datagrams}, \
-             timestamps {first} to {last}"
-        )
+/// Adds how many octets came between two times, in nanoseconds, in Mbit/s, where the last is behind
+/// the first.
+fn add_rate<const N: usize>(text: &mut ArrayString<N>, octets: u64, first: u64, last: u64)
+    requires { array_string_len text.old + 70 ≤ N }
+    ensures text { text.new.bytes ≡ text.old.bytes ++ rate_text octets first last }
+    ensures room { array_string_len text.new ≤ array_string_len text.old + 70 }
+{
+    if last <= first {
+        return;
     }
-}
-
-/// The least and the greatest time, where there are such, and the rate of so many octets between
-/// them.
-#[derive(Clone, Copy)]
-struct TimesLine(Times, u64);
-
-impl fmt::Display for TimesLine {
-    ghost output = { λ l. Some (times_text l.0 l.1) };
-
-    fn fmt<W: fmt::Write>(&self, f: &mut fmt::Formatter<W>) -> fmt::Result {
-        let (Some(first), Some(last)) = (self.0.first, self.0.last) else {
-            return Ok(());
-        };
-        let octets = self.1;
-        let begin = Moment(first);
-        let end = Moment(last);
-        let rate = Rate {
-            octets,
-            first,
-            last,
-        };
-        write!(f, "\n  from {begin} to {end}{rate}")
-    }
-}
-
-/// A time in seconds since 1970, with nine digits behind the point.
-#[derive(Clone, Copy)]
-pub(crate) struct Moment(pub u64);
-
-impl fmt::Display for Moment {
-    ghost output = { λ m. Some (moment_text m.0) };
-
-    fn fmt<W: fmt::Write>(&self, f: &mut fmt::Formatter<W>) -> fmt::Result {
-        let seconds = self.0 / 1_000_000_000;
-        let rest = Nine(self.0 % 1_000_000_000);
-        write!(f, "{seconds}.{rest}")
-    }
-}
-
-/// How many octets came between two times, in nanoseconds, in Mbit/s, where the last is behind the
-/// first.
-#[derive(Clone, Copy)]
-struct Rate {
-    octets: u64,
-    first: u64,
-    last: u64,
-}
-
-impl fmt::Display for Rate {
-    ghost output = { λ r. Some (rate_text r.octets r.first r.last) };
-
-    fn fmt<W: fmt::Write>(&self, f: &mut fmt::Formatter<W>) -> fmt::Result {
-        if self.last <= self.first {
-            return Ok(());
-        }
-        let rate = Hundredths(rate_of(self.octets, self.last - self.first));
-        write!(f, ", {rate} Mbit/s")
-    }
+    add(text, ", ");
+    add_hundredths(text, rate_of(octets, last - first));
+    add(text, " Mbit/s");
 }
 
 /// So many octets in so many nanoseconds, in hundredths of Mbit/s, rounded down.
@@ -192,42 +163,4 @@ pub(crate) fn rate_of(octets: u64, nanoseconds: u64) -> u128
     ensures { result ≡ hundredths octets nanoseconds }
 {
     u128::from(octets) * 800_000 / u128::from(nanoseconds)
-}
-
-/// A number of hundredths, with two digits behind the point.
-#[derive(Clone, Copy)]
-pub(crate) struct Hundredths(pub u128);
-
-impl fmt::Display for Hundredths {
-    ghost output = { λ h. Some (hundredths_text h.0) };
-
-    fn fmt<W: fmt::Write>(&self, f: &mut fmt::Formatter<W>) -> fmt::Result {
-        let whole = self.0 / 100;
-        let rest = Two((self.0 % 100) as u64);
-        write!(f, "{whole}.{rest}")
-    }
-}
-
-/// A number in nine digits at least, zeros first.
-#[derive(Clone, Copy)]
-struct Nine(u64);
-
-impl fmt::Display for Nine {
-    ghost output = { λ n. Some (nine_digits n.0) };
-
-    fn fmt<W: fmt::Write>(&self, f: &mut fmt::Formatter<W>) -> fmt::Result {
-        write!(f, "{:09}", self.0)
-    }
-}
-
-/// A number in two digits at least, a zero first.
-#[derive(Clone, Copy)]
-struct Two(u64);
-
-impl fmt::Display for Two {
-    ghost output = { λ n. Some (two_digits n.0) };
-
-    fn fmt<W: fmt::Write>(&self, f: &mut fmt::Formatter<W>) -> fmt::Result {
-        write!(f, "{:02}", self.0)
-    }
 }

@@ -1,14 +1,20 @@
 //! Packets that are left out, counted.
-ghost use Rattle.std.specs.Prelude.{◌≡◌, ◌++◌, ◌∷◌, ◌+◌, ◌-◌, ◌^◌, List, [], Some, length, min};
-ghost use Rattle.std.specs.Prelude.{if◌then◌else◌};
+ghost use Rattle.std.specs.Prelude.{◌≡◌, ◌≤◌, ◌++◌, ◌∷◌, ◌+◌, ◌-◌, ◌^◌, List, [], Some, length};
+ghost use Rattle.std.specs.Prelude.{if◌then◌else◌, min};
+ghost use Rattle.arrayvec.specs.ArrayString.{array_string_len};
 ghost use Rattle.st_format.specs.Device.{capped};
 ghost use Rattle.recording_counts.specs.declared.omission.Omission.{Omission as Reason};
 ghost use Rattle.recording_counts.specs.LeftOut.{each_of, is_omission, left_out_of};
 ghost use Rattle.recording_counts.specs.LeftOut.{left_out_text, reason_text, sum_of};
 
 use crate::omission::Omission;
+use arrayvec::ArrayString;
 use pcap_file::NoDatagram;
 use std::fmt;
+use text_line::{add, add_number};
+
+/// Room for the lines of all reasons, in octets.
+pub const LEFT_OUT_TEXT: usize = 336;
 
 /// How many packets of recordings are left out, by the reason. A count stays at 2^64 - 1 once it is
 /// there.
@@ -147,39 +153,44 @@ fn one_more(count: u64, counted: Omission, omission: Omission) -> u64
     }
 }
 
-/// A line for each reason for which a packet is left out, as `left out 10 NotUdp`, in the order of
-/// the reasons, each behind an end of line.
+/// A line for each reason for which a packet is left out, as `add_left_out` adds them.
 impl fmt::Display for LeftOut {
     ghost output = { λ l. Some (left_out_text l) };
 
     fn fmt<W: fmt::Write>(&self, f: &mut fmt::Formatter<W>) -> fmt::Result {
-        let cut_short = ReasonLine(self.cut_short, CUT_SHORT);
-        let not_ip = ReasonLine(self.not_ip, NOT_IP);
-        let bad_ip_header = ReasonLine(self.bad_ip_header, BAD_IP_HEADER);
-        let not_udp = ReasonLine(self.not_udp, NOT_UDP);
-        let fragment = ReasonLine(self.fragment, FRAGMENT);
-        let bad_length = ReasonLine(self.bad_udp_length, BAD_UDP_LENGTH);
-        let other_flow = ReasonLine(self.other_flow, Omission::OtherFlow);
-        write!(
-            f,
-            "{cut_short}{not_ip}{bad_ip_header}{not_udp}{fragment}{bad_length}{other_flow}"
-        )
+        let mut text = ArrayString::<LEFT_OUT_TEXT>::new();
+        add_left_out(&mut text, self);
+        f.write_str(text.as_str())
     }
 }
 
-/// How many packets are left out for a reason, where there are such.
-#[derive(Clone, Copy)]
-struct ReasonLine(u64, Omission);
+/// Adds a line for each reason for which a packet is left out, as `left out 10 NotUdp`, in the
+/// order of the reasons, each behind an end of line, to a text that has room for `LEFT_OUT_TEXT`
+/// octets more.
+pub fn add_left_out<const N: usize>(text: &mut ArrayString<N>, left_out: &LeftOut)
+    requires { array_string_len text.old + LEFT_OUT_TEXT ≤ N }
+    ensures text { text.new.bytes ≡ text.old.bytes ++ left_out_text left_out.now }
+    ensures room { array_string_len text.new ≤ array_string_len text.old + LEFT_OUT_TEXT }
+{
+    add_reason(text, left_out.cut_short, CUT_SHORT);
+    add_reason(text, left_out.not_ip, NOT_IP);
+    add_reason(text, left_out.bad_ip_header, BAD_IP_HEADER);
+    add_reason(text, left_out.not_udp, NOT_UDP);
+    add_reason(text, left_out.fragment, FRAGMENT);
+    add_reason(text, left_out.bad_udp_length, BAD_UDP_LENGTH);
+    add_reason(text, left_out.other_flow, Omission::OtherFlow);
+}
 
-impl fmt::Display for ReasonLine {
-    ghost output = { λ l. Some (reason_text l.0 l.1) };
-
-    fn fmt<W: fmt::Write>(&self, f: &mut fmt::Formatter<W>) -> fmt::Result {
-        let count = self.0;
-        if count == 0 {
-            return Ok(());
-        }
-        let name = self.1.name();
-        write!(f, "\nleft out {count} {name}")
+/// Adds how many packets are left out for a reason, where there are such.
+fn add_reason<const N: usize>(text: &mut ArrayString<N>, count: u64, reason: Omission)
+    requires { array_string_len text.old + 47 ≤ N }
+    ensures text { text.new.bytes ≡ text.old.bytes ++ reason_text count reason }
+    ensures room { array_string_len text.new ≤ array_string_len text.old + 47 }
+{
+    if count == 0 {
+        return;
     }
+    add_number(text, "\nleft out ", count);
+    add(text, " ");
+    add(text, reason.name());
 }

@@ -1,5 +1,5 @@
 //! Why a packet is left out.
-ghost use Rattle.std.specs.Prelude.{◌≡◌};
+ghost use Rattle.std.specs.Prelude.{◌≡◌, ◌≤◌, length};
 ghost use Rattle.recording_counts.specs.LeftOut.{omission_name, omission_number};
 
 use pcap_file::NoDatagram;
@@ -24,9 +24,11 @@ impl Omission {
         }
     }
 
-    /// What is told of it behind a count: the reason's name, as `NotUdp`, or `of another flow`.
+    /// What is told of it behind a count, in at most 16 octets: the reason's name, as `NotUdp`, or
+    /// `of another flow`.
     pub fn name(self) -> &'static str
-        ensures { result.now ≡ omission_name self }
+        ensures name { result.now ≡ omission_name self }
+        ensures short { length result.now ≤ 16 }
     {
         match self {
             Omission::NoDatagram(reason) => reason.name(),

@@ -1,0 +1,11 @@
+use Rattle.std.proofs.Common.{arith}
+use Rattle.recording_counts.specs.FlowJson.{other_json}
+use Rattle.recording_counts.proofs.Texts.{next_added}
+use Rattle.recording_counts.proofs.flow_json.add_others.Goals as goal
+
+pub loop-stream-preserved : goal.loop-stream-preserved
+loop-stream-preserved g c = record {
+  text = next_added other_json c.args.streams.now c.loop-stream.stream-index _ _ _ _
+      c.loop-stream-test.true c.loop-stream.invariant.text c.add_other.ensures.text;
+  room = omega (arith, c.loop-stream.invariant.room, c.add_other.ensures.room);
+}
