@@ -7,5 +7,5 @@ mod Told
 mod Moments
 mod Lasts
 mod Refusals
-mod Wide
+mod Pieces
 mod Texts

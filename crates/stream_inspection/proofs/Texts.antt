@@ -1,5 +1,5 @@
--- Texts that are put one behind the other.
-use Rattle.std.proofs.Common.{◌≡◌, ◌∙◌, ℕ, List, [], ◌++◌, ap, append_assoc, subst}
+-- The texts of an inspection, one behind the other.
+use Rattle.std.proofs.Common.{◌≡◌, ◌∙◌, ℕ, List, [], ◌++◌, ap, subst}
 use Rattle.std.specs.List.{flat_map}
 use Rattle.media_file.specs.Records.{Entry}
 use Rattle.recording_counts.specs.declared.packet.Packet.{Packet}
@@ -17,20 +17,8 @@ use Rattle.stream_inspection.specs.declared.inspection.Inspection.{Inspection}
 use Rattle.stream_inspection.specs.declared.rows.Row.TheVariants.{Control, Skew}
 use Rattle.stream_inspection.specs.declared.target.Target.{Target}
 use Rattle.stream_inspection.specs.declared.text.Form.{Form}
+use Rattle.stream_inspection.proofs.Pieces.{six}
 use Rattle.stream_inspection.proofs.Told.{lines_same}
-
--- one text behind another
-back : (t s u x y : List ℕ) → s ≡ t ++ x → u ≡ s ++ y → u ≡ t ++ (x ++ y)
-back t s u x y p q = q ∙ ap (λ (l : List ℕ). l ++ y) p ∙ append_assoc t x y
-
--- six texts behind another
-pub six : (t t1 t2 t3 t4 t5 t6 a b c d e f : List ℕ) → t1 ≡ t ++ a → t2 ≡ t1 ++ b → t3 ≡ t2 ++ c
-    → t4 ≡ t3 ++ d → t5 ≡ t4 ++ e → t6 ≡ t5 ++ f
-    → t6 ≡ t ++ (a ++ (b ++ (c ++ (d ++ (e ++ f)))))
-six t t1 t2 t3 t4 t5 t6 a b c d e f p q r s u v =
-    back t t1 t6 a (b ++ (c ++ (d ++ (e ++ f)))) p
-    (back t1 t2 t6 b (c ++ (d ++ (e ++ f))) q
-    (back t2 t3 t6 c (d ++ (e ++ f)) r (back t3 t4 t6 d (e ++ f) s (back t4 t5 t6 e f u v))))
 
 -- the text of an inspection is that of its records
 pub is_text : {A : Type 0} (form : Form) (t : Target) (i : Inspection A) (entries : List Entry)

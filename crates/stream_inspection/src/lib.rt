@@ -3,9 +3,12 @@
 //! text.
 #![tactic(auto)]
 
+mod columns;
 mod files;
+mod headings;
 mod inspecting;
 mod inspection;
+mod json;
 mod looking;
 mod numbering;
 mod numbers;

@@ -1,58 +1,20 @@
 //! What is told of streams.
-ghost use Rattle.std.specs.Prelude.{◌≡◌, ◌++◌, List, Some, OnOk};
+ghost use Rattle.std.specs.Prelude.{◌≡◌, ◌++◌, List, OnOk};
 ghost use Rattle.std.specs.List.{flat_map};
 ghost use Rattle.recording_counts.specs.declared.packet.Packet.{Packet as PacketValue};
 ghost use Rattle.stream_inspection.specs.Lines.{row_line};
 ghost use Rattle.stream_inspection.specs.Numbers.{AreStreams, told_streams};
-ghost use Rattle.stream_inspection.specs.Streams.{heading_text, packet_number};
+ghost use Rattle.stream_inspection.specs.Streams.{packet_number};
 ghost use Rattle.stream_inspection.specs.Streams.{path_row, stream_lines, together_row};
-ghost use Rattle.stream_inspection.specs.Streams.{is_wrong, lower, span, wrong_lines, wrong_text};
+ghost use Rattle.stream_inspection.specs.Streams.{is_wrong, lower, span, wrong_lines};
 
+use crate::headings::{stream_heading, wrong_heading};
 use crate::rows::{PathRow, Row, TogetherRow};
 use crate::stream_tables::StreamTables;
 use crate::text::{Form, put_heading, put_row};
 use recording_counts::{PathCount, StreamCount, StreamKey};
 use st_format::Path;
 use std::alloc::{AllocError, Allocator};
-use std::fmt;
-
-/// The heading of a stream.
-#[derive(Clone, Copy)]
-struct Heading(StreamKey);
-
-impl fmt::Display for Heading {
-    ghost output = { λ h. Some (heading_text h.0) };
-
-    fn fmt<W: fmt::Write>(&self, f: &mut fmt::Formatter<W>) -> fmt::Result {
-        write!(
-            f,
-            "stream of payload type {} and source {}\n  path    datagrams       lowest      \
-             highest         lost     repeated         late",
-            self.0.payload_type, self.0.ssrc
-        )
-    }
-}
-
-/// What is wrong with a stream on one path, in words.
-#[derive(Clone, Copy)]
-struct Wrong(PathRow);
-
-impl fmt::Display for Wrong {
-    ghost output = { λ w. Some (wrong_text w.0) };
-
-    fn fmt<W: fmt::Write>(&self, f: &mut fmt::Formatter<W>) -> fmt::Result {
-        let row = self.0;
-        let path = row.path;
-        if row.datagrams == 0 {
-            return write!(f, "  nothing came by {path}");
-        }
-        write!(
-            f,
-            "  by {path} {} never came, {} came more than once, {} came late",
-            row.lost, row.repeated, row.late
-        )
-    }
-}
 
 /// Whether something is wrong with a stream on one path.
 fn is_wrong(row: &PathRow) -> bool
@@ -153,7 +115,7 @@ fn put_wrong<A: Allocator, B: Allocator>(
 {
     let row = path_row(key, path, count);
     if is_wrong(&row) {
-        return put_heading(text, form, Wrong(row));
+        return put_heading(text, form, wrong_heading(&row));
     }
     Ok(())
 }
@@ -166,7 +128,7 @@ fn put_stream<A: Allocator, B: Allocator>(
 ) -> Result<(), AllocError>
     ensures { OnOk result (text.new.items ≡ text.old.items ++ stream_lines form count.now) }
 {
-    put_heading(text, form, Heading(count.key))?;
+    put_heading(text, form, stream_heading(count.key))?;
     put_path(text, form, count.key, Path::A, &count.a)?;
     put_path(text, form, count.key, Path::B, &count.b)?;
     put_wrong(text, form, count.key, Path::A, &count.a)?;

@@ -1,21 +1,24 @@
 //! What was counted, as text.
-ghost use Rattle.std.specs.Prelude.{◌≡◌, ◌≤◌, ◌++◌, List, IfOk, OnOk};
+ghost use Rattle.std.specs.Prelude.{◌≡◌, ◌≤◌, ◌++◌, List, IfOk, OnOk, length};
 ghost use Rattle.media_file.specs.Records.{Entry};
 ghost use Rattle.stream_inspection.specs.Inspected.{IsInspected};
 ghost use Rattle.stream_inspection.specs.Lines.{counted_line, row_line};
 ghost use Rattle.stream_inspection.specs.Told.{IsText, refusals_text, window_line};
 
+use crate::columns::column_window_of;
 use crate::inspection::Inspection;
-use crate::rows::{JsonWindow, Row, Window};
+use crate::json::json_window_of;
+use crate::rows::Row;
 use crate::skews::{put_skews, skews_of};
 use crate::streams::put_streams;
 use crate::target::Target;
-use crate::text::{Form, put, put_row};
+use crate::text::{Form, put_line, put_row};
 use crate::timestamps::{put_timestamps, window_of};
 use path_receiver::{REFUSAL_COUNT, refusal_at};
 use std::alloc::{AllocError, Allocator};
 
-/// What was counted, as text.
+/// What was counted, as text. It fails only where memory that it asks for isn't there: each line
+/// has room.
 pub(crate) fn text_of<A: Allocator + Copy>(
     alloc: A,
     form: Form,
@@ -89,6 +92,7 @@ fn put_window<A: Allocator>(
     payload_type: u8,
     window: &[u32],
 ) -> Result<(), AllocError>
+    requires { length window.now ≤ 16 }
     ensures { OnOk result (text.new.items ≡ text.old.items
         ++ window_line form payload_type window.now) }
 {
@@ -96,7 +100,7 @@ fn put_window<A: Allocator>(
         return put_row(text, form, Row::Nothing(payload_type));
     }
     match form {
-        Form::Columns => put(text, Window(window)),
-        Form::Json => put(text, JsonWindow(window)),
+        Form::Columns => put_line(text, column_window_of(window)),
+        Form::Json => put_line(text, json_window_of(window)),
     }
 }

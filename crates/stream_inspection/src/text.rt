@@ -1,14 +1,19 @@
 //! A text that is gathered line by line.
-ghost use Rattle.std.specs.Prelude.{◌≡◌, ◌++◌, ◌∷◌, [], IfSome, OnOk};
+ghost use Rattle.std.specs.Prelude.{◌≡◌, ◌<◌, ◌+◌, ◌++◌, ◌∷◌, [], OnErr, OnOk, length};
+ghost use Rattle.std.specs.Prelude.{vec_capacity, vec_len};
+ghost use Rattle.arrayvec.specs.ArrayString.{array_string_len};
 ghost use Rattle.stream_inspection.specs.Lines.{heading_lines, row_line};
 
-use crate::rows::{Columns, Json, Row};
+use crate::columns::columns_of;
+use crate::json::json_of;
+use crate::rows::Row;
 use arrayvec::ArrayString;
 use std::alloc::{AllocError, Allocator};
-use std::fmt::{Display, Write};
+use text_line::add;
 
-/// Room for a line, in octets.
-const LINE: usize = 512;
+/// Room for any line, in octets: a window of sixteen timestamps as JSON is given 370 of them, and no
+/// line is given more.
+pub(crate) const LINE: usize = 512;
 
 /// How rows are told.
 #[derive(Clone, Copy)]
@@ -19,58 +24,54 @@ pub enum Form {
     Json,
 }
 
-/// The text of a value and an end of line behind it; none where that has no room.
-fn line_of<D: Display + Drop>(value: D) -> Option<ArrayString<LINE>>
-    ensures { IfSome result (λ line. IfSome (D.output value)
-        (λ octets. line.bytes ≡ octets ++ 10 ∷ [])) }
-{
-    let mut line = ArrayString::<LINE>::new();
-    match line.writeln(value) {
-        Ok(()) => Some(line),
-        Err(_) => None,
-    }
-}
-
-/// Puts the text of a value behind a text, and an end of line.
-pub(crate) fn put<D: Display + Drop, A: Allocator>(
+/// Puts a line behind a text, and an end of line. It fails only where the text has no room for
+/// these, so that more memory was asked for.
+pub(crate) fn put_line<A: Allocator>(
     text: &mut Vec<u8, A>,
-    value: D,
+    mut line: ArrayString<LINE>,
 ) -> Result<(), AllocError>
-    ensures { OnOk result (IfSome (D.output value)
-        (λ octets. text.new.items ≡ text.old.items ++ (octets ++ 10 ∷ []))) }
+    requires { array_string_len line < LINE }
+    ensures put { OnOk result (text.new.items ≡ text.old.items ++ (line.bytes ++ 10 ∷ [])) }
+    ensures full { OnErr result
+        (vec_capacity text.old < vec_len text.old + (array_string_len line + 1)) }
 {
-    let Some(line) = line_of(value) else {
-        return Err(AllocError);
-    };
+    add(&mut line, "\n");
     text.extend_from_slice(line.as_bytes())?;
     Ok(())
 }
 
-/// Puts a row behind a text.
+/// Puts a row behind a text. It fails only where the text has no room for it, so that more memory
+/// was asked for.
 pub(crate) fn put_row<A: Allocator>(
     text: &mut Vec<u8, A>,
     form: Form,
     row: Row,
 ) -> Result<(), AllocError>
-    ensures { OnOk result (text.new.items ≡ text.old.items ++ row_line form row) }
+    ensures put { OnOk result (text.new.items ≡ text.old.items ++ row_line form row) }
+    ensures full { OnErr result
+        (vec_capacity text.old < vec_len text.old + length (row_line form row)) }
 {
     match form {
-        Form::Columns => put(text, Columns(row)),
-        Form::Json => put(text, Json(row)),
+        Form::Columns => put_line(text, columns_of(row)),
+        Form::Json => put_line(text, json_of(row)),
     }
 }
 
-/// Puts a heading behind a text of columns, and nothing behind one of JSON.
-pub(crate) fn put_heading<D: Display + Drop, A: Allocator>(
+/// Puts a heading behind a text of columns, and nothing behind one of JSON. It fails only where the
+/// text has no room for it, so that more memory was asked for.
+pub(crate) fn put_heading<A: Allocator>(
     text: &mut Vec<u8, A>,
     form: Form,
-    heading: D,
+    heading: ArrayString<LINE>,
 ) -> Result<(), AllocError>
-    ensures { OnOk result (IfSome (D.output heading)
-        (λ octets. text.new.items ≡ text.old.items ++ heading_lines form octets)) }
+    requires { array_string_len heading < LINE }
+    ensures put { OnOk result
+        (text.new.items ≡ text.old.items ++ heading_lines form heading.bytes) }
+    ensures full { OnErr result
+        (vec_capacity text.old < vec_len text.old + length (heading_lines form heading.bytes)) }
 {
     match form {
-        Form::Columns => put(text, heading),
+        Form::Columns => put_line(text, heading),
         Form::Json => Ok(()),
     }
 }

@@ -1,14 +1,15 @@
 //! What is told of timestamps.
-ghost use Rattle.std.specs.Prelude.{◌≡◌, ◌++◌, ◌∷◌, [], ℕ, List, Some, IfOk, OnOk, take};
+ghost use Rattle.std.specs.Prelude.{◌≡◌, ◌++◌, ◌∷◌, [], ℕ, List, IfOk, OnOk, take};
 ghost use Rattle.recording_counts.specs.declared.timestamp.TimestampCount.{TimestampCount as Count};
 ghost use Rattle.stream_inspection.specs.Arrivals.{Arrival};
 ghost use Rattle.stream_inspection.specs.Skews.{AreProbes};
-ghost use Rattle.stream_inspection.specs.Timestamps.{AreLasts, heading_text, ticks_behind};
+ghost use Rattle.stream_inspection.specs.Timestamps.{AreLasts, ticks_behind};
 ghost use Rattle.stream_inspection.specs.Timestamps.{timestamp_line, timestamps_behind};
 ghost use Rattle.stream_inspection.specs.Timestamps.{timestamps_text};
 ghost use Rattle.stream_inspection.specs.Timestamps.{window_of};
 ghost use Rattle.window_finding.specs.First.{distinct};
 
+use crate::headings::timestamps_heading;
 use crate::probes::ProbeTable;
 use crate::rows::{Row, TimestampRow};
 use crate::text::{Form, put_heading, put_row};
@@ -16,24 +17,6 @@ use path_receiver::MOST_TIMESTAMPS;
 use recording_counts::{StreamKey, TimestampCount};
 use std::alloc::{AllocError, Allocator};
 use std::collections::BTreeMap;
-use std::fmt;
-
-/// The heading of timestamps of a payload type.
-#[derive(Clone, Copy)]
-struct Heading(u8);
-
-impl fmt::Display for Heading {
-    ghost output = { λ h. Some (heading_text h.0) };
-
-    fn fmt<W: fmt::Write>(&self, f: &mut fmt::Formatter<W>) -> fmt::Result {
-        write!(
-            f,
-            "timestamps of payload type {}\n       source    timestamp         by A         by B       \
-             marker        ticks skew of B in nanoseconds",
-            self.0
-        )
-    }
-}
 
 /// Of each stream the last of the timestamps so far.
 #[derive(Drop)]
@@ -87,7 +70,7 @@ pub(crate) fn put_timestamps<A: Allocator + Copy>(
         → text.new.items ≡ text.old.items ++ timestamps_text form payload_type arrivals
         counts.now) }
 {
-    put_heading(text, form, Heading(payload_type))?;
+    put_heading(text, form, timestamps_heading(payload_type))?;
     put_all(alloc, text, form, counts, probes)
 }
 

@@ -1,143 +1,168 @@
-//! Values as text.
-ghost use Rattle.std.specs.Prelude.{Some};
+//! Values as text, each added to a line that has the room.
+ghost use Rattle.std.specs.Prelude.{◌≡◌, ◌≤◌, ◌+◌, ◌*◌, ◌++◌, codes, length, replicate};
+ghost use Rattle.std.specs.Fmt.{decimal};
+ghost use Rattle.std.specs.List.{flat_map};
+ghost use Rattle.arrayvec.specs.ArrayString.{array_string_len};
 ghost use Rattle.recording_counts.specs.FlowJson.{truth_json};
-ghost use Rattle.stream_inspection.specs.Values.{commas_text, null_text};
-ghost use Rattle.stream_inspection.specs.Values.{signed_text, wide_signed, wide_text, yes_text};
+ghost use Rattle.st_format.specs.Forms.{path_text};
+ghost use Rattle.stream_inspection.specs.Values.{commas_text, null_signed, null_text, signed_text};
+ghost use Rattle.stream_inspection.specs.Values.{wide, wide_signed, wide_text, yes_text};
 
-use std::fmt;
+use crate::text::LINE;
+use arrayvec::ArrayString;
+use itoa::Buffer;
+use st_format::Path;
+use text_line::{add, add_number};
 
-/// A number in a column of thirteen, or `-` where there is none.
-#[derive(Clone, Copy)]
-pub(crate) struct Wide(pub(crate) Option<u64>);
+/// Adds a number in a column of thirteen, or `-` where there is none: at most 20 octets.
+pub(crate) fn add_wide(text: &mut ArrayString<LINE>, number: Option<u64>)
+    requires { array_string_len text.old + 20 ≤ LINE }
+    ensures text { text.new.bytes ≡ text.old.bytes ++ wide_text number }
+    ensures room { array_string_len text.new ≤ array_string_len text.old + 20 }
+{
+    match number {
+        Some(number) => add_padded(text, number),
+        None => add(text, "            -"),
+    }
+}
 
-impl fmt::Display for Wide {
-    ghost output = { λ w. Some (wide_text w.0) };
+/// Adds a number in a column of thirteen: at most 20 octets.
+fn add_padded(text: &mut ArrayString<LINE>, number: u64)
+    requires { array_string_len text.old + 20 ≤ LINE }
+    ensures text { text.new.bytes ≡ text.old.bytes ++ wide number }
+    ensures room { array_string_len text.new ≤ array_string_len text.old + 20 }
+{
+    let mut buffer = Buffer::new();
+    let digits = buffer.format(number);
+    add_spaces(text, 13usize.saturating_sub(digits.len()));
+    add(text, digits);
+}
 
-    fn fmt<W: fmt::Write>(&self, f: &mut fmt::Formatter<W>) -> fmt::Result {
-        match self.0 {
-            Some(number) => write!(f, "{number:>13}"),
-            None => f.write_str("            -"),
+/// Adds so many spaces.
+fn add_spaces(text: &mut ArrayString<LINE>, count: usize)
+    requires { array_string_len text.old + count ≤ LINE }
+    ensures text { text.new.bytes ≡ text.old.bytes ++ replicate count 32 }
+    ensures len { array_string_len text.new ≡ array_string_len text.old + count }
+{
+    for _ in 0..count {
+        add(text, " ");
+    }
+}
+
+/// Adds a word and a number, or `null` where there is none: at most 20 octets behind the word.
+pub(crate) fn add_null(text: &mut ArrayString<LINE>, word: &str, number: Option<u64>)
+    requires { array_string_len text.old + (length word.now + 20) ≤ LINE }
+    ensures text { text.new.bytes ≡ text.old.bytes ++ (word.now ++ null_text number) }
+    ensures room { array_string_len text.new ≤ array_string_len text.old + (length word.now + 20) }
+{
+    match number {
+        Some(number) => add_number(text, word, number),
+        None => {
+            add(text, word);
+            add(text, "null");
         }
     }
 }
 
-/// A number, or `null` where there is none.
-#[derive(Clone, Copy)]
-pub(crate) struct Null(pub(crate) Option<u64>);
-
-impl fmt::Display for Null {
-    ghost output = { λ n. Some (null_text n.0) };
-
-    fn fmt<W: fmt::Write>(&self, f: &mut fmt::Formatter<W>) -> fmt::Result {
-        match self.0 {
-            Some(number) => write!(f, "{number}"),
-            None => f.write_str("null"),
-        }
+/// Adds a number less 2^64: at most 41 octets.
+fn add_signed(text: &mut ArrayString<LINE>, number: u128)
+    requires { array_string_len text.old + 41 ≤ LINE }
+    ensures text { text.new.bytes ≡ text.old.bytes ++ signed_text number }
+    ensures room { array_string_len text.new ≤ array_string_len text.old + 41 }
+{
+    let mut buffer = Buffer::new();
+    let above = number.saturating_sub(1 << 64);
+    let below = (1u128 << 64).saturating_sub(number);
+    if below > 0 {
+        add(text, "-");
+        add(text, buffer.format(below));
+    } else {
+        add(text, buffer.format(above));
     }
 }
 
-/// A number less 2^64.
-#[derive(Clone, Copy)]
-struct Signed(u128);
-
-impl fmt::Display for Signed {
-    ghost output = { λ s. Some (signed_text s.0) };
-
-    fn fmt<W: fmt::Write>(&self, f: &mut fmt::Formatter<W>) -> fmt::Result {
-        let above = self.0.saturating_sub(1 << 64);
-        let below = (1u128 << 64).saturating_sub(self.0);
-        if below > 0 {
-            write!(f, "-{below}")
-        } else {
-            write!(f, "{above}")
+/// Adds a skew in a row of columns, behind a space, or `-` where there is none: at most 42 octets.
+pub(crate) fn add_skew(text: &mut ArrayString<LINE>, skew: Option<u128>)
+    requires { array_string_len text.old + 42 ≤ LINE }
+    ensures text { text.new.bytes ≡ text.old.bytes ++ wide_signed skew }
+    ensures room { array_string_len text.new ≤ array_string_len text.old + 42 }
+{
+    match skew {
+        Some(skew) => {
+            add(text, " ");
+            add_signed(text, skew);
         }
+        None => add(text, " -"),
     }
 }
 
-/// A skew in a row of columns, behind a space, or `-` where there is none.
-#[derive(Clone, Copy)]
-pub(crate) struct Skew(pub(crate) Option<u128>);
-
-impl fmt::Display for Skew {
-    ghost output = { λ s. Some (wide_signed s.0) };
-
-    fn fmt<W: fmt::Write>(&self, f: &mut fmt::Formatter<W>) -> fmt::Result {
-        match self.0 {
-            Some(skew) => {
-                let skew = Signed(skew);
-                write!(f, " {skew}")
-            }
-            None => f.write_str(" -"),
-        }
-    }
-}
-
-/// A skew, or `null` where there is none.
-#[derive(Clone, Copy)]
-pub(crate) struct NullSkew(pub(crate) Option<u128>);
-
-impl fmt::Display for NullSkew {
-    ghost use Rattle.stream_inspection.specs.Values.{null_signed};
-
-    ghost output = { λ s. Some (null_signed s.0) };
-
-    fn fmt<W: fmt::Write>(&self, f: &mut fmt::Formatter<W>) -> fmt::Result {
-        match self.0 {
-            Some(skew) => {
-                let skew = Signed(skew);
-                write!(f, "{skew}")
-            }
-            None => f.write_str("null"),
-        }
+/// Adds a word and a skew, or `null` where there is none: at most 41 octets behind the word.
+pub(crate) fn add_null_skew(text: &mut ArrayString<LINE>, word: &str, skew: Option<u128>)
+    requires { array_string_len text.old + (length word.now + 41) ≤ LINE }
+    ensures text { text.new.bytes ≡ text.old.bytes ++ (word.now ++ null_signed skew) }
+    ensures room { array_string_len text.new ≤ array_string_len text.old + (length word.now + 41) }
+{
+    add(text, word);
+    match skew {
+        Some(skew) => add_signed(text, skew),
+        None => add(text, "null"),
     }
 }
 
 /// Whether it is so, in a column of thirteen.
-#[derive(Clone, Copy)]
-pub(crate) struct Yes(pub(crate) bool);
-
-impl fmt::Display for Yes {
-    ghost output = { λ y. Some (yes_text y.0) };
-
-    fn fmt<W: fmt::Write>(&self, f: &mut fmt::Formatter<W>) -> fmt::Result {
-        if self.0 {
-            f.write_str("          yes")
-        } else {
-            f.write_str("           no")
-        }
+pub(crate) fn yes_word(yes: bool) -> &'static str
+    ensures text { result.now ≡ yes_text yes }
+    ensures short { length result.now ≤ 13 }
+{
+    if yes {
+        "          yes"
+    } else {
+        "           no"
     }
 }
 
 /// Whether it is so, as JSON says it.
-#[derive(Clone, Copy)]
-pub(crate) struct Truth(pub(crate) bool);
+pub(crate) fn truth_word(truth: bool) -> &'static str
+    ensures text { result.now ≡ truth_json truth }
+    ensures short { length result.now ≤ 5 }
+{
+    if truth { "true" } else { "false" }
+}
 
-impl fmt::Display for Truth {
-    ghost output = { λ t. Some (truth_json t.0) };
-
-    fn fmt<W: fmt::Write>(&self, f: &mut fmt::Formatter<W>) -> fmt::Result {
-        if self.0 {
-            f.write_str("true")
-        } else {
-            f.write_str("false")
-        }
+/// The name of a path.
+pub(crate) fn path_word(path: Path) -> &'static str
+    ensures text { result.now ≡ path_text path }
+    ensures short { length result.now ≤ 1 }
+{
+    match path {
+        Path::A => "A",
+        Path::B => "B",
     }
 }
 
-/// Numbers with commas between.
-#[derive(Clone, Copy)]
-pub(crate) struct Commas<'a>(pub(crate) &'a [u32]);
+/// Adds numbers with commas between: at most 21 octets for each.
+pub(crate) fn add_commas(text: &mut ArrayString<LINE>, numbers: &[u32])
+    requires { array_string_len text.old + 21 * length numbers.now ≤ LINE }
+    ensures text { text.new.bytes ≡ text.old.bytes ++ commas_text numbers.now }
+    ensures room { array_string_len text.new
+        ≤ array_string_len text.old + 21 * length numbers.now }
+{
+    let [first, rest @ ..] = numbers else {
+        return;
+    };
+    add_number(text, "", u64::from(*first));
+    add_behind(text, rest);
+}
 
-impl fmt::Display for Commas<'_> {
-    ghost output = { λ c. Some (commas_text c.0.now) };
-
-    fn fmt<W: fmt::Write>(&self, f: &mut fmt::Formatter<W>) -> fmt::Result {
-        if let [first, rest @ ..] = self.0 {
-            write!(f, "{first}")?;
-            for value in rest {
-                write!(f, ",{value}")?;
-            }
-        }
-        Ok(())
+/// Adds numbers, each behind a comma: at most 21 octets for each.
+fn add_behind(text: &mut ArrayString<LINE>, numbers: &[u32])
+    requires { array_string_len text.old + 21 * length numbers.now ≤ LINE }
+    ensures text { text.new.bytes
+        ≡ text.old.bytes ++ flat_map (λ y. codes "," ++ decimal y) numbers.now }
+    ensures room { array_string_len text.new
+        ≤ array_string_len text.old + 21 * length numbers.now }
+{
+    for number in numbers {
+        add_number(text, ",", u64::from(*number));
     }
 }

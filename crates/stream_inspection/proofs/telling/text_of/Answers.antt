@@ -1,4 +1,5 @@
-use Rattle.std.proofs.Common.{◌≡◌, ◌∙◌, ◌++◌, [], List, ap, rules}
+use Rattle.std.proofs.Common.{◌≡◌, ◌∙◌, ◌++◌, [], List, ap, arith, length, rules}
+use Rattle.std.proofs.lemmas.List.{length-take}
 use Rattle.std.specs.List.{flat_map}
 use Rattle.stream_inspection.specs.Lines.{row_line}
 use Rattle.stream_inspection.specs.Numbers.{told_streams}
@@ -8,6 +9,13 @@ use Rattle.stream_inspection.specs.Told.{window_line}
 use Rattle.stream_inspection.specs.declared.rows.Row.TheVariants.{Skew}
 use Rattle.stream_inspection.proofs.Texts.{is_text}
 use Rattle.stream_inspection.proofs.telling.text_of.Goals as goal
+
+pub put_window-requires : goal.put_window-requires
+put_window-requires g c =
+    omega (
+      arith,
+      simp length-take at (ap length (c.deref-2.ensures.value ∙ c.in_ok-window.ensures)),
+    )
 
 pub returns : goal.returns
 returns g c = λ entries is.
