@@ -216,7 +216,8 @@ pub text_fault_refused : (too_long : Refusal) (before now : List ℕ) (ended : T
     → (place.fault ≡ sdp.NoMemory) ⊎ IsTextFault (video_sections (lines text)) place.fault
     → OfRefusal (of_sdp place) (IsTextRefusal too_long (IsRead before now ended))
 text_fault_refused too_long before now ended text gives place is =
-    of_refusal_map (of_sdp place) (λ r said. inr said)
+    of_refusal_map (of_sdp place)
+    (λ r said. inr (of_source (λ l. length l ≤ 65535) before now ended text gives gives.few, said))
     (sdp_refused (IsRead before now ended) (Sdp place) place.fault (λ said. said) (of_text is))
   where
     of_text : (place.fault ≡ sdp.NoMemory) ⊎ IsTextFault (video_sections (lines text)) place.fault

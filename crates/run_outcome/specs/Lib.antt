@@ -3,6 +3,7 @@ pub mod Timestamps
 pub mod Sources
 pub mod Telling
 pub mod RefusalText
+pub mod Wanted
 pub mod Fault
 pub mod LowerFaults
 pub mod Refusing

@@ -13,6 +13,10 @@ use Rattle.run_outcome.specs.declared.refusal.Refusal.TheVariants as refusal
 abbrev pub GivesAbove : ℕ → (List ℕ → Type 0) → Type 0
 GivesAbove most told = (octets : List ℕ) → told octets → most < length octets
 
+-- what was read is at most so many octets, and the source has no more
+abbrev pub GivesAtMost : ℕ → (List ℕ → Type 0) → Type 0
+GivesAtMost most told = (octets : List ℕ) → told octets → length octets ≤ most
+
 -- an SDP text's fault is that of what was read
 abbrev pub HasTextFault : (List ℕ → Type 0) → SdpFault → Type 0
 HasTextFault told f =
@@ -23,9 +27,11 @@ abbrev pub IsSdpRefusal : (List ℕ → Type 0) → Refusal → Type 0
 IsSdpRefusal told (refusal.Sdp at) = HasTextFault told at.fault
 IsSdpRefusal told r = ⊥
 
--- the refusals of a capture's text: that it is too long, and those of an SDP
+-- the refusals of a capture's text, in their order: that it is too long; that of an SDP, of a text
+-- that isn't
 abbrev pub IsTextRefusal : Refusal → (List ℕ → Type 0) → Refusal → Type 0
-IsTextRefusal too_long told r = ((r ≡ too_long) × GivesAbove 65535 told) ⊎ IsSdpRefusal told r
+IsTextRefusal too_long told r =
+    ((r ≡ too_long) × GivesAbove 65535 told) ⊎ (GivesAtMost 65535 told × IsSdpRefusal told r)
 
 -- a text describes a video, in no more octets than a capture's text may have
 pub record IsCaptureText (text : List ℕ) : Type 0 where

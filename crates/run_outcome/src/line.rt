@@ -6,10 +6,12 @@ ghost use Rattle.run_outcome.specs.Line.{line_text};
 ghost use Rattle.run_outcome.specs.declared.line.Line.TheVariants.{Absent, HandedOut, Recorded};
 ghost use Rattle.run_outcome.specs.declared.line.Line.TheVariants.{Exported, RefusedCount};
 
-use crate::text_line::{LINE, add, add_fault, add_number};
+use crate::pieces::{LINE, add_fault};
 use arrayvec::ArrayString;
 use frame_assembly::Counts;
 use path_receiver::{Refusal, SlideFault};
+use std::fmt;
+use text_line::{add, add_number};
 
 /// What a run says. A timestamp is in 90 kHz ticks.
 #[derive(Clone, Copy)]
@@ -57,13 +59,33 @@ pub enum Line {
     OutsideCount(u64),
 }
 
-/// The text of a line with its end, which always has room.
-pub(crate) fn text_of(line: Line) -> ArrayString<LINE>
+impl fmt::Display for Line {
+    ghost use Rattle.std.specs.Prelude.{Some};
+    ghost use Rattle.run_outcome.specs.Line.{line_text};
+
+    ghost output = { λ line. Some (line_text line) };
+
+    fn fmt<W: fmt::Write>(&self, f: &mut fmt::Formatter<W>) -> fmt::Result {
+        f.write_str(text_of(*self).as_str())
+    }
+}
+
+/// A line with its end, which always has room.
+pub(crate) fn ended(line: Line) -> ArrayString<LINE>
     ensures { result.bytes ≡ line_text line ++ 10 ∷ [] }
+{
+    let mut text = text_of(line);
+    add(&mut text, "\n");
+    text
+}
+
+/// The text of a line, behind which there is room for its end.
+fn text_of(line: Line) -> ArrayString<LINE>
+    ensures text { result.bytes ≡ line_text line }
+    ensures room { array_string_len result < LINE }
 {
     let mut text = ArrayString::<LINE>::new();
     add_line(&mut text, line);
-    add(&mut text, "\n");
     text
 }
 

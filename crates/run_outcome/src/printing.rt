@@ -6,7 +6,7 @@ ghost use Rattle.run_outcome.specs.Frames.{frame_line_at, frame_lines};
 ghost use Rattle.run_outcome.specs.Line.{line_text};
 
 use crate::fault::Fault;
-use crate::line::{Line, text_of};
+use crate::line::{Line, ended};
 use path_receiver::Receiver;
 use st_format::{ByteSink, write_whole};
 use std::alloc::Allocator;
@@ -67,6 +67,6 @@ pub fn print<O: ByteSink>(line: Line, output: &mut O) -> Result<(), Fault>
     ensures failures { Accounts result (counts (O.failures output.old) (O.failures output.new)
         ∷ []) }
 {
-    write_whole(output, text_of(line).as_bytes())?;
+    write_whole(output, ended(line).as_bytes())?;
     Ok(())
 }

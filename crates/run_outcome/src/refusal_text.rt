@@ -1,14 +1,16 @@
 //! What is printed of a refusal.
 ghost use Rattle.std.specs.Prelude.{◌≡◌, ◌≤◌, ◌<◌, ◌++◌, codes, length};
 ghost use Rattle.arrayvec.specs.ArrayString.{array_string_len};
-ghost use Rattle.run_outcome.specs.RefusalText.{IsWorded, output_text, play_text, refusal_text};
+ghost use Rattle.run_outcome.specs.RefusalText.{IsWorded, line_fault_text, output_text, play_text};
+ghost use Rattle.run_outcome.specs.RefusalText.{refusal_text};
 ghost use Rattle.run_outcome.specs.declared.refusal.Refusal.TheVariants.{Script};
 
+use crate::pieces::{LINE, add_fault};
 use crate::refusal::{Refusal, Writer};
 use crate::script_line::LineFault;
-use crate::text_line::{LINE, add, add_fault, add_number};
 use arrayvec::ArrayString;
 use path_receiver::PlayFault;
+use text_line::{add, add_number};
 
 /// The line of a refusal with its end, which always has room.
 pub(crate) fn line_of(refusal: Refusal) -> ArrayString<LINE>
@@ -27,6 +29,15 @@ pub(crate) fn text_of(refusal: Refusal) -> ArrayString<LINE>
 {
     let mut text = ArrayString::<LINE>::new();
     add_refusal(&mut text, refusal);
+    text
+}
+
+/// What is printed of the fault of a script's line, but for the number of the line.
+pub(crate) fn text_of_line(fault: LineFault) -> ArrayString<LINE>
+    ensures { result.bytes ≡ line_fault_text fault }
+{
+    let mut text = ArrayString::<LINE>::new();
+    add_line_fault(&mut text, fault);
     text
 }
 
@@ -63,6 +74,19 @@ fn add_script(text: &mut ArrayString<LINE>, line: usize, fault: LineFault)
 {
     match fault {
         LineFault::Form(_) => add_number(text, "script ", line as u64),
+        _ => add_line_fault(text, fault),
+    }
+}
+
+/// Adds what is printed of the fault of a script's line, but for the number of the line: of a form
+/// only that it is a script's.
+fn add_line_fault(text: &mut ArrayString<LINE>, fault: LineFault)
+    requires { array_string_len text.old ≤ 8 }
+    ensures text { text.new.bytes ≡ text.old.bytes ++ line_fault_text fault }
+    ensures room { array_string_len text.new < LINE }
+{
+    match fault {
+        LineFault::Form(_) => add(text, "script"),
         LineFault::Format(fault) => add_fault(text, "format ", fault.number(), fault.name()),
         LineFault::Open(fault) => add_fault(text, "open ", fault.number(), fault.name()),
         LineFault::Numbers(fault) => add_fault(text, "numbers ", fault.number(), fault.name()),

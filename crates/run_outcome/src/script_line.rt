@@ -1,13 +1,16 @@
 //! Why a line of a script is refused, and what was wanted in its place.
-ghost use Rattle.std.specs.Prelude.{◌≡◌};
+ghost use Rattle.std.specs.Prelude.{◌≡◌, IfSome};
 ghost use Rattle.run_outcome.specs.LowerFaults.{of_line, of_script};
+ghost use Rattle.run_outcome.specs.Wanted.{form_wanted, line_wanted};
 
 use crate::fault::Fault;
 use crate::refusal::Refusal;
+use crate::refusal_text::text_of_line;
 use packet_numbers::SeqMapFault;
 use packet_plan::PlanFault;
 use path_receiver::{OpenFault, PlayFault};
 use st_format::FormatFault;
+use std::fmt;
 
 /// The form of a line of a script, or what else was wanted in the place of one.
 #[derive(Clone, Copy, Debug, PartialEq, Eq)]
@@ -54,7 +57,9 @@ pub enum Form {
 
 impl Form {
     /// What was wanted where a line isn't of this form, for a person.
-    pub fn wanted(self) -> &'static str {
+    pub fn wanted(self) -> &'static str
+        ensures { result.now ≡ form_wanted self }
+    {
         match self {
             Form::Format => "format S B W H N/D",
             Form::Open => "open PT SSRC WINDOW",
@@ -107,7 +112,9 @@ pub enum LineFault {
 
 impl LineFault {
     /// What was wanted in the place of the line, for a person.
-    pub fn wanted(self) -> &'static str {
+    pub fn wanted(self) -> &'static str
+        ensures { IfSome (line_wanted self) (λ text. result.now ≡ text) }
+    {
         match self {
             LineFault::Form(form) => form.wanted(),
             LineFault::Format(fault) => fault.wanted(),
@@ -129,5 +136,18 @@ impl LineFault {
             LineFault::Play(PlayFault::NoMemory) => Fault::Memory,
             _ => Fault::Refused(Refusal::Script(line, self)),
         }
+    }
+}
+
+impl fmt::Display for LineFault {
+    ghost use Rattle.std.specs.Prelude.{Some};
+    ghost use Rattle.run_outcome.specs.RefusalText.{line_fault_text};
+
+    ghost output = { λ fault. Some (line_fault_text fault) };
+
+    /// The subject, the number and the name of a fault, and of an event its place; of a form only
+    /// that it is the script's.
+    fn fmt<W: fmt::Write>(&self, f: &mut fmt::Formatter<W>) -> fmt::Result {
+        f.write_str(text_of_line(*self).as_str())
     }
 }

@@ -1,4 +1,8 @@
 //! What was wanted where words or files are refused.
+ghost use Rattle.std.specs.Prelude.{◌≡◌, IfSome};
+ghost use Rattle.run_outcome.specs.Wanted.{capture_wanted, file_wanted, flows_wanted};
+ghost use Rattle.run_outcome.specs.Wanted.{picture_wanted, recording_wanted, refusal_wanted};
+
 use crate::refusal::Refusal;
 use media_file::FileFault;
 use pcap_file::RecordingFault;
@@ -7,7 +11,9 @@ use sdp_format::FlowsFault;
 
 impl Refusal {
     /// What was wanted where this refusal comes, in words for a person.
-    pub fn wanted(self) -> &'static str {
+    pub fn wanted(self) -> &'static str
+        ensures { IfSome (refusal_wanted self) (λ text. result.now ≡ text) }
+    {
         match self {
             Refusal::Script(_, fault) => fault.wanted(),
             Refusal::MigrateSdp | Refusal::SendSdp | Refusal::ImportSdp => "at most 65535 octets",
@@ -52,7 +58,9 @@ impl Refusal {
 }
 
 /// What was wanted of a capture.
-fn of_capture(fault: FileFault) -> &'static str {
+fn of_capture(fault: FileFault) -> &'static str
+    ensures { result.now ≡ capture_wanted fault }
+{
     match fault {
         FileFault::BadVersion => "version 01, or for receive 01 or 02",
         FileFault::BadField => "a path of 0 or 1",
@@ -61,7 +69,9 @@ fn of_capture(fault: FileFault) -> &'static str {
 }
 
 /// What was wanted of a file of a kind, which this text names.
-fn of_kind(fault: FileFault, kind: &'static str) -> &'static str {
+fn of_kind(fault: FileFault, kind: &'static str) -> &'static str
+    ensures { result.now ≡ file_wanted fault kind.now }
+{
     match fault {
         FileFault::NoMemory => "more memory than there is",
         FileFault::Device => "a device that works",
@@ -76,7 +86,9 @@ fn of_kind(fault: FileFault, kind: &'static str) -> &'static str {
 }
 
 /// What was wanted of where an SDP's video is sent to.
-fn of_flows(fault: FlowsFault) -> &'static str {
+fn of_flows(fault: FlowsFault) -> &'static str
+    ensures { result.now ≡ flows_wanted fault }
+{
     match fault {
         FlowsFault::NoVideo => "a section m=video",
         FlowsFault::TooManyLegs => "at most two sections m=video",
@@ -86,7 +98,9 @@ fn of_flows(fault: FlowsFault) -> &'static str {
 }
 
 /// What was wanted of a picture in a form of other tools.
-fn of_form(fault: FormFault) -> &'static str {
+fn of_form(fault: FormFault) -> &'static str
+    ensures { result.now ≡ picture_wanted fault }
+{
     match fault {
         FormFault::NoMemory => "more memory than there is",
         FormFault::Device => "a device that works",
@@ -100,7 +114,9 @@ fn of_form(fault: FormFault) -> &'static str {
 }
 
 /// What was wanted of a recording of another tool.
-fn of_recording(fault: RecordingFault) -> &'static str {
+fn of_recording(fault: RecordingFault) -> &'static str
+    ensures { result.now ≡ recording_wanted fault }
+{
     match fault {
         RecordingFault::Device => "a device that works",
         RecordingFault::Truncated => "more octets: the recording ends before it is whole",
