@@ -1,6 +1,5 @@
 //! Lines of output.
-ghost use Rattle.std.specs.Prelude.{◌≡◌, ◌≤◌, ◌<◌, ◌+◌, ◌++◌, ◌∷◌, [], IfErr, OnErr, OnOk, length};
-ghost use Rattle.std.specs.Fmt.{decimal};
+ghost use Rattle.std.specs.Prelude.{◌≡◌, ◌<◌, ◌++◌, ◌∷◌, [], IfErr, OnErr, OnOk};
 ghost use Rattle.arrayvec.specs.ArrayString.{array_string_len};
 ghost use Rattle.follow_engine.specs.Line.{ended_line, line_text};
 ghost use Rattle.follow_engine.specs.declared.line.FollowLine.TheVariants.{Left, Totals};
@@ -10,9 +9,9 @@ ghost use Rattle.st_format.specs.Device.{GrowsPart};
 use crate::telling::FollowTotals;
 use arrayvec::ArrayString;
 use frame_assembly::Counts;
-use itoa::Buffer;
 use run_outcome::Fault;
 use st_format::{ByteSink, write_whole};
+use text_line::{add, add_number};
 
 /// Room for any line, in octets: at most five numbers, of at most 20 digits each, and words.
 const LINE: usize = 160;
@@ -82,29 +81,6 @@ fn add_totals(text: &mut ArrayString<LINE>, totals: FollowTotals)
     add_number(text, " late ", totals.late);
     add_number(text, " far ", totals.far);
     add_number(text, " refused ", totals.refused);
-}
-
-/// Adds a word and a number in decimal digits to a text that has the room.
-fn add_number(text: &mut ArrayString<LINE>, word: &str, number: u64)
-    requires { array_string_len text.old + (length word.now + 20) ≤ LINE }
-    ensures text { text.new.bytes ≡ text.old.bytes ++ (word.now ++ decimal number) }
-    ensures room { array_string_len text.new ≤ array_string_len text.old + (length word.now + 20) }
-{
-    let mut digits = Buffer::new();
-    add(text, word);
-    add(text, digits.format(number));
-}
-
-/// Adds a word to a text that has the room.
-fn add(text: &mut ArrayString<LINE>, word: &str)
-    requires { array_string_len text.old + length word.now ≤ LINE }
-    ensures text { text.new.bytes ≡ text.old.bytes ++ word.now }
-    ensures len { array_string_len text.new ≡ array_string_len text.old + length word.now }
-{
-    match text.try_push_str(word) {
-        Ok(()) => (),
-        Err(_) => unreachable!(),
-    }
 }
 
 /// Prints a line and its end by one call, so that lines of several runs into one pipe stay whole.
