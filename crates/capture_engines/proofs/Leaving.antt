@@ -42,7 +42,7 @@ pub untouched : (f : Fault) (told : Saying) (Said : Saying) (ended : Type 0) (sa
     → OfRefusal f (IsTextRefusal why.MigrateSdp told) → LeavesBy f Said ended same same
 untouched (fault.Refused (why.Capture f)) told Said ended same (inl is) =
     let clash : why.Capture f ≡ why.MigrateSdp = is.0 in absurd cc
-untouched (fault.Refused (why.Capture f)) told Said ended same (inr is) = absurd is
+untouched (fault.Refused (why.Capture f)) told Said ended same (inr is) = absurd is.1
 untouched (fault.Refused r) told Said ended same is = refl
 untouched fault.Device told Said ended same is = Untouched refl
 untouched fault.Memory told Said ended same is = Untouched refl

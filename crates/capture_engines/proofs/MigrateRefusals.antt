@@ -47,7 +47,7 @@ text_refused sdp source (why.Capture f) (inl is) = absurd (other is.0)
   where
     other : why.Capture f ≡ why.MigrateSdp → ⊥
     other same = cc
-text_refused sdp source (why.Capture f) (inr is) = absurd is
+text_refused sdp source (why.Capture f) (inr is) = absurd is.1
 text_refused sdp source r is = is
 
 pub file_refused : (sdp source : List ℕ → Type 0) → SaysCaptureText sdp → (r : Refusal)

@@ -298,7 +298,7 @@ pub not_text : (too_long : Refusal) (told : List ℕ → Type 0) (text : List �
     → told text → IsCaptureText text → IsTextRefusal too_long told r → ⊥
 not_text too_long told text r there is (inl long) =
     absurd (omega (arith, long.1 text there, is.few))
-not_text too_long told text r there is (inr wrong) = not_sdp told text r there is wrong
+not_text too_long told text r there is (inr wrong) = not_sdp told text r there is wrong.1
 
 module _ {S : Type 0} (gave : S → List ℕ) (ended : S → Type 0) where
   abbrev given : S → Option S
