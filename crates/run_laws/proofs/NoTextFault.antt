@@ -7,6 +7,7 @@ use Rattle.sdp_format.specs.Grammar.{IsDescribed, IsTextFault}
 use Rattle.sdp_format.specs.Sections.{Description, video_sections}
 use Rattle.sdp_format.specs.Reading.{text_walk}
 use Rattle.sdp_format.specs.declared.fault.SdpFault.{SdpFault}
+use Rattle.sdp_format.specs.declared.place.Located.{Located}
 use Rattle.sdp_format.proofs.TextFaults.{text_fault, text_said}
 use Rattle.run_outcome.specs.declared.fault.Fault.TheVariants.{Refused}
 use Rattle.run_outcome.specs.declared.refusal.Refusal.{Refusal}
@@ -14,6 +15,7 @@ use Rattle.run_outcome.specs.declared.refusal.Refusal.TheVariants as why
 use Rattle.script_engines.specs.Described.{Describes, IsUndescribed}
 use Rattle.script_engines.specs.Reading.{DoesScript, IsRefusedFor}
 use Rattle.script_engines.specs.Script.{IsReadFrom}
+use Rattle.run_laws.specs.Told.{AreOfOneFault}
 
 abbrev Walked : Type 0
 Walked = Result Description SdpFault
@@ -31,6 +33,22 @@ no_text_fault text d f is wrong =
     let fails : text_walk text ≡ failed f = (text_fault text f).1 wrong in
     let bad : said d ≡ failed f = sym reads ∙ fails in
     absurd cc
+
+-- of a text one fault is told
+pub one_text_fault : (text : List ℕ) (f g : SdpFault) → IsTextFault (video_sections (lines text)) f
+    → IsTextFault (video_sections (lines text)) g → f ≡ g
+one_text_fault text f g is other =
+    let fails : text_walk text ≡ failed f = (text_fault text f).1 is in
+    let so : text_walk text ≡ failed g = (text_fault text g).1 other in
+    let same : failed f ≡ failed g = sym fails ∙ so in
+    cc
+
+-- so two refusals that are of faults of one text
+pub of_one_fault : (r q : Refusal) (at other : Located) → r ≡ why.Sdp at → q ≡ why.Sdp other
+    → at.fault ≡ other.fault → AreOfOneFault r q
+of_one_fault r q at other is so same =
+    subst (λ (x : Refusal). AreOfOneFault x q) (sym is)
+    (subst (λ (x : Refusal). AreOfOneFault (why.Sdp at) x) (sym so) same)
 
 module _ (before now : List ℕ) (ended : Type 0) (old new : List ℕ)
     (does : DoesScript Describes before now ended old new)

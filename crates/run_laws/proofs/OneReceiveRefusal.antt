@@ -1,5 +1,4 @@
--- Of what a run of `receive` read one refusal is told; of an SDP text's fault it may be one or the
--- other.
+-- Of what a run of `receive` read one refusal is told, but for the place of an SDP text's fault.
 use Rattle.std.proofs.Common.{◌≡◌, ◌∙◌, ℕ, ◌<◌, ◌≤◌, ◌⊎◌, inl, inr, Bool, true, false, List, []}
 use Rattle.std.proofs.Common.{◌∷◌, ◌++◌, Option, None, Some, Result, Ok, Err, cond, length}
 use Rattle.std.proofs.Common.{length-append, refl, sym, ap, subst, arith}
@@ -28,7 +27,7 @@ use Rattle.run_outcome.specs.declared.refusal.Refusal.TheVariants as why
 use Rattle.sdp_format.specs.Bytes.{lines}
 use Rattle.sdp_format.specs.Grammar.{IsTextFault}
 use Rattle.sdp_format.specs.Sections.{video_sections}
-use Rattle.sdp_format.specs.declared.fault.SdpFault.{SdpFault}
+use Rattle.sdp_format.specs.declared.place.Located.{Located}
 use Rattle.capture_engines.specs.Files.{AreReadWhole, HasFileText, IsReadWhole, way_at}
 use Rattle.capture_engines.specs.Received.{AskFor, FileOpens, GivenOpens, HasCaptureFault, IfFirst}
 use Rattle.capture_engines.specs.Received.{IsBehindFew, IsCaptureRefusal, IsFileOpenedRefusal}
@@ -42,22 +41,27 @@ use Rattle.capture_engines.specs.declared.way.Way.TheVariants as way
 use Rattle.capture_engines.proofs.FirstRefused.{turn_map}
 use Rattle.capture_engines.proofs.Untaken.{front_stop, long_front, short_front}
 use Rattle.run_laws.specs.Received.{read_of}
-use Rattle.run_laws.specs.Told.{IsOfSdp}
-use Rattle.run_laws.proofs.NoTextFault.{no_text_fault}
+use Rattle.run_laws.specs.Told.{AreOfOneFault}
+use Rattle.run_laws.proofs.NoTextFault.{no_text_fault, of_one_fault, one_text_fault}
 use Rattle.run_laws.proofs.Opened.{one_window}
 use Rattle.run_laws.proofs.Receiving.{was_read}
 use Rattle.run_laws.proofs.WholeFiles.{stops_not, text_is, window_not}
 
 abbrev One : Refusal → Refusal → Type 0
-One r q = (r ≡ q) ⊎ (IsOfSdp r × IsOfSdp q)
+One r q = (r ≡ q) ⊎ AreOfOneFault r q
 
 -- ---- opening by a text
 
+-- of the text
+abbrev OfText : List ℕ → Refusal → Type 0
+OfText text r =
+    (at : Located) × (r ≡ why.Sdp at) × IsTextFault (video_sections (lines text)) at.fault
+
 -- which it is: of the text; of the window
 opening_of : (window text : List ℕ) (r : Refusal) → IsOpeningRefusal window text r
-    → (IsOfSdp r × ((f : SdpFault) × IsTextFault (video_sections (lines text)) f))
+    → OfText text r
     ⊎ ((e : OpenFault) × (r ≡ why.Open e) × IsSdp text × IsWindowFault window e)
-opening_of window text (why.Sdp at) is = inl (tt, (at.fault, is))
+opening_of window text (why.Sdp at) is = inl (at, refl, is)
 opening_of window text (why.Open e) is = inr (e, refl, is.0, is.1)
 opening_of window text r is = absurd is
 
@@ -78,14 +82,16 @@ one_opening : (window text : List ℕ) (r q : Refusal) → IsOpeningRefusal wind
 one_opening window text r q is other =
     by (opening_of window text r is) (opening_of window text q other)
   where
-    by : (IsOfSdp r × ((f : SdpFault) × IsTextFault (video_sections (lines text)) f))
+    by : OfText text r
         ⊎ ((e : OpenFault) × (r ≡ why.Open e) × IsSdp text × IsWindowFault window e)
-        → (IsOfSdp q × ((f : SdpFault) × IsTextFault (video_sections (lines text)) f))
+        → OfText text q
         ⊎ ((e : OpenFault) × (q ≡ why.Open e) × IsSdp text × IsWindowFault window e)
         → One r q
-    by (inl a) (inl b) = inr (a.0, b.0)
-    by (inl a) (inr b) = absurd (no_text_fault text b.2.0 a.1.0 b.2.1 a.1.1)
-    by (inr a) (inl b) = absurd (no_text_fault text a.2.0 b.1.0 a.2.1 b.1.1)
+    by (inl a) (inl b) =
+        inr (of_one_fault r q a.0 b.0 a.1 b.1
+        (one_text_fault text a.0.fault b.0.fault a.2 b.2))
+    by (inl a) (inr b) = absurd (no_text_fault text b.2.0 a.0.fault b.2.1 a.2)
+    by (inr a) (inl b) = absurd (no_text_fault text a.2.0 b.0.fault a.2.1 b.2)
     by (inr a) (inr b) =
         inl (a.1
         ∙ ap (λ (e : OpenFault). why.Open e) (one_window_fault window a.0 b.0 a.3 b.3)
@@ -96,9 +102,9 @@ opening_none : (window text : List ℕ) (r : Refusal) → Opens window text
     → IsOpeningRefusal window text r → ⊥
 opening_none window text r opens is = by (opening_of window text r is)
   where
-    by : (IsOfSdp r × ((f : SdpFault) × IsTextFault (video_sections (lines text)) f))
+    by : OfText text r
         ⊎ ((e : OpenFault) × (r ≡ why.Open e) × IsSdp text × IsWindowFault window e) → ⊥
-    by (inl a) = no_text_fault text opens.sdp.0 a.1.0 opens.sdp.1 a.1.1
+    by (inl a) = no_text_fault text opens.sdp.0 a.0.fault opens.sdp.1 a.2
     by (inr b) = window_not b.0 window opens.is_window b.3
 
 -- so of the text of a file, which may be none

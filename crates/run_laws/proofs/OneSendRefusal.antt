@@ -1,6 +1,6 @@
--- Of what a run of `send` read one refusal is told; of a text's own it may be one or the other.
+-- Of what a run of `send` read one refusal is told, but for the place of an SDP text's fault.
 use Rattle.std.proofs.Common.{◌≡◌, ℕ, ◌<◌, ◌≤◌, ◌⊎◌, inl, inr, List, [], ◌∷◌, Option}
-use Rattle.std.proofs.Common.{refl, sym, ap, ◌∙◌, subst, arith}
+use Rattle.std.proofs.Common.{None, Some, refl, sym, ap, ◌∙◌, subst, arith}
 use Rattle.st_format.specs.Device.{AreOctets}
 use Rattle.st_format.specs.Member.{IsMember}
 use Rattle.st_format.specs.declared.format.Format.{Format}
@@ -8,18 +8,24 @@ use Rattle.media_file.specs.declared.fault.FileFault.{FileFault}
 use Rattle.media_file.proofs.PictureFaults.{one_picture_fault}
 use Rattle.packet_plan.specs.declared.plan.PlanFault.{PlanFault}
 use Rattle.packet_plan.specs.declared.plan.PlanFault.TheVariants.{NoMemory, BadPacketSize}
+use Rattle.sdp_format.specs.declared.place.Located.{Located}
 use Rattle.run_outcome.specs.Moments.{WasRead}
 use Rattle.run_outcome.specs.Pictures.{IsPictureRefusal, IsPlanFault, SaysPictureOf}
-use Rattle.run_outcome.specs.TextRefusals.{IsTextOfRun}
+use Rattle.run_outcome.specs.TextRefusals.{HasTextFault, IsSdpRefusal, IsTextOfRun, IsTextRefusal}
 use Rattle.run_outcome.specs.declared.refusal.Refusal.{Refusal}
 use Rattle.run_outcome.specs.declared.refusal.Refusal.TheVariants as why
 use Rattle.capture_engines.specs.Sent.{IsFirstPictureRefusal, IsLaterPictureRefusal}
 use Rattle.capture_engines.specs.Sent.{IsPicturesRefusal, IsRestRefusal, IsSaidRefusal}
 use Rattle.capture_engines.specs.Sent.{IsSendRefusal, SaysOther, SaysTextOfRun}
 use Rattle.run_laws.specs.Received.{read_of}
+use Rattle.run_laws.specs.Told.{AreOfOneFault}
 use Rattle.run_laws.proofs.NoProcessRefusals.{not_text}
+use Rattle.run_laws.proofs.NoTextFault.{of_one_fault, one_text_fault}
 use Rattle.run_laws.proofs.NoSendRefusals.{file_not, first_not, format_read, later_not}
 use Rattle.run_laws.proofs.Receiving.{was_read}
+
+abbrev One : Refusal → Refusal → Type 0
+One r q = (r ≡ q) ⊎ AreOfOneFault r q
 
 -- ---- which it is
 
@@ -61,6 +67,38 @@ one_plan_fault : (most : ℕ) (f g : Format) (d e : PlanFault) → IsPlanFault m
 one_plan_fault most f g BadPacketSize BadPacketSize is other = refl
 one_plan_fault most f g BadPacketSize NoMemory is other = absurd other
 one_plan_fault most f g NoMemory e is other = absurd is
+
+-- ---- of a text
+
+sdp_of : (told : List ℕ → Type 0) (r : Refusal) → IsSdpRefusal told r
+    → (at : Located) × (r ≡ why.Sdp at) × HasTextFault told at.fault
+sdp_of told (why.Sdp at) is = (at, refl, is)
+sdp_of told r is = absurd is
+
+one_sdp : (told : List ℕ → Type 0) (text : List ℕ) → told text → (r q : Refusal)
+    → (at : Located) × (r ≡ why.Sdp at) × HasTextFault told at.fault
+    → (at : Located) × (q ≡ why.Sdp at) × HasTextFault told at.fault → AreOfOneFault r q
+one_sdp told text there r q is other =
+    of_one_fault r q is.0 other.0 is.1 other.1
+    (one_text_fault text is.0.fault other.0.fault (is.2 text there) (other.2 text there))
+
+-- one that is too long has no other refusal
+one_text : (too_long : Refusal) (told : List ℕ → Type 0) (text : List ℕ) → told text
+    → (r q : Refusal) → IsTextRefusal too_long told r → IsTextRefusal too_long told q → One r q
+one_text too_long told text there r q (inl is) (inl other) = inl (is.0 ∙ sym other.0)
+one_text too_long told text there r q (inl is) (inr other) =
+    absurd (omega (arith, is.1 text there, other.0 text there))
+one_text too_long told text there r q (inr is) (inl other) =
+    absurd (omega (arith, is.0 text there, other.1 text there))
+one_text too_long told text there r q (inr is) (inr other) =
+    inr (one_sdp told text there r q (sdp_of told r is.1) (sdp_of told q other.1))
+
+-- one source is given
+one_given : {S : Type 0} (given : Option S) (s t : S) → given ≡ Some s → given ≡ Some t → s ≡ t
+one_given {S} given s t is other =
+    let some : S → Option S = λ x. Some x in
+    let same : some s ≡ some t = sym is ∙ other in
+    cc
 
 -- ---- of pictures
 
@@ -147,17 +185,28 @@ module _ {S : Type 0} (gave : S → List ℕ) (ended : S → Type 0) where
       not_text why.SendSdp (WasRead gave ended s) (read_of gave s) r (was_read gave ended s)
       (says wrong.0 wrong.1 wrong.2 wrong.3 (read_of gave s) (was_read gave ended s)) wrong.4
 
+  -- the text's own are one
+  text_one : (old new : Option S) (r q : Refusal) → IsTextOfRun (WasRead gave ended) old new r
+      → IsTextOfRun (WasRead gave ended) old new q → One r q
+  text_one old new r q is other =
+      let s : S × S = (is.0, is.1) in
+      let there : IsTextRefusal why.SendSdp (WasRead gave ended s) q =
+      subst (λ (x : S). IsTextRefusal why.SendSdp (WasRead gave ended (x, is.1)) q)
+      (one_given old other.0 is.0 other.2 is.2)
+      (subst (λ (x : S). IsTextRefusal why.SendSdp (WasRead gave ended (other.0, x)) q)
+      (one_given new other.1 is.1 other.3 is.3) other.4) in
+      one_text why.SendSdp (WasRead gave ended s) (read_of gave s) (was_read gave ended s) r q is.4
+      there
+
   one_said : (count : ℕ) (old new : Option S) (r q : Refusal)
       → ((r ≡ why.SendPictures) × (10000 < count))
       ⊎ ((count ≤ 10000) × IsTextOfRun (WasRead gave ended) old new r)
       → ((q ≡ why.SendPictures) × (10000 < count))
-      ⊎ ((count ≤ 10000) × IsTextOfRun (WasRead gave ended) old new q)
-      → (r ≡ q)
-      ⊎ (IsTextOfRun (WasRead gave ended) old new r × IsTextOfRun (WasRead gave ended) old new q)
+      ⊎ ((count ≤ 10000) × IsTextOfRun (WasRead gave ended) old new q) → One r q
   one_said count old new r q (inl is) (inl other) = inl (is.0 ∙ sym other.0)
   one_said count old new r q (inl is) (inr other) = absurd (omega (arith, is.1, other.0))
   one_said count old new r q (inr is) (inl other) = absurd (omega (arith, is.0, other.1))
-  one_said count old new r q (inr is) (inr other) = inr (is.1, other.1)
+  one_said count old new r q (inr is) (inr other) = text_one old new r q is.1 other.1
 
   said_none : (count : ℕ) (old new : Option S) (r : Refusal) → count ≤ 10000
       → SaysTextOfRun (WasRead gave ended) old new
@@ -169,9 +218,7 @@ module _ {S : Type 0} (gave : S → List ℕ) (ended : S → Type 0) where
   pub one_refusal : (most count : ℕ) (old new : Option S) (xs : List (S × S)) (r q : Refusal)
       → ((s : S × S) → IsMember s xs → AreOctets (read_of gave s))
       → IsSendRefusal most count old new (WasRead gave ended) xs r
-      → IsSendRefusal most count old new (WasRead gave ended) xs q
-      → (r ≡ q)
-      ⊎ (IsTextOfRun (WasRead gave ended) old new r × IsTextOfRun (WasRead gave ended) old new q)
+      → IsSendRefusal most count old new (WasRead gave ended) xs q → One r q
   one_refusal most count old new xs r q bytes (inl is) (inl other) =
       one_said count old new r q (said_of count old new (WasRead gave ended) r is)
       (said_of count old new (WasRead gave ended) q other)
