@@ -34,7 +34,8 @@ fn room<A: Allocator>(alloc: A) -> Result<Vec<u8, A>, AllocError>
 ///
 /// The refusal of the first recording that has a fault but `Truncated`, and then nothing is
 /// printed. Where some were only cut short all is printed that was read, and `Truncated` is the
-/// refusal. Else that a device failed, or that memory was wanted.
+/// refusal. Else that a device failed, or that memory was wanted: to read, and then nothing is
+/// printed.
 pub fn inspect<A, S, O>(
     alloc: A,
     recordings: &mut [S],
@@ -50,6 +51,7 @@ where
         (zip recordings.old recordings.new) false (O.took output.old) (O.took output.new)) }
     ensures refusal { IfErr result (λ f. OfRefusal f (IsInspectRefusal form (WasRead S.gave S.ended)
         (zip recordings.old recordings.new) (O.took output.old) (O.took output.new))) }
+    ensures memory { IfErr result (λ f. f ≡ Fault.Memory → O.took output.new ≡ O.took output.old) }
     ensures failures { Accounts result (counts (sum_by S.failures recordings.old)
         (sum_by S.failures recordings.new) ∷ counts (O.failures output.old) (O.failures output.new)
         ∷ []) }

@@ -7,6 +7,6 @@ pub loop-count-preserved : goal.loop-count-preserved
 loop-count-preserved g c = record {
   printed = texts_more (count_lines c.args.form) c.flows-flows.result.now c.loop-count.count-index
       c.count-item.result c.count-item.result _ _ _ c.loop-count-test.true c.count-item.is
-      c.loop-count.invariant.printed c.in_ok-print.ensures.printed;
+      c.loop-count.invariant.printed (rw c.count_text.ensures at c.in_ok-print.ensures.printed);
   failures = c.in_ok-print.ensures.failures ∙ c.loop-count.invariant.failures;
 }
