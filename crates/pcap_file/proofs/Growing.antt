@@ -58,17 +58,34 @@ four_gave before a four size grown =
     gave_part (field_at 4) four before a four (λ was left p. gives_field Truncated 4 was left four size p)
     grown
 
+-- what they are; or their fault
+pub gave_behind : (four a b : List ℕ) (r : Result Layout RecordingFault) → length four ≡ 4
+    → IfOk r (λ l. GaveValue (laid_behind four) a b (layout_seen l).laid)
+    → IfOk r (λ l. (before : List ℕ) → a ≡ before ++ four
+    → GaveValue opened_at before b (layout_seen l).laid)
+gave_behind four a b (Ok l) size gave = λ before is.
+    let laid : Laid = (layout_seen l).laid in
+    gave_two (field_at 4) (laid_behind four) opened_at four laid laid before a b
+    (λ was mid left p q. opened_gives four laid was mid left p q)
+    (four_gave before a four size is) gave
+gave_behind four a b (Err f) size gave = tt
+
+pub wrong_behind : (four a b : List ℕ) (ended : Type 0) (r : Result Layout RecordingFault)
+    → length four ≡ 4 → IfErr r (λ f. GaveFault (laid_behind four) a b ended f)
+    → IfErr r (λ f. (before : List ℕ) → a ≡ before ++ four
+    → GaveFault opened_at before b ended f)
+wrong_behind four a b ended (Ok l) size wrong = tt
+wrong_behind four a b ended (Err f) size wrong = λ before is.
+    fault_two recording_fault_origin (field_at 4) (laid_behind four) opened_at four before a b ended f
+    (λ was mid p q. opened_fails four f was mid p q) (four_gave before a four size is) wrong
+
 pub opened_behind : (room : ℕ) (four a b : List ℕ) (r : Result Layout RecordingFault)
     → length four ≡ 4 → IfOk r (λ l. (layout_seen l).left ≡ most_blocks)
     → IfOk r (λ l. GaveValue (laid_behind four) a b (layout_seen l).laid)
     → IfOk r (λ l. (before : List ℕ) → a ≡ before ++ four
     → HasRead room before b (layout_seen l) [])
 opened_behind room four a b (Ok l) size most gave = λ before is.
-    let laid : Laid = (layout_seen l).laid in
-    has_opened room before b (layout_seen l) most
-    (gave_two (field_at 4) (laid_behind four) opened_at four laid laid before a b
-    (λ was mid left p q. opened_gives four laid was mid left p q)
-    (four_gave before a four size is) gave)
+    has_opened room before b (layout_seen l) most (gave_behind four a b (Ok l) size gave before is)
 opened_behind room four a b (Err f) size most gave = tt
 
 pub not_opened_behind : (room : ℕ) (four a b : List ℕ) (ended : Type 0)
@@ -79,5 +96,4 @@ pub not_opened_behind : (room : ℕ) (four a b : List ℕ) (ended : Type 0)
 not_opened_behind room four a b ended (Ok l) size wrong = tt
 not_opened_behind room four a b ended (Err f) size wrong = λ before is.
     has_not_opened room before b ended f
-    (fault_two recording_fault_origin (field_at 4) (laid_behind four) opened_at four before a b ended f
-    (λ was mid p q. opened_fails four f was mid p q) (four_gave before a four size is) wrong)
+    (wrong_behind four a b ended (Err f) size wrong before is)

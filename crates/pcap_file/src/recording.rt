@@ -8,7 +8,7 @@ ghost use Rattle.pcap_file.specs.NgSteps.{IsWithin, known};
 ghost use Rattle.pcap_file.specs.Openings.{behind_at, blocks_laid, laid_behind, pcap_laid};
 ghost use Rattle.pcap_file.specs.Pcap.{foreign_of};
 ghost use Rattle.pcap_file.specs.Runs.{HasFailed, HasRead, ReadsFault, ReadsNext, ReadsStep};
-ghost use Rattle.pcap_file.specs.Runs.{in_blocks, in_pcap, layout_seen, most_blocks};
+ghost use Rattle.pcap_file.specs.Runs.{in_blocks, in_pcap, layout_seen, most_blocks, opened_at};
 ghost use Rattle.st_format.specs.History.{GrewFrom};
 
 use crate::blocks::SECTION;
@@ -162,6 +162,11 @@ pub fn open_behind<S: ByteSource>(
         → HasRead (length buf.old) before (S.gave source.new) (layout_seen l) []) }
     ensures fault { IfErr result (λ f. (before : List ℕ) → S.gave source.old ≡ before ++ four.now
         → HasFailed (length buf.old) before (S.gave source.new) (S.ended source.new) f []) }
+    // Just what stands before all packets was read, and a fault is its own.
+    ensures opened { IfOk result (λ l. (before : List ℕ) → S.gave source.old ≡ before ++ four.now
+        → GaveValue opened_at before (S.gave source.new) (layout_seen l).laid) }
+    ensures wrong { IfErr result (λ f. (before : List ℕ) → S.gave source.old ≡ before ++ four.now
+        → GaveFault opened_at before (S.gave source.new) (S.ended source.new) f) }
     ensures grown { GrewFrom (S.gave source.old) (S.gave source.new) }
     ensures counted { CountsDevice (S.failures source.old) (S.failures source.new) result }
     ensures names { S.names source.new ≡ S.names source.old }
