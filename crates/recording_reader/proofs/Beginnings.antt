@@ -11,10 +11,10 @@ use Rattle.media_file.specs.Fronts.{front_at}
 use Rattle.media_file.specs.declared.fault.FileFault.{FileFault}
 use Rattle.media_file.specs.declared.fault.FileFault.TheVariants.{Truncated}
 use Rattle.media_file.specs.Faults.{file_fault_origin}
-use Rattle.pcap_file.specs.Fields.{recording_fault_origin}
+use Rattle.pcap_file.specs.Fields.{GaveFault as GaveRecordingFault, recording_fault_origin}
 use Rattle.media_file.proofs.FrontBehind.{few_cut}
 use Rattle.media_file.proofs.Gave.{fault_read}
-use Rattle.pcap_file.specs.Runs.{HasFailed, HasRead, fault_in, layout_seen, packets_in, most_packet}
+use Rattle.pcap_file.specs.Runs.{HasRead, layout_seen, most_packet, opened_at}
 use Rattle.pcap_file.specs.declared.fault.RecordingFault.{RecordingFault}
 use Rattle.st_format.proofs.Origins.{if_content_weaker}
 use Rattle.st_format.proofs.Gave.{grew_twice}
@@ -127,28 +127,29 @@ module _ (before was four : List ℕ) (size : length four ≡ 4) (magic : is_mag
   )
 
   pub recording_stops : (flows : Option Flows) (now : List ℕ) (ended : Type 0)
-      (f : RecordingFault) → GrewFrom was now → HasFailed most_packet before now ended f []
+      (f : RecordingFault) → GrewFrom was now → GaveRecordingFault opened_at before now ended f
       → StopsOpening flows before now ended (opening.Reading (fault.Recording f))
-  recording_stops flows now ended f grew failed octets read =
-      let part = read_part before now failed.part ended octets failed.grown read in
-      if_content_weaker recording_fault_origin f _ (IsFrontFault (fault.Recording f) octets)
-      (λ says. (
+  recording_stops flows now ended f grew wrong octets read =
+      if_content_weaker recording_fault_origin f (opened_at (wrong.part ++ read.behind) ≡ Err f)
+      (IsFrontFault (fault.Recording f) octets)
+      (λ e. (
         kind_read before was four true size magic is now ended octets grew read,
-        ap (packets_in most_packet) part ∙ says.0,
-        ap (fault_in most_packet) part ∙ says.1,
-      )) (failed.says read.behind read.all)
+        ap opened_at (read_part before now wrong.part ended octets wrong.grown read) ∙ e,
+      )) (wrong.says read.behind read.all)
 
   pub recording_begins : (t : Track) (now : List ℕ) (ended : Type 0) → GrewFrom was now
-      → HasRead most_packet before now (layout_seen t.layout) [] → t.left_out ≡ left_out_of []
+      → HasRead most_packet before now (layout_seen t.layout) []
+      → GaveValue opened_at before now (layout_seen t.layout).laid → t.left_out ≡ left_out_of []
       → BeginsWay (Recording t) (Some t.flows) before now ended []
-  recording_begins t now ended grew read none = (
+  recording_begins t now ended grew read gave none = (
     refl,
     refl,
     recording_first t.flows t.layout before now ended t.left_out
         (record {
-          part = read.part;
-          grown = read.grown;
-          kind = kind_given before was four true size magic is now read.part grew read.grown;
+          part = gave.part;
+          grown = gave.grown;
+          kind = kind_given before was four true size magic is now gave.part grew gave.grown;
+          opens = λ behind. (((layout_seen t.layout).laid, behind), gave.says behind);
         }) read none,
   )
 

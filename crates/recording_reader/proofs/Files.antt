@@ -1,12 +1,13 @@
 -- What a file has, by its kind.
-use Rattle.std.proofs.Common.{◌≡◌, ℕ, List, [], Bool, true, false, Option, Some, Ok}
+use Rattle.std.proofs.Common.{◌≡◌, ℕ, List, [], Bool, true, false, Option, Some, Result, Ok, Err}
 use Rattle.std.proofs.Common.{sym, ap, subst, ◌∙◌}
 use Rattle.std.specs.Prelude.{if◌then◌else◌}
 use Rattle.flow.specs.declared.flows.Flows.{Flows}
 use Rattle.recording_counts.specs.declared.omission.Omission.{Omission}
 use Rattle.media_file.specs.Fronts.{front_at}
 use Rattle.media_file.specs.Reading.{entries_in}
-use Rattle.pcap_file.specs.Runs.{packets_in, most_packet}
+use Rattle.pcap_file.specs.Runs.{Laid, fault_in, most_packet, opened_at, packets_in, run_behind}
+use Rattle.pcap_file.specs.declared.fault.RecordingFault.{RecordingFault}
 use Rattle.recording_reader.specs.Files.{IsWholeBy, IsWholeFile, capture_records, omissions_by}
 use Rattle.recording_reader.specs.Files.{omissions_of_file, records_behind, records_by}
 use Rattle.recording_reader.specs.Files.{records_of_file, text_before, text_of_file}
@@ -57,3 +58,13 @@ module _ (flows : Flows) (octets : List ℕ) (kind : is_recording octets ≡ tru
 
   pub recording_whole : IsWholeBy true octets → IsWholeFile octets
   recording_whole whole = subst (λ (b : Bool). IsWholeBy b octets) (sym kind) whole
+
+-- where its front is at fault it has no packets, and no other fault
+module _ (octets : List ℕ) (f : RecordingFault) (wrong : opened_at octets ≡ Err f) where
+  pub front_packets : packets_in most_packet octets ≡ []
+  front_packets =
+      ap (λ (r : Result (Laid × List ℕ) RecordingFault). (run_behind most_packet r).packets) wrong
+
+  pub front_first : fault_in most_packet octets ≡ Some f
+  front_first =
+      ap (λ (r : Result (Laid × List ℕ) RecordingFault). (run_behind most_packet r).fault) wrong

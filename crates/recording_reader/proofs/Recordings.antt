@@ -25,7 +25,7 @@ use Rattle.st_format.proofs.Gave.{grew_twice}
 use Rattle.st_format.specs.History.{GrewFrom, IsRead, since}
 use Rattle.st_format.proofs.Histories.{grew_by, since_is}
 use Rattle.recording_reader.specs.FileReader.{IsExact, IsKnownBy}
-use Rattle.recording_reader.specs.Files.{AreFirst, HaveFileRecords, records_of_file}
+use Rattle.recording_reader.specs.Files.{AreFirst, HasFrontBy, HaveFileRecords, records_of_file}
 use Rattle.recording_reader.specs.Files.{text_of_file}
 use Rattle.recording_reader.specs.Found.{entry_at}
 use Rattle.recording_reader.specs.Kinds.{is_recording}
@@ -65,6 +65,9 @@ begun_more before now new begun more =
       grown = grew_twice before now new begun.part piece begun.grown more;
       kind = λ behind.
           ap is_recording (append_assoc begun.part piece behind) ∙ begun.kind (piece ++ behind);
+      opens = λ behind.
+          subst (λ (l : List ℕ). HasFrontBy true l) (sym (append_assoc begun.part piece behind))
+          (begun.opens (piece ++ behind));
     }
 
 begun_kind : (before now : List ℕ) (ended : Type 0) (octets : List ℕ) → HasBegun before now
@@ -74,6 +77,15 @@ begun_kind before now ended octets begun read =
     (read.parts
     ∙ ap (λ (l : List ℕ). l ++ read.behind) (since_is before now begun.part begun.grown))
     ∙ begun.kind read.behind
+
+-- so its front is without a fault
+begun_front : (before now : List ℕ) (ended : Type 0) (octets : List ℕ) → HasBegun before now
+    → IsRead before now ended octets → HasFrontBy true octets
+begun_front before now ended octets begun read =
+    subst (λ (l : List ℕ). HasFrontBy true l)
+    (sym (read.parts
+    ∙ ap (λ (l : List ℕ). l ++ read.behind) (since_is before now begun.part begun.grown)))
+    (begun.opens read.behind)
 
 begun_now : (before now : List ℕ) → HasBegun before now → is_recording (since before now) ≡ true
 begun_now before now begun =
@@ -198,6 +210,9 @@ module _ (flows : Flows) (standing : Standing) (layout : Layout) (before now : L
   module _ (octets : List ℕ) (read : IsRead before now ended octets) where
     pub recording_kind : is_recording octets ≡ true
     recording_kind = begun_kind before now ended octets s.begun read
+
+    pub recording_front : HasFrontBy true octets
+    recording_front = begun_front before now ended octets s.begun read
 
     pub recording_said : text_of_file octets ≡ []
     recording_said =

@@ -7,16 +7,17 @@ use Rattle.std.specs.Option.{option_map}
 use Rattle.flow.specs.declared.flows.Flows.{Flows}
 use Rattle.media_file.specs.Records.{Entry}
 use Rattle.media_file.specs.declared.fault.FileFault.{FileFault}
-use Rattle.st_format.specs.History.{since}
+use Rattle.st_format.specs.History.{IsRead, since}
 use Rattle.st_format.specs.declared.path.Path.{Path}
 use Rattle.recording_reader.specs.Came.{AreNoted}
 use Rattle.recording_reader.specs.Capturing.{FailsRecord, ReadsRecord}
+use Rattle.recording_reader.specs.FileReader.{IsKnownBy}
 use Rattle.recording_reader.specs.Files.{records_of_file, text_of_file}
 use Rattle.recording_reader.specs.Found.{entry_at}
 use Rattle.recording_reader.specs.Reading.{entry_there}
 use Rattle.recording_reader.specs.Sound.{IsSound}
 use Rattle.recording_reader.specs.Ways.{BeginsWay, FailsNextBy, FindsNext, HasRoom, IsAtHand}
-use Rattle.recording_reader.specs.Ways.{WayStands, is_recording_way}
+use Rattle.recording_reader.specs.Ways.{WayStands, is_recording_way, left_out_by}
 use Rattle.recording_reader.specs.declared.came.Came.{Came}
 use Rattle.recording_reader.specs.declared.fault.ReadingFault.{ReadingFault}
 use Rattle.recording_reader.specs.declared.fault.ReadingFault.TheVariants as fault
@@ -27,7 +28,8 @@ use Rattle.recording_reader.specs.declared.way.Way.{Way}
 use Rattle.recording_reader.specs.declared.way.Way.TheVariants.{Capture, Recording}
 use Rattle.recording_reader.proofs.Standings.{at_hand, exact_between, same_room}
 use Rattle.recording_reader.proofs.Standings.{same_room_failed, way_again}
-use Rattle.recording_reader.proofs.Standings.{way_end, way_fails, way_has, way_text}
+use Rattle.recording_reader.proofs.Standings.{way_end, way_fails, way_has, way_known, way_said}
+use Rattle.recording_reader.proofs.Standings.{way_text}
 
 abbrev pub some_path : Path → Option Path
 some_path path = Some path
@@ -55,6 +57,19 @@ module _ (way : Way) (flows : Option Flows) (before now : List ℕ) (ended : Typ
 
   pub records_first : records_of_file flows (since before now) ≡ []
   records_first = (way_has way flows Reads before now ended text [] begins tt).records_are
+
+  -- what is known of its text and its records
+  module _ (octets : List ℕ) (read : IsRead before now ended octets) where
+    pub said_first : text_of_file octets ≡ text_of_file (since before now)
+    said_first =
+        way_said way flows Reads before now ended text [] octets begins read ∙ sym text_first
+
+    pub known_first : IsKnownBy flows Reads octets (records_of_file flows (since before now))
+        (left_out_by way)
+    known_first =
+        subst (λ (es : List Entry). IsKnownBy flows Reads octets es (left_out_by way))
+        (sym records_first)
+        (way_known way flows Reads before now ended text [] octets begins read)
 
   pub sound_first : (found : Option Found) (count : ℕ) (came : Came) (text_len : ℕ)
       → HasRoom way count → AreNoted came [] → length text ≡ text_len

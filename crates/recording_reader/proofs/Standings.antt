@@ -3,10 +3,11 @@ use Rattle.std.proofs.Common.{◌≡◌, ℕ, List, [], ◌∷◌, ◌++◌, Opt
 use Rattle.std.proofs.Common.{refl, sym, ap, subst, ◌∙◌, false, true}
 use Rattle.std.specs.Prelude.{IsSome}
 use Rattle.flow.specs.declared.flows.Flows.{Flows}
-use Rattle.media_file.specs.Records.{Entry}
+use Rattle.media_file.specs.Records.{Entry, records_text}
 use Rattle.st_format.specs.History.{GrewFrom, IsRead, since}
 use Rattle.recording_reader.specs.FileReader.{IsExact, IsKnownBy}
-use Rattle.recording_reader.specs.Files.{HasFirstRecords, HaveFileRecords, text_of_file}
+use Rattle.recording_reader.specs.Files.{HasFirstRecords, HasFrontBy, HaveFileRecords}
+use Rattle.recording_reader.specs.Files.{text_of_file}
 use Rattle.recording_reader.specs.Found.{entry_at}
 use Rattle.recording_reader.specs.Kinds.{is_recording}
 use Rattle.recording_reader.specs.Reading.{entry_there}
@@ -24,7 +25,8 @@ use Rattle.recording_reader.proofs.Captures.{capture_again, capture_end, capture
 use Rattle.recording_reader.proofs.Captures.{capture_has, capture_kind, capture_known, capture_said}
 use Rattle.recording_reader.proofs.Captures.{capture_parts, capture_text_is}
 use Rattle.recording_reader.proofs.Recordings.{recording_again, recording_end, recording_fails}
-use Rattle.recording_reader.proofs.Recordings.{recording_grew, recording_has, recording_kind}
+use Rattle.recording_reader.proofs.Recordings.{recording_front, recording_grew, recording_has}
+use Rattle.recording_reader.proofs.Recordings.{recording_kind}
 use Rattle.recording_reader.proofs.Recordings.{recording_known, recording_said, recording_text_is}
 
 abbrev some_flows : Flows → Option Flows
@@ -97,6 +99,17 @@ way_kind Capture flows standing before now ended text records octets s read =
     capture_kind standing before now ended text records s flows octets read
 way_kind (Recording t) flows standing before now ended text records octets s read =
     recording_kind t.flows standing t.layout before now ended records t.left_out s.2 octets read
+
+-- its front is without a fault
+pub way_front : (way : Way) (flows : Option Flows) (standing : Standing) (before now : List ℕ)
+    (ended : Type 0) (text : List ℕ) (records : List Entry) (octets : List ℕ)
+    → WayStands way flows standing before now ended text records → IsRead before now ended octets
+    → HasFrontBy (is_recording_way way) octets
+way_front Capture flows standing before now ended text records octets s read =
+    let parts = capture_parts standing before now ended text records s flows octets read in
+    ((text, records_text records ++ parts.behind), parts.front)
+way_front (Recording t) flows standing before now ended text records octets s read =
+    recording_front t.flows standing t.layout before now ended records t.left_out s.2 octets read
 
 pub way_said : (way : Way) (flows : Option Flows) (standing : Standing) (before now : List ℕ)
     (ended : Type 0) (text : List ℕ) (records : List Entry) (octets : List ℕ)

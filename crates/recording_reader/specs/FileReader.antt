@@ -6,8 +6,9 @@ use Rattle.recording_counts.specs.LeftOut.{left_out_of}
 use Rattle.recording_counts.specs.declared.left_out.LeftOut.{LeftOut}
 use Rattle.media_file.specs.Records.{Entry}
 use Rattle.pcap_file.specs.Fields.{IsContent}
-use Rattle.recording_reader.specs.Files.{AreFirst, CountsReadingFault, HaveFileRecords, IfFile}
-use Rattle.recording_reader.specs.Files.{HasFirstRecords, IsFileFault, IsWholeFile, records_of_file}
+use Rattle.recording_reader.specs.Files.{AreFirst, CountsReadingFault, HasFirstRecords, HasFrontBy}
+use Rattle.recording_reader.specs.Files.{HaveFileRecords, IfFile, IsFileFault, IsWholeFile}
+use Rattle.recording_reader.specs.Files.{records_of_file}
 use Rattle.recording_reader.specs.Files.{source_fault}
 use Rattle.recording_reader.specs.Files.{text_of_file}
 use Rattle.recording_reader.specs.Kinds.{is_recording}
@@ -63,10 +64,11 @@ IsKnownBy flows (Failed f) octets records left =
     AreFirst records (records_of_file flows octets)
     × IfFile f (HaveFileRecords flows octets records left × IsFileFault f octets)
 
--- its kind and its text, and which records it has
+-- its kind and its text, that its front has no fault, and which records it has
 pub record IsKnownFile {S : Type 0} (r : FileReader S) (octets : List ℕ) : Type 0 where
   pub kind : is_recording octets ≡ r.is_recording
   pub text : text_of_file octets ≡ r.text
+  pub front : HasFrontBy r.is_recording octets
   pub known : IsKnownBy r.flows r.standing octets r.records r.left_out
 
 -- so it is of all octets of which those are the first that the source gave

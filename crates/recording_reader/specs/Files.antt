@@ -15,7 +15,7 @@ use Rattle.media_file.specs.Records.{AllFit, Entry, records_text}
 use Rattle.media_file.specs.declared.fault.FileFault.{FileFault}
 use Rattle.pcap_file.specs.Fields.{CountsFault as CountsRecordingFault, IfContent as IfRecording}
 use Rattle.pcap_file.specs.RecordingFaults.{recording_fault_number}
-use Rattle.pcap_file.specs.Runs.{fault_in, packets_in, most_packet}
+use Rattle.pcap_file.specs.Runs.{Laid, fault_in, most_packet, opened_at, packets_in}
 use Rattle.pcap_file.specs.declared.fault.RecordingFault.{RecordingFault}
 use Rattle.pcap_file.specs.declared.fault.RecordingFault.TheVariants.{Device}
 use Rattle.recording_reader.specs.Kinds.{is_recording}
@@ -109,11 +109,16 @@ IsFileFault (Capture f) octets = (is_recording octets ≡ false) × HasWrongPart
 IsFileFault (Recording f) octets =
     (is_recording octets ≡ true) × (fault_in most_packet octets ≡ Some f)
 
--- one that stands before all records
+-- one of a file's front: of what stands before a capture's records, or before all packets of a
+-- recording, the head of a pcap file or the block of a pcapng file's first section
 abbrev pub IsFrontFault : ReadingFault → List ℕ → Type 0
 IsFrontFault (Capture f) octets = (is_recording octets ≡ false) × (front_at octets ≡ Err f)
-IsFrontFault (Recording f) octets = (is_recording octets ≡ true)
-    × (packets_in most_packet octets ≡ []) × (fault_in most_packet octets ≡ Some f)
+IsFrontFault (Recording f) octets = (is_recording octets ≡ true) × (opened_at octets ≡ Err f)
+
+-- a recording's front has none, or a capture's
+abbrev pub HasFrontBy : Bool → List ℕ → Type 0
+HasFrontBy true octets = (x : Laid × List ℕ) × (opened_at octets ≡ Ok x)
+HasFrontBy false octets = (x : List ℕ × List ℕ) × (front_at octets ≡ Ok x)
 
 -- Octets begin with a capture's front, which has this text, and with the text of these records.
 pub record HasFirstRecords (text : List ℕ) (records : List Entry) (octets : List ℕ) : Type 0 where

@@ -17,8 +17,8 @@ pub record HasGivenFour (before now : List ℕ) : Type 0 where
 
 -- What a fault says by which a file was not opened, of which a source gave octets. It is a
 -- recording, and there are no flows; room was refused, and flows aren't wanting: both with the
--- first four octets read. A fault of the file's is its first, and comes before all records,
--- whatever is behind those octets.
+-- first four octets read. A fault of the file's is that of its front, whatever is behind those
+-- octets.
 abbrev pub StopsOpening : Option Flows → List ℕ → List ℕ → Type 0 → FileOpeningFault → Type 0
 StopsOpening flows before now ended NoFlows = HasGivenFour before now × (flows ≡ None)
     × ((octets : List ℕ) → IsRead before now ended octets → is_recording octets ≡ true)

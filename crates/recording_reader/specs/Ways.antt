@@ -10,6 +10,7 @@ use Rattle.pcap_file.specs.PcapReading.{Recorded}
 use Rattle.pcap_file.specs.Runs.{HasFailed, HasRead, HasReadAll, layout_seen, most_packet}
 use Rattle.pcap_file.specs.declared.recording.Layout.{Layout}
 use Rattle.recording_reader.specs.Capturing.{FailsRecord, IsNoRecord, ReadsRecord}
+use Rattle.recording_reader.specs.Files.{HasFrontBy}
 use Rattle.recording_reader.specs.Found.{entry_at}
 use Rattle.recording_reader.specs.Kinds.{is_recording}
 use Rattle.recording_reader.specs.Reading.{FailsNext, ReadsToNext}
@@ -61,11 +62,13 @@ HasReadPackets (Failed (fault.Capture f)) layout before now ended packets = ⊥
 HasReadPackets (Failed (fault.Recording f)) layout before now ended packets =
     HasFailed most_packet before now ended f packets
 
--- a source gave octets that begin a recording, whatever is behind them
+-- a source gave octets that begin a recording, and its front without a fault, whatever is behind
+-- them
 pub record HasBegun (before now : List ℕ) : Type 0 where
   pub part : List ℕ
   pub grown : now ≡ before ++ part
   pub kind : (behind : List ℕ) → is_recording (part ++ behind) ≡ true
+  pub opens : (behind : List ℕ) → HasFrontBy true (part ++ behind)
 
 -- Of a recording packets were read that have these records, and it is counted why the others have
 -- none.

@@ -133,6 +133,8 @@ impl<A: Allocator, S: ByteSource> DatagramReader<A, S> {
           to_give = S.to_give source;
           failures = S.failures source;
         }) }
+        // By what was read the file's front has no fault; or it is at fault, by this one.
+        ensures known { IfOk result (λ r. HasGivenFile S.gave S.ended r) }
         ensures fault { IfErr result
             (λ e. StopsOpening flows (S.gave source) (S.gave e.1) (S.ended e.1) e.0) }
         ensures by_flows { IfErr result (λ e. IsByFlows flows e.0) }

@@ -3,8 +3,8 @@ use Rattle.std.specs.Prelude.{IsSome}
 use Rattle.st_format.specs.History.{GrewFrom, since}
 use Rattle.recording_reader.specs.FileReader.{FileReader, HasGivenFile, HasGivenRecords, IsExact}
 use Rattle.recording_reader.specs.Files.{HaveFileRecords}
-use Rattle.recording_reader.proofs.Standings.{way_by_flows, way_given, way_grew, way_has, way_kind}
-use Rattle.recording_reader.proofs.Standings.{way_known, way_parts, way_said}
+use Rattle.recording_reader.proofs.Standings.{way_by_flows, way_front, way_given, way_grew}
+use Rattle.recording_reader.proofs.Standings.{way_has, way_kind, way_known, way_parts, way_said}
 use Rattle.recording_reader.proofs.reader.DatagramReader.history.Goals as goal
 
 pub returns-clause-known : goal.returns-clause-known
@@ -19,6 +19,9 @@ returns-clause-known g c =
           (told.gave was.source) (told.ended was.source) _ _ octets s.stands read;
       text =
           way_said was.way was.flows was.standing (told.gave was.opened.value)
+          (told.gave was.source) (told.ended was.source) _ _ octets s.stands read;
+      front =
+          way_front was.way was.flows was.standing (told.gave was.opened.value)
           (told.gave was.source) (told.ended was.source) _ _ octets s.stands read;
       known =
           way_known was.way was.flows was.standing (told.gave was.opened.value)

@@ -1,9 +1,11 @@
-use Rattle.std.proofs.Common.{◌≡◌, List, Option, ap, arith, length, refl, take, ℕ}
+use Rattle.std.proofs.Common.{◌≡◌, List, [], Option, ap, arith, length, refl, take, ℕ}
 use Rattle.std.proofs.lemmas.List.{length-take-le}
 use Rattle.recording_reader.specs.Reading.{entry_there}
 use Rattle.recording_reader.specs.declared.found.Found.{Found}
-use Rattle.recording_reader.proofs.Sounding.{records_first, sound_first, text_first, text_front}
-use Rattle.recording_reader.proofs.Sounding.{text_short}
+use Rattle.recording_reader.specs.declared.way.Standing.TheVariants.{Reads}
+use Rattle.recording_reader.proofs.Sounding.{known_first, records_first, said_first, sound_first}
+use Rattle.recording_reader.proofs.Sounding.{text_first, text_front, text_short}
+use Rattle.recording_reader.proofs.Standings.{way_front, way_kind}
 use Rattle.recording_reader.proofs.reader.DatagramReader.open.Goals as goal
 
 pub invariant_of-result : goal.invariant_of-result
@@ -45,6 +47,28 @@ returns-in-Ok-clause-text g c =
     (text_first b.way c.args.flows (told.gave c.args.source) (told.gave c.begin.new.source)
     (told.ended c.begin.new.source) _ c.in-Ok.ensures.begins)
     (omega (arith, c.requires, c.in-Ok.ensures.text_len, c.begin.ensures.room)))
+
+pub returns-in-Ok-clause-known : goal.returns-in-Ok-clause-known
+returns-in-Ok-clause-known g c =
+    let told = g.S.ByteSource in
+    let b = c.in-Ok.begun in
+    rw (c.of-opened.ensures, c.of-last.ensures)
+    (λ octets read. record {
+      kind =
+          way_kind b.way c.args.flows Reads (told.gave c.args.source)
+          (told.gave c.begin.new.source) (told.ended c.begin.new.source) _ [] octets
+          c.in-Ok.ensures.begins read;
+      text =
+          said_first b.way c.args.flows (told.gave c.args.source) (told.gave c.begin.new.source)
+          (told.ended c.begin.new.source) _ c.in-Ok.ensures.begins octets read;
+      front =
+          way_front b.way c.args.flows Reads (told.gave c.args.source)
+          (told.gave c.begin.new.source) (told.ended c.begin.new.source) _ [] octets
+          c.in-Ok.ensures.begins read;
+      known =
+          known_first b.way c.args.flows (told.gave c.args.source) (told.gave c.begin.new.source)
+          (told.ended c.begin.new.source) _ c.in-Ok.ensures.begins octets read;
+    })
 
 pub returns-in-Ok-clause-short : goal.returns-in-Ok-clause-short
 returns-in-Ok-clause-short g c =
