@@ -10,9 +10,9 @@ use Rattle.media_file.specs.declared.fault.FileFault.{FileFault}
 use Rattle.media_file.specs.declared.fault.FileFault.TheVariants as file
 use Rattle.pcap_file.specs.declared.fault.RecordingFault.TheVariants as recording
 use Rattle.recording_reader.specs.FileReader.{FileReader, HasGivenFile, HasGivenRecords, IsKnownBy}
-use Rattle.recording_reader.specs.Files.{AreFirst, HasFirstRecords, HasWrongPart, HaveFileRecords}
-use Rattle.recording_reader.specs.Files.{IfFile, IsFileFault, records_of_file, text_before}
-use Rattle.recording_reader.specs.Files.{text_of_file}
+use Rattle.recording_reader.specs.Files.{AreFirst, HasFirstRecords, HasFrontBy, HasWrongPart}
+use Rattle.recording_reader.specs.Files.{HaveFileRecords, IfFile, IsFileFault, records_of_file}
+use Rattle.recording_reader.specs.Files.{text_before, text_of_file}
 use Rattle.recording_reader.specs.declared.fault.ReadingFault.{ReadingFault}
 use Rattle.recording_reader.specs.declared.fault.ReadingFault.TheVariants.{Capture, Recording}
 use Rattle.recording_reader.specs.declared.way.Standing.{Standing}
@@ -188,6 +188,7 @@ module _ {S : Type 0} (gave : S → List ℕ) (ended : S → Type 0) (r : FileRe
             is,
             subst (λ (f : Option Flows). IsSome f) by (flows kind),
             no_text octets r.text is (given octets read).text,
+            subst (λ (b : Bool). HasFrontBy b octets) kind (given octets read).front,
           )
 
   -- so a refusal of opening by it is one of the file
@@ -357,11 +358,3 @@ none_started k start before now (inl started) all none =
     empty [] is = refl
     empty (x ∷ xs) is = absurd (omega arith)
 none_started k start before now (inr started) all none = absurd (started none)
-
--- a refusal of the files where none has begun is one where no SDP is given
-pub files_refused : {S X Y : Type 0} (window : List ℕ) (begun : Option X) (sdp : Option Y)
-    (ways : List (Result Flows Refusal)) (f : S → List ℕ → Type 0) (files : List S)
-    → (begun ≡ None → sdp ≡ None) → (r : Refusal) → IsFilesRefusal window begun ways f files r
-    → IsFilesRefusal window sdp ways f files r
-files_refused window begun sdp ways f files none r (inl stops) = inl stops
-files_refused window begun sdp ways f files none r (inr (is, first)) = inr (none is, first)

@@ -22,6 +22,7 @@ use Rattle.recording_reader.specs.declared.fault.ReadingFault.{ReadingFault}
 use Rattle.recording_reader.specs.declared.fault.ReadingFault.TheVariants.{Capture, Recording}
 use Rattle.media_file.specs.declared.fault.FileFault.TheVariants as file
 use Rattle.pcap_file.specs.declared.fault.RecordingFault.TheVariants as recording
+use Rattle.recording_reader.proofs.Files.{front_first}
 use Rattle.run_outcome.specs.Refusing.{OfRefusal}
 use Rattle.capture_engines.specs.Files.{flows_in}
 use Rattle.run_outcome.specs.declared.refusal.Refusal.{Refusal}
@@ -191,6 +192,9 @@ pub front_stop : (w : Way) (told : List ℕ → Type 0) (r : Refusal) → StopsF
 front_stop w told (why.Capture f) (inl is) = inl (λ octets read. inl (is.0 octets read), is.1)
 front_stop w told r (inl is) = absurd is.0
 front_stop w told (why.Recording f) (inr (inl is)) =
-    inr (inl (is.0, λ octets read. ((is.1 octets read).0, (is.1 octets read).2)))
+    inr (inl (
+      is.0,
+      λ octets read. ((is.1 octets read).0, front_first octets f (is.1 octets read).1),
+    ))
 front_stop w told r (inr (inl is)) = absurd is
 front_stop w told r (inr (inr is)) = inr (inr (inr is))

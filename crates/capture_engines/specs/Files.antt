@@ -5,7 +5,8 @@ use Rattle.std.specs.Prelude.{IsSome, Result, Ok, Err, true, false, ◌<◌, len
 use Rattle.flow.specs.declared.flows.Flows.{Flows}
 use Rattle.media_file.specs.Fronts.{front_at}
 use Rattle.media_file.specs.Records.{Entry}
-use Rattle.recording_reader.specs.Files.{IsWholeFile, capture_records, records_of_file}
+use Rattle.recording_reader.specs.Files.{HasFrontBy, IsWholeFile, capture_records}
+use Rattle.recording_reader.specs.Files.{records_of_file}
 use Rattle.recording_reader.specs.Kinds.{is_recording}
 use Rattle.run_outcome.specs.declared.refusal.Refusal.{Refusal}
 use Rattle.capture_engines.specs.declared.way.Way.{Way}
@@ -45,11 +46,11 @@ way_at ways (suc place) = way_at (other_ways ways) place
 
 -- ---- its text
 
--- Octets are a file with this text before its records, which is taken so: a recording, by flows,
--- has none, and a capture has it in its front.
+-- Octets are a file whose front has no fault, with this text before its records, and which is
+-- taken so: a recording, by flows, has none, and a capture has it in its front.
 abbrev pub HasFileText : Way → List ℕ → List ℕ → Type 0
 HasFileText w octets text =
-    ((is_recording octets ≡ true) × IsSome (flows_in w) × (text ≡ []))
+    ((is_recording octets ≡ true) × IsSome (flows_in w) × (text ≡ []) × HasFrontBy true octets)
     ⊎ ((rest : List ℕ) × (is_recording octets ≡ false) × (front_at octets ≡ Ok (text, rest)))
 
 -- ---- its datagrams

@@ -204,13 +204,13 @@ abbrev pub IsPlainFrontRefusal : Way → (List ℕ → Type 0) → Refusal → T
 IsPlainFrontRefusal w told r = IsCaptureFrontRefusal told r
     × ((octets : List ℕ) → told octets → IsCaptureBy w octets)
 
--- the first fault of a recording, which is taken by flows, stands before all its records
+-- so is the front of a recording, which is taken by flows
 abbrev pub IsRecordingFrontRefusal : Option Flows → (List ℕ → Type 0) → Refusal → Type 0
 IsRecordingFrontRefusal flows told (refusal.Recording f) = IsSome flows
     × ((octets : List ℕ) → told octets → IsFrontFault (Recording f) octets)
 IsRecordingFrontRefusal flows told r = ⊥
 
--- what stops a file that is taken so before its records
+-- what stops a file that is taken so at its front
 abbrev pub StopsFront : Way → (List ℕ → Type 0) → Refusal → Type 0
 StopsFront w told r = IsPlainFrontRefusal w told r ⊎ IsRecordingFrontRefusal (flows_in w) told r
     ⊎ IsUntakenRefusal w told r
@@ -220,8 +220,9 @@ abbrev pub IsBehindFew : Way → (List ℕ → Type 0) → Refusal → Type 0
 IsBehindFew w told r = (r ≡ refusal.Capture TooManyRecords)
     ⊎ ((octets : List ℕ) → told octets → length (records_of_file (flows_in w) octets) < 16777216)
 
--- The refusal of a file, by what is looked at first: what stops it before its records; of opening
--- by its text, where no receiver is open; and, where one is or is opened by it, what stops it.
+-- The refusal of a file, by what is looked at first: what stops it at its front; of opening by its
+-- text, where that front has no fault and no receiver is open; and, where one is or is opened by
+-- it, what stops it.
 abbrev pub IsTurnRefusal : List ℕ → Way → Type 0 → (List ℕ → Type 0) → Refusal → Type 0
 IsTurnRefusal window w Unopened told r = StopsFront w told r
     ⊎ (Unopened × IsFileOpenedRefusal window w told r)
@@ -278,6 +279,8 @@ IsGivenFilesRefusal window sdp ways told files r =
     ⊎ (MatchOption sdp ⊤ (λ text. Opens window text)
     × IsFirstFilesRefusal window sdp ways told files r)
 
+-- The refusal of files that are received so: of the words; else of the files, for the timestamps
+-- that are asked for.
 abbrev pub IsReceivingRefusal : {S : Type 0} → List ℕ → List ℕ → Option (List ℕ)
     → List (Result Flows Refusal) → (S → List ℕ → Type 0) → List S → Refusal → Type 0
 IsReceivingRefusal window ssrc sdp ways told files r = IsFirstWordRefusal window ssrc r

@@ -26,6 +26,7 @@ use Rattle.recording_reader.specs.declared.fault.FileOpeningFault.TheVariants.{N
 use Rattle.recording_reader.specs.declared.fault.FileOpeningFault.TheVariants.{Reading}
 use Rattle.recording_reader.specs.declared.fault.ReadingFault.{ReadingFault}
 use Rattle.recording_reader.specs.declared.fault.ReadingFault.TheVariants.{Capture, Recording}
+use Rattle.recording_reader.proofs.Files.{front_first, front_packets}
 use Rattle.run_outcome.specs.Fault.{Blames, counts}
 use Rattle.run_outcome.specs.Refusing.{OfRefusal}
 use Rattle.run_outcome.specs.declared.fault.Fault.{Fault}
@@ -164,10 +165,11 @@ front_strand flows (Capture f) octets (kind, front) =
     strand_by flows octets [] (Some (Capture f))
     (ap (λ (b : Bool). records_by_kind b flows octets) kind ∙ ap records_behind front)
     (fault_is (Capture f) octets (kind, inl front))
-front_strand flows (Recording f) octets (kind, none, fault) =
+front_strand flows (Recording f) octets (kind, wrong) =
     strand_by flows octets [] (Some (Recording f))
-    (ap (λ (b : Bool). records_by_kind b flows octets) kind ∙ no_packets flows octets none)
-    (fault_is (Recording f) octets (kind, fault))
+    (ap (λ (b : Bool). records_by_kind b flows octets) kind
+    ∙ no_packets flows octets (front_packets octets f wrong))
+    (fault_is (Recording f) octets (kind, front_first octets f wrong))
 
 -- ---- as a fault that ends a run
 

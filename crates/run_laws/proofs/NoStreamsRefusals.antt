@@ -64,7 +64,7 @@ begin_not Said (Some text) files t r is wrong = opening_not text t r is wrong
 
 by_text : (w : Way) (octets text : List ℕ) → HasFileText w octets text
     → is_recording octets ≡ true → IsSome (flows_in w)
-by_text w octets text (inl (kind, flows, none)) recording = flows
+by_text w octets text (inl (kind, flows, none, front)) recording = flows
 by_text w octets text (inr (rest, kind, front)) recording =
     absurd (not_both (is_recording octets) recording kind)
 

@@ -170,7 +170,7 @@ stops_not w told octets r there is wrong =
 -- the text of a file is the one that it is said to have
 pub text_is : (w : Way) (octets text : List ℕ) → HasFileText w octets text
     → text_of_file octets ≡ text
-text_is w octets text (inl (kind, flows, none)) =
+text_is w octets text (inl (kind, flows, none, front)) =
     ap (λ (b : Bool). cond b [] (text_before (front_at octets))) kind ∙ sym none
 text_is w octets text (inr (rest, kind, front)) =
     ap (λ (b : Bool). cond b [] (text_before (front_at octets))) kind ∙ ap text_before front

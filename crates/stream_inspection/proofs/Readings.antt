@@ -13,7 +13,8 @@ use Rattle.media_file.specs.Faults.{file_fault_origin}
 use Rattle.media_file.specs.Records.{Entry, records_text}
 use Rattle.pcap_file.specs.Fields.{recording_fault_origin}
 use Rattle.recording_reader.specs.FileReader.{FileReader, HasGivenFile, HasGivenRecords, IsKnownBy}
-use Rattle.recording_reader.specs.Files.{AreFirst, HaveFileRecords, IfFile, IsFileFault}
+use Rattle.recording_reader.specs.Files.{AreFirst, HasFrontBy, HaveFileRecords, IfFile}
+use Rattle.recording_reader.specs.Files.{IsFileFault}
 use Rattle.recording_reader.specs.Files.{records_of_file, text_of_file}
 use Rattle.recording_reader.specs.Kinds.{is_recording}
 use Rattle.recording_reader.specs.declared.fault.ReadingFault.{ReadingFault}
@@ -177,6 +178,7 @@ module _ {S : Type 0} (gave : S → List ℕ) (ended : S → Type 0) (r : FileRe
         is,
         subst (λ (f : Option Flows). IsSome f) by (flows kind),
         no_text octets r.text is (given octets read).text,
+        subst (λ (b : Bool). HasFrontBy b octets) kind (given octets read).front,
       )
 
   file_noted : {A : Type 0} (text : List ℕ) (end : Option ReadingFault)
