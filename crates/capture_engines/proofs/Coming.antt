@@ -1,10 +1,9 @@
 -- Which datagrams come out of a link in memory.
-use Rattle.std.proofs.Common.{◌≡◌, ℕ, zero, suc, ◌+◌, ◌<◌, ◌≤◌, List, [], ◌∷◌, ◌++◌, length, map}
-use Rattle.std.proofs.Common.{take, drop, set, get_or, append-nil, refl, sym, ap, ◌∙◌, subst, arith}
+use Rattle.std.proofs.Common.{◌≡◌, ℕ, zero, suc, ◌+◌, ◌<◌, ◌≤◌, List, [], ◌∷◌, ◌++◌, length}
+use Rattle.std.proofs.Common.{take, drop, set, get_or, append-nil, refl, sym, ap, ◌∙◌, arith}
 use Rattle.std.specs.Prelude.{Option, None, Some, option_to_list}
 use Rattle.std.specs.List.{All, AllByRecursion}
-use Rattle.std.proofs.lemmas.List.{drop_all, length-append, map-append}
-use Rattle.std.proofs.lemmas.List.Elements.{All-append, All-from_recursion, All-nil}
+use Rattle.std.proofs.lemmas.List.{drop_all, map-append}
 use Rattle.std.proofs.lemmas.List.Elements.{recursion_from_All}
 use Rattle.st_format.specs.declared.path.Path.{Path}
 use Rattle.st_format.specs.declared.path.Path.TheVariants.{A}
@@ -83,33 +82,7 @@ came_stays taken new more places after all same is =
     ∙ places_longer taken more places
     (recursion_from_All (λ (place : ℕ). place < length taken) places all)
 
--- and is there
-pub there_stays : (taken new more : List (List ℕ)) (places after : List ℕ)
-    → All (λ (place : ℕ). place < length taken) places → after ≡ places → new ≡ taken ++ more
-    → All (λ (place : ℕ). place < length new) after
-there_stays taken new more places after all same is =
-    subst (λ (l : List ℕ). All (λ (place : ℕ). place < length new) l) (sym same)
-    (λ k d lt. let here = all k d lt in
-    omega (arith, here, ap length is, length-append taken more))
-
--- none came yet
-pub there_none : (places : List ℕ) (taken : List (List ℕ)) → places ≡ []
-    → All (λ (place : ℕ). place < length taken) places
-there_none places taken none =
-    subst (λ (l : List ℕ). All (λ (place : ℕ). place < length taken) l) (sym none)
-    (All-nil (λ (place : ℕ). place < length taken))
-
 -- one more came
-pub there_more : (taken : List (List ℕ)) (places after : List ℕ) (due : Option ℕ) (place : ℕ)
-    → All (λ (place : ℕ). place < length taken) places → after ≡ places ++ option_to_list due
-    → due ≡ Some place → place < length taken
-    → All (λ (place : ℕ). place < length taken) after
-there_more taken places after due place all is at lt =
-    subst (λ (l : List ℕ). All (λ (place : ℕ). place < length taken) l)
-    (sym (is ∙ ap (λ (o : Option ℕ). places ++ option_to_list o) at))
-    (All-append (λ (place : ℕ). place < length taken) places (place ∷ []) all
-    (All-from_recursion (λ (place : ℕ). place < length taken) (place ∷ []) (lt, tt)))
-
 pub came_more : (taken : List (List ℕ)) (places after : List ℕ) (due : Option ℕ) (place : ℕ)
     (octets : List ℕ) → after ≡ places ++ option_to_list due → due ≡ Some place
     → get_or taken place [] ≡ octets

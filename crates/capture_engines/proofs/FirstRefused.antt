@@ -111,7 +111,8 @@ module _ {S : Type 0} (window text : List ℕ) (w : Way) (Unopened : Type 0) (ga
       subst (λ (x : Fault). OfRefusal x (IsTurnRefusal window w Unopened told)) (sym is)
       (of_refusal_map (reading_fault g)
       (λ x both. inr (inr (text_of_opens opens, both.0, both.1)))
-      (of_both (StopsFile w told) (IsBehindFew w told) (reading_fault g) (fault_stops gave ended r w g by kind given known)
+      (of_both (StopsFile w told) (IsBehindFew w told) (reading_fault g)
+      (fault_stops gave ended r w g by kind given known)
       (few_at gave ended r w g by
       (few_failed r.standing (length r.records) g failed within) known)))
   opened_turn f (inl (opens, within, inr (reads, is, count))) =

@@ -1,6 +1,6 @@
 -- Lines that are printed one after the other.
 use Rattle.std.proofs.Common.{◌≡◌, ℕ, ◌+◌, ◌<◌, List, [], ◌∷◌, ◌++◌, length, get_or, count_by}
-use Rattle.std.proofs.Common.{Option, ap, subst, sym, ◌∙◌, ◌≢◌, zero, suc, Bool, Result, arith, map}
+use Rattle.std.proofs.Common.{ap, subst, sym, ◌∙◌, ◌≢◌, zero, suc, Bool, Result, arith, map}
 use Rattle.std.proofs.Common.{append-nil, refl, slice_index}
 use Rattle.std.specs.List.{flat_map}
 use Rattle.path_receiver.specs.Frames.{State}

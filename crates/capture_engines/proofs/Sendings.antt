@@ -27,7 +27,7 @@ use Rattle.media_file.specs.declared.front.Version.TheVariants.{Two}
 use Rattle.media_file.specs.declared.paths.Paths.{Paths}
 use Rattle.packet_plan.specs.Plan.{IsSize, RasterPlan}
 use Rattle.packet_plan.specs.Sending.{PutsPart, PutsPicture}
-use Rattle.packet_plan.specs.Sender.{IsNext, SendsFrom, Sender, stamp_of}
+use Rattle.packet_plan.specs.Sender.{SendsFrom, Sender, stamp_of}
 use Rattle.packet_plan.specs.Sent.{AreSent, IsSentPicture}
 use Rattle.packet_plan.specs.declared.run.PacketRun.{PacketRun}
 use Rattle.packet_plan.specs.declared.stamp.Stamp.{Stamp}
@@ -469,9 +469,6 @@ pub if_ok_both : {V E : Type 0} (r : Result V E) (P : Type 0) (Q R : V → Type 
     → ((v : V) → P → Q v → R v) → OnOk r P → IfOk r Q → IfOk r R
 if_ok_both (Ok v) P Q R then p q = then v p q
 if_ok_both (Err e) P Q R then p q = tt
-
-pub of_ok : {V E : Type 0} (r : Result V E) (v : V) (P : Type 0) → r ≡ Ok v → OnOk r P → P
-of_ok {V} {E} r v P is on = subst (λ (x : Result V E). OnOk x P) is on
 
 pub on_any : {V E : Type 0} (r : Result V E) (P : Type 0) → P → OnOk r P
 on_any (Ok v) P p = p

@@ -15,11 +15,6 @@ abbrev pub FirstIs : {S : Type 0} → (S → Type 0) → List S → Type 0
 FirstIs Is [] = ⊥
 FirstIs Is (s ∷ ss) = Is s
 
--- one of a list is so
-abbrev pub OneIs : {S : Type 0} → (S → Type 0) → List S → Type 0
-OneIs Is [] = ⊥
-OneIs Is (s ∷ ss) = Is s ⊎ OneIs Is ss
-
 -- one of a list is so, and all before it are this
 abbrev pub OneIsBehind : {S : Type 0} → (S → Type 0) → (S → Type 0) → List S → Type 0
 OneIsBehind Before Is [] = ⊥

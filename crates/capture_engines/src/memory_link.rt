@@ -1,5 +1,5 @@
 //! A link over vectors that never grow.
-ghost use Rattle.std.specs.Prelude.{◌≡◌, ◌+◌, ◌-◌, ◌^◌, ◌<◌, ◌≤◌, [], length, min, None, Some, Err};
+ghost use Rattle.std.specs.Prelude.{◌≡◌, ◌-◌, ◌<◌, [], length, None, Some, Err};
 ghost use Rattle.std.specs.Prelude.{IsErr};
 ghost use Rattle.std.specs.List.{All};
 ghost use Rattle.st_format.specs.Device.{CountsOne};

@@ -1,19 +1,16 @@
 //! The engine of `receive`.
-ghost use Rattle.std.specs.Prelude.{◌≡◌, ◌≢◌, ◌≤◌, ◌<◌, ◌+◌, ◌∷◌, ◌++◌, ℕ, List, []};
-ghost use Rattle.std.specs.Prelude.{◌⊎◌, ⊤, IfErr, IfOk, OnErr, OnOk};
+ghost use Rattle.std.specs.Prelude.{◌≡◌, ◌≢◌, ◌≤◌, ◌<◌, ◌+◌, ◌∷◌, ℕ, List, []};
+ghost use Rattle.std.specs.Prelude.{◌⊎◌, ⊤, IfErr, IfOk, OnOk};
 ghost use Rattle.std.specs.Prelude.{MatchOption, Option, None, Some, drop, length, sum_by, take};
 ghost use Rattle.std.specs.List.{zip};
 ghost use Rattle.std.specs.Option.{option_copied, option_map};
 ghost use Rattle.run_outcome.specs.Moments.{WasRead, pair};
-ghost use Rattle.media_file.specs.StateFile.{state_text};
-ghost use Rattle.capture_engines.specs.Counted.{CountsReceived};
 ghost use Rattle.capture_engines.specs.Files.{octets_of, way_at};
 ghost use Rattle.capture_engines.specs.Rescued.{TakesPart, TakesUpTo};
 ghost use Rattle.capture_engines.specs.Stopping.{IsReadingStop, StopsOpened};
 ghost use Rattle.recording_reader.specs.FileReader.{IsSameFile};
 ghost use Rattle.recording_reader.specs.declared.way.Standing.TheVariants.{Ended, Reads};
 ghost use Rattle.run_outcome.specs.Fault.{Accounts, IfRefused, counts, failures_in};
-ghost use Rattle.capture_engines.specs.Printed.{if_wanted, received_text, tally_text};
 ghost use Rattle.capture_engines.specs.Received.{FileOpens, IsBehindWindow, IsFirstFilesRefusal};
 ghost use Rattle.capture_engines.specs.Received.{IsFirstWordRefusal, IsFrontRefusal};
 ghost use Rattle.capture_engines.specs.Received.{IsOpeningRefusal, IsReceiveRefusal, IsTurnRefusal};
@@ -23,12 +20,11 @@ ghost use Rattle.run_outcome.specs.Refusing.{OfRefusal};
 ghost use Rattle.capture_engines.specs.Sent.{FirstIs};
 ghost use Rattle.capture_engines.specs.Taking.{HoldsBy, IsSaid, IsShortText, Receives};
 ghost use Rattle.capture_engines.specs.Taking.{Stands, TakesFile, TakesFiles, TakesRecords};
-ghost use Rattle.receiver_file.specs.Saved.{IsWritable, kept_of};
 ghost use Rattle.run_outcome.specs.Sources.{IsSourceText};
 ghost use Rattle.run_outcome.specs.TextRefusals.{GivesAbove};
 ghost use Rattle.run_outcome.specs.Timestamps.{AreTimestamps};
 ghost use Rattle.run_outcome.specs.declared.refusal.Refusal.TheVariants.{ReceiveSdp};
-ghost use Rattle.st_format.specs.History.{GrewFrom, IsRead};
+ghost use Rattle.st_format.specs.History.{IsRead};
 
 use crate::intake::Intake;
 use crate::rescuing::receive_files;

@@ -81,7 +81,8 @@ module _ {S : Type 0} (gave : S → List ℕ) (ended : S → Type 0) (window sou
     module _ (ways : List (Result Flows Refusal)) where
       abbrev FilesRun : Option (List ℕ) → List (S × S) → Type 0
       FilesRun sdp files =
-          ReceivesFiles window source sdp ways (WasRead gave ended) files wanted shown printed old new
+          ReceivesFiles window source sdp ways (WasRead gave ended) files wanted shown printed old
+          new
 
       file_opened : (s : S × S) (ss : List (S × S)) (ts : List ℕ) (r : Refusal)
           → FilesRun None (s ∷ ss) → AreTimestamps window ts

@@ -1,10 +1,10 @@
-use Rattle.std.proofs.Common.{◌≡◌, ℕ, List, ◌∷◌, ◌++◌, []}
+use Rattle.std.proofs.Common.{◌≡◌, ◌∷◌, ◌++◌, []}
 use Rattle.std.proofs.lemmas.Result.{err_from_is_err_and}
 use Rattle.run_outcome.specs.Line.{line_text}
 use Rattle.run_outcome.specs.Text.{GivesText}
 use Rattle.run_outcome.specs.declared.line.Line.TheVariants.{Records}
 use Rattle.run_outcome.proofs.Printed.{on_ok}
-use Rattle.capture_engines.specs.Migrating.{Passed, Migrates, PrintsMigrated, passed}
+use Rattle.capture_engines.specs.Migrating.{Passed, PrintsMigrated, passed}
 use Rattle.capture_engines.proofs.Sendings.{on_any}
 use Rattle.capture_engines.proofs.Leaving.{moved_left, printed_left, untouched}
 use Rattle.capture_engines.proofs.migrating.migrate.Goals as goal

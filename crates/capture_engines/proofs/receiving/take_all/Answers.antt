@@ -40,7 +40,8 @@ loop-place-preserved g c =
       taken = more_ended c.args.ways.now (WasRead g.S.ByteSource.gave g.S.ByteSource.ended)
           c.args.files.now l.files c.take_at.new.files l.place
           (Stands c.args.opening.now c.args.begun.now) (Stands c.args.opening.now l.begun)
-          (Stands c.args.opening.now c.take_at.new.begun) l.invariant.taken at.front l.invariant.behind at.taken;
+          (Stands c.args.opening.now c.take_at.new.begun) l.invariant.taken at.front
+          l.invariant.behind at.taken;
     }
 
 pub returns-in_err-take_at-clause-refusal : goal.returns-in_err-take_at-clause-refusal
@@ -75,4 +76,5 @@ returns-in_err-take_at-clause-sound g c =
     rw (p.1, p.2) (taken_up_to c.args.opening.now c.args.ways.now g.S.ByteSource.gave
     g.S.ByteSource.ended c.in_err-take_at.field-0.0
     c.args.files.now l.files c.take_at.new.files l.place c.args.begun.now l.begun
-    c.take_at.new.begun l.invariant.taken at.front l.invariant.behind c.in_err-take_at.ensures.sound)
+    c.take_at.new.begun l.invariant.taken at.front l.invariant.behind
+    c.in_err-take_at.ensures.sound)

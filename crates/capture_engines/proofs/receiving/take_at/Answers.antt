@@ -15,7 +15,8 @@ returns-clause-taken g c =
     let told = WasRead g.S.ByteSource.gave g.S.ByteSource.ended in
     on_ok c.take_one.result _ _
     (λ taken. first_at
-    (λ s. TakesFile c.args.opening.now (way_at c.args.ways.now c.args.place) (told s) c.args.begun.now c.take_one.new.begun)
+    (λ s. TakesFile c.args.opening.now (way_at c.args.ways.now c.args.place) (told s)
+    c.args.begun.now c.take_one.new.begun)
     c.args.files.now c.args.place c.index-files-place.result c.take_one.new.file
     c.requires.place taken)
     (rw c.at-way.ensures at c.take_one.ensures.taken)

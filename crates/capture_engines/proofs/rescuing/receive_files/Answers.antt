@@ -47,8 +47,8 @@ returns-in-Whole-clause-counted g c =
     let captures = zip c.args.files.now c.rescue_files.new.files in
     counted_if c.put_out.result c.put_out.new.reception _
     (CountsReceived window source sdp c.args.ways.now read captures)
-    (counts c.in_ok-opening.opening window source sdp c.args.ways.now read captures c.in_ok-begun.begun
-    c.in-Whole.intake _ c.in_ok-opening.ensures.window c.in_ok-opening.ensures.source
+    (counts c.in_ok-opening.opening window source sdp c.args.ways.now read captures
+    c.in_ok-begun.begun c.in-Whole.intake _ c.in_ok-opening.ensures.window c.in_ok-opening.ensures.source
     c.in_ok-begun.ensures.begun (rw c.in-Whole.is at c.in_ok-intake.ensures.taken) refl)
     c.put_out.ensures.counted
 

@@ -1,10 +1,9 @@
-use Rattle.std.proofs.Common.{rules, ap, arith, drop, inr, sym, subst, ◌∙◌, length-drop}
+use Rattle.std.proofs.Common.{rules, ap, arith, drop, sym, subst, ◌∙◌, length-drop}
 use Rattle.packet_plan.specs.Plan.{IsSize}
 use Rattle.st_format.specs.declared.format.Format.{Format}
 use Rattle.run_outcome.specs.Moments.{WasRead}
 use Rattle.run_outcome.proofs.SetSums.{counted_behind}
 use Rattle.capture_engines.proofs.Sendings.{first_and_rest_sent, first_sent, if_ok_both}
-use Rattle.capture_engines.proofs.Sendings.{open_failed}
 use Rattle.capture_engines.proofs.sending.send_first_and_rest.Goals as goal
 
 pub returns-clause-sent : goal.returns-clause-sent

@@ -2,7 +2,7 @@ use Rattle.std.proofs.lemmas.Result.{IfOk-weaker}
 use Rattle.run_outcome.specs.Moments.{WasRead}
 use Rattle.run_outcome.proofs.Refusals.{if_err_map, of_refusal_map}
 use Rattle.capture_engines.proofs.SentRefusals.{rest_refused}
-use Rattle.capture_engines.proofs.Sendings.{no_pictures, pictures_sent}
+use Rattle.capture_engines.proofs.Sendings.{pictures_sent}
 use Rattle.capture_engines.proofs.sending.send_pictures.Goals as goal
 
 pub returns-clause-refusal : goal.returns-clause-refusal

@@ -33,8 +33,8 @@ returns-clause-sent g c = record {
       c.args.self.now.next) c.format-format.ensures)
       (writes_picture g.K.ByteSink.held g.K.ByteSink.took g.K.ByteSink.failures
       g.K.ByteSink.names
-      (g.R.Raster.values c.args.picture.now) c.stamp-stamp.result c.args.self.now.plan c.args.self.now.writer
-      c.send_frame.new.sink c.in-Ok.ensures.puts);
+      (g.R.Raster.values c.args.picture.now) c.stamp-stamp.result c.args.self.now.plan
+      c.args.self.now.writer c.send_frame.new.sink c.in-Ok.ensures.puts);
   next = search rules;
   count = search rules;
   plan = refl;
