@@ -35,4 +35,6 @@ pub mod OnePlan
 pub mod OneSent
 pub mod ProcessedAgain
 pub mod NoStreamsRefusals
+pub mod OneTextRefusal
+pub mod OneFileRefusal
 pub mod OneReceiveRefusal

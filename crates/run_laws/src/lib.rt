@@ -20,7 +20,7 @@ pub use sent::{
     looped_picture, migrated_again, migrated_and_received, processed_again, processed_and_received,
     processed_once, sent_and_received, sent_file, written_again,
 };
-pub use told_once::{one_receive_refusal, one_send_refusal};
+pub use told_once::{one_receive_refusal, one_receiving_refusal, one_send_refusal};
 pub use unrefused::{
     convert_unrefused, export_unrefused, import_unrefused, inspect_streams_unrefused,
     inspect_unrefused, loop_unrefused, merge_unrefused, migrate_unrefused, picture_unrefused,

@@ -1,11 +1,12 @@
 //! Laws on which refusal is told, over the definitions alone: by what a run read it is one. Each is
 //! the contract of a function that does nothing.
-ghost use Rattle.std.specs.Prelude.{◌≡◌, ◌⊎◌, ℕ, List, Option};
+ghost use Rattle.std.specs.Prelude.{◌≡◌, ◌⊎◌, ℕ, List, Option, Result};
+ghost use Rattle.flow.specs.declared.flows.Flows.{Flows};
 ghost use Rattle.st_format.specs.Device.{AreOctets};
 ghost use Rattle.st_format.specs.Member.{IsMember};
 ghost use Rattle.run_outcome.specs.Moments.{WasRead};
 ghost use Rattle.run_outcome.specs.declared.refusal.Refusal.{Refusal};
-ghost use Rattle.capture_engines.specs.Received.{IsReceiveRefusal};
+ghost use Rattle.capture_engines.specs.Received.{IsReceiveRefusal, IsReceivingRefusal};
 ghost use Rattle.capture_engines.specs.Sent.{IsSendRefusal};
 ghost use Rattle.run_laws.specs.Received.{read_of};
 ghost use Rattle.run_laws.specs.Told.{AreOfOneFault};
@@ -31,4 +32,14 @@ pub fn one_receive_refusal<S: ByteSource>()
         → IsReceiveRefusal window source sdp (WasRead S.gave S.ended) captures r
         → IsReceiveRefusal window source sdp (WasRead S.gave S.ended) captures other
         → (r ≡ other) ⊎ AreOfOneFault r other }
+{}
+
+/// So of files that are received by an SDP text that is given itself, or by that of the first,
+/// each taken in its way: captures, and recordings of other tools.
+pub fn one_receiving_refusal<S: ByteSource>()
+    ensures { (window source : List ℕ) (sdp : Option (List ℕ))
+        (ways : List (Result Flows Refusal)) (files : List (S × S)) (r other : Refusal)
+        → IsReceivingRefusal window source sdp ways (WasRead S.gave S.ended) files r
+        → IsReceivingRefusal window source sdp ways (WasRead S.gave S.ended) files other
+        → (r ≡ other) ⊎ (IsOfSdp r × IsOfSdp other) }
 {}
