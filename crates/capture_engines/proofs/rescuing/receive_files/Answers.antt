@@ -48,8 +48,9 @@ returns-in-Whole-clause-counted g c =
     counted_if c.put_out.result c.put_out.new.reception _
     (CountsReceived window source sdp c.args.ways.now read captures)
     (counts c.in_ok-opening.opening window source sdp c.args.ways.now read captures
-    c.in_ok-begun.begun c.in-Whole.intake _ c.in_ok-opening.ensures.window c.in_ok-opening.ensures.source
-    c.in_ok-begun.ensures.begun (rw c.in-Whole.is at c.in_ok-intake.ensures.taken) refl)
+    c.in_ok-begun.begun c.in-Whole.intake _ c.in_ok-opening.ensures.window
+    c.in_ok-opening.ensures.source c.in_ok-begun.ensures.begun
+    (rw c.in-Whole.is at c.in_ok-intake.ensures.taken) refl)
     c.put_out.ensures.counted
 
 pub returns-in-Part-clause-rescued : goal.returns-in-Part-clause-rescued
