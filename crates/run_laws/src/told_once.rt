@@ -41,5 +41,5 @@ pub fn one_receiving_refusal<S: ByteSource>()
         (ways : List (Result Flows Refusal)) (files : List (S × S)) (r other : Refusal)
         → IsReceivingRefusal window source sdp ways (WasRead S.gave S.ended) files r
         → IsReceivingRefusal window source sdp ways (WasRead S.gave S.ended) files other
-        → (r ≡ other) ⊎ (IsOfSdp r × IsOfSdp other) }
+        → (r ≡ other) ⊎ AreOfOneFault r other }
 {}
