@@ -66,32 +66,64 @@ fn same_runs(runs: &[Range<u32>], wanted: &[Range<u32>]) -> bool {
     same
 }
 
-/// Whether a frame has these missing runs and contested samples in a row.
+/// Whether a frame has these missing runs in a row.
+fn misses(alloc: Global, frame: &Frame, row: u32, runs: &[Range<u32>]) -> bool {
+    match missing(alloc, frame, row) {
+        Ok(told) => same_runs(told.as_slice(), runs),
+        Err(_) => false,
+    }
+}
+
+/// Whether it has these contested samples there.
+fn disputes(alloc: Global, frame: &Frame, row: u32, samples: &[(u32, u8)]) -> bool {
+    match contested(alloc, frame, row) {
+        Ok(told) => told.as_slice() == samples,
+        Err(_) => false,
+    }
+}
+
+/// Whether it has both.
 fn tells(
     alloc: Global,
     frame: &Frame,
     row: u32,
     runs: &[Range<u32>],
     samples: &[(u32, u8)],
-) -> Result<bool, AllocError> {
-    let told = missing(alloc, frame, row)?;
-    let disputed = contested(alloc, frame, row)?;
-    Ok(same_runs(told.as_slice(), runs) && disputed.as_slice() == samples)
+) -> bool {
+    misses(alloc, frame, row, runs) && disputes(alloc, frame, row, samples)
+}
+
+/// Whether it has those of each row.
+fn tells_each(alloc: Global, frame: &Frame) -> bool {
+    tells(alloc, frame, 0, MISSING[0], &CONTESTED)
+        && tells(alloc, frame, 1, MISSING[1], &[])
+        && tells(alloc, frame, 2, MISSING[2], &[])
+        && tells(alloc, frame, 3, MISSING[3], &[])
+}
+
+/// Whether each frame of a receiver has.
+fn frames_tell(alloc: Global, receiver: &Receiver) -> bool {
+    let mut tell = true;
+    for (_, frame) in receiver.frames() {
+        tell &= tells_each(alloc, frame);
+    }
+    tell
+}
+
+/// Whether a receiver takes those datagrams.
+fn takes_all(receiver: &mut Receiver) -> bool {
+    let mut are_taken = true;
+    for datagram in CAME {
+        are_taken &= receiver.take(Path::A, datagram).is_ok();
+    }
+    are_taken & receiver.take(Path::B, OTHERWISE).is_ok()
 }
 
 #[test]
 fn rows(rt: HostRuntime) -> Result<(), Fail> {
     let mut receiver = Opening::new(wide()?, 96).window(&[900]).open(rt.alloc())?;
-    for datagram in CAME {
-        met(&rt, receiver.take(Path::A, datagram).is_ok());
-    }
-    met(&rt, receiver.take(Path::B, OTHERWISE).is_ok());
-    for (_, frame) in receiver.frames() {
-        met(&rt, tells(rt.alloc(), frame, 0, MISSING[0], &CONTESTED)?);
-        met(&rt, tells(rt.alloc(), frame, 1, MISSING[1], &[])?);
-        met(&rt, tells(rt.alloc(), frame, 2, MISSING[2], &[])?);
-        met(&rt, tells(rt.alloc(), frame, 3, MISSING[3], &[])?);
-    }
+    met(&rt, takes_all(&mut receiver));
+    met(&rt, frames_tell(rt.alloc(), &receiver));
     Ok(())
 }
 
@@ -100,7 +132,7 @@ fn rows(rt: HostRuntime) -> Result<(), Fail> {
 fn wide_groups(rt: HostRuntime) -> Result<(), Fail> {
     let format = Format::new(Sampling::Rgb, Depth::D10, 4, 2, 60, 1)?;
     let frame = Frame::new(rt.alloc(), format)?;
-    met(&rt, tells(rt.alloc(), &frame, 1, &[0..4], &[])?);
+    met(&rt, tells(rt.alloc(), &frame, 1, &[0..4], &[]));
     Ok(())
 }
 
@@ -113,31 +145,56 @@ fn present(alloc: Global, receiver: &Receiver) -> Result<Vec<(u32, u64)>, AllocE
     Ok(frames)
 }
 
+/// Whether a receiver's frames are these.
+fn has_frames(alloc: Global, receiver: &Receiver) -> bool {
+    match present(alloc, receiver) {
+        Ok(told) => told.as_slice() == [(2400, 0), (900, 8)].as_slice(),
+        Err(_) => false,
+    }
+}
+
 #[test]
 fn frames_in_window_order(rt: HostRuntime) -> Result<(), Fail> {
     let mut receiver = Opening::new(small()?, 96)
         .window(&[2400, 900])
         .open(rt.alloc())?;
     met(&rt, receiver.take(Path::A, UPPER).is_ok());
-    let told = present(rt.alloc(), &receiver)?;
-    met(&rt, told.as_slice() == [(2400, 0), (900, 8)].as_slice());
+    met(&rt, has_frames(rt.alloc(), &receiver));
     Ok(())
+}
+
+/// What a receiver keeps of a datagram of another version by B and of an empty one by A.
+const REFUSED: [(Path, Refusal); 2] = [
+    (Path::B, Refusal::Header(RtpFault::BadVersion)),
+    (Path::A, Refusal::Header(RtpFault::ShortHeader)),
+];
+
+/// Whether a receiver refuses both.
+fn refuses_both(receiver: &mut Receiver) -> bool {
+    receiver.take(Path::B, OTHER_VERSION).is_err() && receiver.take(Path::A, b"").is_err()
+}
+
+fn refusals(alloc: Global, receiver: &Receiver) -> Result<Vec<(Path, Refusal)>, AllocError> {
+    let mut told = Vec::new(alloc);
+    for refusal in receiver.refusals() {
+        told.push(refusal)?;
+    }
+    Ok(told)
+}
+
+/// Whether it keeps these refusals.
+fn keeps_both(alloc: Global, receiver: &Receiver) -> bool {
+    match refusals(alloc, receiver) {
+        Ok(told) => told.as_slice() == REFUSED.as_slice(),
+        Err(_) => false,
+    }
 }
 
 #[test]
 fn refusals_from_the_oldest(rt: HostRuntime) -> Result<(), Fail> {
     let mut receiver = Opening::new(small()?, 96).window(&[900]).open(rt.alloc())?;
-    met(&rt, receiver.take(Path::B, OTHER_VERSION).is_err());
-    met(&rt, receiver.take(Path::A, b"").is_err());
-    let mut told = Vec::new(rt.alloc());
-    for refusal in receiver.refusals() {
-        told.push(refusal)?;
-    }
-    let wanted = [
-        (Path::B, Refusal::Header(RtpFault::BadVersion)),
-        (Path::A, Refusal::Header(RtpFault::ShortHeader)),
-    ];
-    met(&rt, told.as_slice() == wanted.as_slice());
+    met(&rt, refuses_both(&mut receiver));
+    met(&rt, keeps_both(rt.alloc(), &receiver));
     Ok(())
 }
 
@@ -149,6 +206,14 @@ fn fault(alloc: Global, opening: Opening<'_>) -> Option<OpenFault> {
     }
 }
 
+/// Whether a receiver is of payload type 127, source 7, a window of two and a format.
+fn is_as_said(receiver: &Receiver, format: &Format) -> bool {
+    receiver.payload_type() == 127
+        && receiver.ssrc() == Some(7)
+        && receiver.window() == [900, 2400].as_slice()
+        && receiver.format().same(format)
+}
+
 #[test]
 fn openings(rt: HostRuntime) -> Result<(), Fail> {
     let format = small()?;
@@ -156,16 +221,17 @@ fn openings(rt: HostRuntime) -> Result<(), Fail> {
         .source(7)
         .window(&[900, 2400])
         .open(rt.alloc())?;
-    met(&rt, receiver.payload_type() == 127);
-    met(&rt, receiver.ssrc() == Some(7));
-    met(&rt, receiver.window() == [900, 2400].as_slice());
-    met(&rt, receiver.format().same(&format));
-    let unsaid = Opening::new(format, 96);
-    met(&rt, fault(rt.alloc(), unsaid) == Some(OpenFault::BadWindow));
-    let doubled = Opening::new(format, 96).window(&[900, 900]);
-    met(
-        &rt,
-        fault(rt.alloc(), doubled) == Some(OpenFault::DoubleTimestamp),
-    );
+    met(&rt, is_as_said(&receiver, &format));
+    Ok(())
+}
+
+/// Without a window, and with a timestamp that stands twice.
+#[test]
+fn refused_openings(rt: HostRuntime) -> Result<(), Fail> {
+    let format = small()?;
+    let unsaid = fault(rt.alloc(), Opening::new(format, 96));
+    met(&rt, unsaid == Some(OpenFault::BadWindow));
+    let doubled = fault(rt.alloc(), Opening::new(format, 96).window(&[900, 900]));
+    met(&rt, doubled == Some(OpenFault::DoubleTimestamp));
     Ok(())
 }

@@ -3,15 +3,18 @@
 use crate::checks::met;
 use frame_assembly::Counts;
 use st_format::{Depth, Format, FormatFault, FormatTextFault, Path, Rate, Sampling, WordFault};
-use std::alloc::{AllocError, Global};
+use std::alloc::Global;
 use std::fmt::Display;
 use std::str::FromStr;
 use std::test::Fail;
 use test_kit::words::all_say;
 
 /// Whether `Display` writes a value as this text.
-fn is_written<T: Display>(alloc: Global, value: &T, text: &str) -> Result<bool, AllocError> {
-    Ok(value.to_string(alloc)?.as_str() == text)
+fn is_written<T: Display>(alloc: Global, value: &T, text: &str) -> bool {
+    match value.to_string(alloc) {
+        Ok(told) => told.as_str() == text,
+        Err(_) => false,
+    }
 }
 
 /// What `FromStr` reads of a text.
@@ -34,22 +37,32 @@ const DEPTHS: [(Depth, &str, u32); 4] = [
 
 const PATHS: [(Path, &str); 2] = [(Path::A, "A"), (Path::B, "B")];
 
+/// Whether a depth is written as a text, and read of it and of a number.
+fn is_depth(alloc: Global, depth: Depth, text: &str, bits: u32) -> bool {
+    is_written(alloc, &depth, text) && read(text) == Ok(depth) && Depth::try_from(bits) == Ok(depth)
+}
+
 #[test]
-fn each_word(rt: HostRuntime) -> Result<(), Fail> {
-    for (sampling, text) in &SAMPLINGS {
-        met(&rt, is_written(rt.alloc(), sampling, *text)?);
-        met(&rt, read(*text) == Ok(*sampling));
+fn each_sampling(rt: HostRuntime) {
+    for (sampling, text) in SAMPLINGS {
+        met(&rt, is_written(rt.alloc(), &sampling, text));
+        met(&rt, read(text) == Ok(sampling));
     }
-    for (depth, text, bits) in &DEPTHS {
-        met(&rt, is_written(rt.alloc(), depth, *text)?);
-        met(&rt, read(*text) == Ok(*depth));
-        met(&rt, Depth::try_from(*bits) == Ok(*depth));
+}
+
+#[test]
+fn each_depth(rt: HostRuntime) {
+    for (depth, text, bits) in DEPTHS {
+        met(&rt, is_depth(rt.alloc(), depth, text, bits));
     }
-    for (path, text) in &PATHS {
-        met(&rt, is_written(rt.alloc(), path, *text)?);
-        met(&rt, read(*text) == Ok(*path));
+}
+
+#[test]
+fn each_path(rt: HostRuntime) {
+    for (path, text) in PATHS {
+        met(&rt, is_written(rt.alloc(), &path, text));
+        met(&rt, read(text) == Ok(path));
     }
-    Ok(())
 }
 
 /// Rates as they are given, and their texts in lowest terms.
@@ -64,17 +77,19 @@ const RATES: [(u32, u32, &str); 8] = [
     (1_000_000, 999_999, "1000000/999999"),
 ];
 
-#[test]
-fn each_rate(rt: HostRuntime) -> Result<(), Fail> {
-    for (n, d, text) in &RATES {
-        let Ok(rate) = Rate::new(*n, *d) else {
-            met(&rt, false);
-            continue;
-        };
-        met(&rt, is_written(rt.alloc(), &rate, *text)?);
-        met(&rt, read(*text) == Ok(rate));
+/// Whether a rate is written as a text, and read of it.
+fn is_rate(alloc: Global, n: u32, d: u32, text: &str) -> bool {
+    match Rate::new(n, d) {
+        Ok(rate) => is_written(alloc, &rate, text) && read(text) == Ok(rate),
+        Err(_) => false,
     }
-    Ok(())
+}
+
+#[test]
+fn each_rate(rt: HostRuntime) {
+    for (n, d, text) in RATES {
+        met(&rt, is_rate(rt.alloc(), n, d, text));
+    }
 }
 
 /// A format as it is given, and its text.
@@ -93,16 +108,18 @@ const FORMATS: [Written; 4] = [
     ),
 ];
 
+/// Whether a format of a rate is written as a text, and read of it.
+fn is_format(alloc: Global, format: Format, rate: (u32, u32), text: &str) -> bool {
+    is_written(alloc, &format, text)
+        && read(text) == Ok(format)
+        && Rate::new(rate.0, rate.1) == Ok(format.rate())
+}
+
 #[test]
 fn each_format(rt: HostRuntime) -> Result<(), Fail> {
-    for ((sampling, depth, width, height, n, d), text) in &FORMATS {
-        let Ok(format) = Format::new(*sampling, *depth, *width, *height, *n, *d) else {
-            met(&rt, false);
-            continue;
-        };
-        met(&rt, is_written(rt.alloc(), &format, *text)?);
-        met(&rt, read(*text) == Ok(format));
-        met(&rt, Rate::new(*n, *d) == Ok(format.rate()));
+    for ((sampling, depth, width, height, n, d), text) in FORMATS {
+        let format = Format::new(sampling, depth, width, height, n, d)?;
+        met(&rt, is_format(rt.alloc(), format, (n, d), text));
     }
     Ok(())
 }
@@ -138,15 +155,12 @@ fn faults_of_texts(rt: HostRuntime) {
 }
 
 #[test]
-fn counts(rt: HostRuntime) -> Result<(), Fail> {
+fn counts(rt: HostRuntime) {
     let counts = Counts {
         present: 7,
         missing: 8,
         contested: 1,
     };
-    met(
-        &rt,
-        is_written(rt.alloc(), &counts, "present 7 missing 8 contested 1")?,
-    );
-    Ok(())
+    let text = "present 7 missing 8 contested 1";
+    met(&rt, is_written(rt.alloc(), &counts, text));
 }
