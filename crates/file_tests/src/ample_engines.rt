@@ -70,15 +70,29 @@ fn is_done(run: &Ran) -> bool {
     run.status == 0 && run.told().is_empty()
 }
 
-/// Whether the engines of scripts and SDP texts are done.
-fn texts_are_run(alloc: Global, format: Format, octets: usize) -> Result<bool, AllocError> {
+/// Whether `trace` is.
+fn is_traced(alloc: Global, format: Format) -> Result<bool, AllocError> {
     let script = trace_script(alloc, format)?;
-    let traced = run_on(alloc, alloc, script.as_bytes(), 4096, SOUND)?;
-    let schedule = schedule_script(alloc, format, octets)?;
-    let played = play_script_on(alloc, alloc, schedule.as_bytes(), 4096, SOUND)?;
+    Ok(is_done(&run_on(alloc, alloc, script.as_bytes(), 4096, SOUND)?))
+}
+
+/// Whether `rehearse` is.
+fn is_played(alloc: Global, format: Format, octets: usize) -> Result<bool, AllocError> {
+    let script = schedule_script(alloc, format, octets)?;
+    Ok(is_done(&play_script_on(alloc, alloc, script.as_bytes(), 4096, SOUND)?))
+}
+
+/// Whether `sdp` is.
+fn is_described(alloc: Global, format: Format) -> Result<bool, AllocError> {
     let text = sdp_text(alloc, format)?;
-    let described = describe_on(alloc, alloc, text.as_bytes(), 4096, SOUND)?;
-    Ok(is_done(&traced) && is_done(&played) && is_done(&described))
+    Ok(is_done(&describe_on(alloc, alloc, text.as_bytes(), 4096, SOUND)?))
+}
+
+/// Whether the engines of scripts and SDP texts are done.
+fn texts_are_run(alloc: Global, format: Format, octets: usize) -> bool {
+    is_traced(alloc, format) == Ok(true)
+        && is_played(alloc, format, octets) == Ok(true)
+        && is_described(alloc, format) == Ok(true)
 }
 
 /// Whether a run of an engine of files is done, and wrote something.
@@ -86,21 +100,66 @@ fn is_written(run: &FileRun) -> bool {
     run.status == 0 && run.told.held().is_empty() && !run.written.held().is_empty()
 }
 
-/// Whether a receiver's file is merged with itself, reported and processed.
-fn receiver_is_run(alloc: Global, file: &[u8]) -> Result<bool, AllocError> {
-    let merged = merge_on(alloc, alloc, file)?;
-    let reported = report_on(alloc, alloc, file, 4096, SOUND)?;
-    let processed = process_on(alloc, alloc, PROCESSING, file)?;
-    let is_same = is_written(&merged) && merged.written.held() == file;
-    Ok(is_same && is_done(&reported) && is_written(&processed))
+/// Whether a receiver's file is merged with itself.
+fn is_merged(alloc: Global, file: &[u8]) -> bool {
+    match merge_on(alloc, alloc, file) {
+        Ok(run) => is_written(&run) && run.written.held() == file,
+        Err(_) => false,
+    }
+}
+
+/// Whether it is reported.
+fn is_reported(alloc: Global, file: &[u8]) -> bool {
+    match report_on(alloc, alloc, file, 4096, SOUND) {
+        Ok(run) => is_done(&run),
+        Err(_) => false,
+    }
+}
+
+/// Whether it is processed.
+fn is_processed(alloc: Global, file: &[u8]) -> bool {
+    match process_on(alloc, alloc, PROCESSING, file) {
+        Ok(run) => is_written(&run),
+        Err(_) => false,
+    }
+}
+
+/// Whether it is merged with itself, reported and processed.
+fn receiver_is_run(alloc: Global, file: &[u8]) -> bool {
+    is_merged(alloc, file) && is_reported(alloc, file) && is_processed(alloc, file)
+}
+
+/// Whether a capture has records.
+fn has_records(alloc: Global, capture: &[u8]) -> Result<bool, Fail> {
+    let read = read_capture(alloc, &mut source(alloc, capture)?, 64)?;
+    Ok(!read.records.is_empty())
 }
 
 /// Whether a capture is received by an SDP text, and what was received is run on.
+fn is_received(alloc: Global, text: &[u8], capture: &[u8]) -> bool {
+    match receive_on(alloc, alloc, text, b"900", capture) {
+        Ok(run) => is_written(&run) && receiver_is_run(alloc, run.written.held()),
+        Err(_) => false,
+    }
+}
+
+/// Whether it has records, and is received so.
 fn capture_is_run(alloc: Global, text: &[u8], capture: &[u8]) -> Result<bool, Fail> {
-    let read = read_capture(alloc, &mut source(alloc, capture)?, 64)?;
-    let received = receive_on(alloc, alloc, text, b"900", capture)?;
-    let is_received = is_written(&received) && !read.records.is_empty();
-    Ok(is_received && receiver_is_run(alloc, received.written.held())?)
+    Ok(has_records(alloc, capture)? && is_received(alloc, text, capture))
+}
+
+/// Whether a capture is migrated with an SDP text.
+fn is_migrated(alloc: Global, text: &[u8]) -> bool {
+    match migrate_on(alloc, alloc, text, OLD) {
+        Ok(run) => is_written(&run),
+        Err(_) => false,
+    }
+}
+
+/// Whether a picture is sent, and the capture is run that it becomes.
+fn is_sent(alloc: Global, text: &[u8], picture: &[u8]) -> Result<bool, Fail> {
+    let sent = send_on(alloc, alloc, SENDING, picture)?;
+    Ok(is_written(&sent) && capture_is_run(alloc, text, sent.written.held())?)
 }
 
 /// A picture's file, of zeros.
@@ -113,10 +172,9 @@ fn picture_file(alloc: Global, format: Format) -> Result<Vec<u8>, Fail> {
 /// Whether the engines of files are done, each over what the one before it wrote.
 fn files_are_run(alloc: Global, format: Format, picture: &[u8]) -> Result<bool, Fail> {
     let text = sdp_text(alloc, format)?;
-    let sent = send_on(alloc, alloc, SENDING, picture)?;
-    let is_sent = is_written(&sent) && is_looped(alloc, picture)?;
-    let is_migrated = is_written(&migrate_on(alloc, alloc, text.as_bytes(), OLD)?);
-    Ok(is_sent && is_migrated && capture_is_run(alloc, text.as_bytes(), sent.written.held())?)
+    let is_looped = is_looped(alloc, picture) == Ok(true);
+    let is_migrated = is_migrated(alloc, text.as_bytes());
+    Ok(is_looped && is_migrated && is_sent(alloc, text.as_bytes(), picture)?)
 }
 
 /// Whether each engine has memory for a format.
@@ -124,7 +182,7 @@ fn has_memory(alloc: Global, format: Format) -> Result<bool, Fail> {
     let picture = picture_file(alloc, format)?;
     // Behind the name, the version and the format
     let octets = picture.len().saturating_sub(22);
-    Ok(texts_are_run(alloc, format, octets)? && files_are_run(alloc, format, &picture)?)
+    Ok(texts_are_run(alloc, format, octets) && files_are_run(alloc, format, &picture)?)
 }
 
 /// The same of a width, and heights of 1 to 3.

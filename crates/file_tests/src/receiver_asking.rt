@@ -103,17 +103,6 @@ impl ByteSource for Lending {
     }
 }
 
-/// By which of the readings a file is read.
-#[derive(Clone, Copy)]
-enum Reading {
-    /// Pgroup by pgroup, as it was before runs were taken.
-    Before,
-    /// As it is, of a source that lends nothing.
-    Now,
-    /// As it is, of one that lends what it holds, which is nothing from the refused octet on.
-    Lending,
-}
-
 /// What a reading came to, and what it asked.
 #[derive(Clone, Copy, PartialEq, Eq, Debug)]
 struct Outcome {
@@ -185,43 +174,67 @@ fn is_mixed(format: &Format, octets: &[u8], mask: u16) -> bool
     differing(format, octets, blanked) == 0
 }
 
-/// What reading octets comes to: its fault, and what was asked of the source.
-fn outcome_of(
-    alloc: Global,
-    octets: &[u8],
-    piece: usize,
-    refused: usize,
-    reading: Reading,
-) -> Result<Outcome, AllocError> {
-    let held = match reading {
-        Reading::Lending => &octets[..refused.min(octets.len())],
-        _ => octets,
-    };
-    let mut asked = Asked {
-        inner: MemorySource::new(Vec::from_slice(alloc, held)?, piece.max(1), 0),
+/// A source of octets that gives at most `piece` a call, and fails where a call reaches an octet.
+fn asked(alloc: Global, octets: &[u8], piece: usize, refused: usize) -> Result<Asked, AllocError> {
+    Ok(Asked {
+        inner: MemorySource::new(Vec::from_slice(alloc, octets)?, piece.max(1), 0),
         refused,
         at: 0,
         farthest: 0,
         calls: 0,
         failures: 0,
-    };
-    let fault = match reading {
-        Reading::Before => read_singly(&mut asked).err(),
-        Reading::Now => load_receiver(alloc, &mut asked).err(),
-        Reading::Lending => {
-            let mut lending = Lending { asked };
-            let fault = load_receiver(alloc, &mut lending).err();
-            asked = lending.asked;
-            fault
-        }
-    };
-    Ok(Outcome {
+    })
+}
+
+/// A reading's fault, and what it asked of the source.
+fn outcome(fault: Option<FileFault>, asked: &Asked) -> Outcome {
+    Outcome {
         fault,
         at: asked.at,
         farthest: asked.farthest,
         calls: asked.calls,
         failures: asked.failures,
-    })
+    }
+}
+
+/// What reading octets came to pgroup by pgroup, as it was before runs were taken.
+fn read_before(
+    alloc: Global,
+    octets: &[u8],
+    piece: usize,
+    refused: usize,
+) -> Result<Outcome, AllocError> {
+    let mut asked = asked(alloc, octets, piece, refused)?;
+    let fault = read_singly(&mut asked).err();
+    Ok(outcome(fault, &asked))
+}
+
+/// What it comes to now, of a source that lends nothing.
+fn read_now(
+    alloc: Global,
+    octets: &[u8],
+    piece: usize,
+    refused: usize,
+) -> Result<Outcome, AllocError> {
+    let mut asked = asked(alloc, octets, piece, refused)?;
+    let fault = load_receiver(alloc, &mut asked).err();
+    Ok(outcome(fault, &asked))
+}
+
+/// What it comes to now, of one that lends what it holds, which is nothing from the refused octet
+/// on.
+fn read_lent(
+    alloc: Global,
+    octets: &[u8],
+    piece: usize,
+    refused: usize,
+) -> Result<Outcome, AllocError> {
+    let held = &octets[..refused.min(octets.len())];
+    let mut lending = Lending {
+        asked: asked(alloc, held, piece, refused)?,
+    };
+    let fault = load_receiver(alloc, &mut lending).err();
+    Ok(outcome(fault, &lending.asked))
 }
 
 /// Whether octets are read as they were, where each call is refused that reaches an octet.
@@ -231,9 +244,9 @@ fn is_refused_alike(
     piece: usize,
     refused: usize,
 ) -> Result<bool, AllocError> {
-    let before = outcome_of(alloc, octets, piece, refused, Reading::Before)?;
-    let now = outcome_of(alloc, octets, piece, refused, Reading::Now)?;
-    let lending = outcome_of(alloc, octets, piece, refused, Reading::Lending)?;
+    let before = read_before(alloc, octets, piece, refused)?;
+    let now = read_now(alloc, octets, piece, refused)?;
+    let lending = read_lent(alloc, octets, piece, refused)?;
     Ok(
         now == before
             && lending.fault == before.fault
@@ -261,6 +274,17 @@ fn lent(
     Ok((fault, source.to_give().len(), source.failures()))
 }
 
+/// Whether octets are read as they were, where such a call fails.
+fn is_lent_alike(
+    alloc: Global,
+    octets: &[u8],
+    piece: usize,
+    failing: u64,
+) -> Result<bool, AllocError> {
+    let now = lent(alloc, octets, piece, failing, true)?;
+    Ok(now == lent(alloc, octets, piece, failing, false)?)
+}
+
 /// Whether octets are read as they were, by pieces of each size: where a call is refused that
 /// reaches each of these octets, and where each of these calls fails.
 fn is_alike(
@@ -276,9 +300,7 @@ fn is_alike(
             }
         }
         for call in failing {
-            if lent(alloc, octets, piece, *call, true)?
-                != lent(alloc, octets, piece, *call, false)?
-            {
+            if !is_lent_alike(alloc, octets, piece, *call)? {
                 return Ok(false);
             }
         }
@@ -295,12 +317,17 @@ fn is_alike_at(alloc: Global, octets: &[u8], place: usize) -> Result<bool, Alloc
     Ok(is_alike(alloc, octets, &REFUSED, &FAILING)? && is_alike(alloc, octets, &near, &[])?)
 }
 
-/// Whether files of a pattern are read as they were, with each wrong group at each of these places.
+/// Whether a file of a pattern is read as it was, with a wrong group.
+fn wrong_alike(alloc: Global, pattern: u8, wrong: (usize, u8)) -> Result<bool, AllocError> {
+    let (octets, place) = made(alloc, YCC, (32, 52), pattern, wrong)?;
+    is_alike_at(alloc, &octets, place)
+}
+
+/// Whether files of a pattern are, with each wrong group at each of these places.
 fn are_alike(alloc: Global, pattern: u8) -> Result<bool, AllocError> {
     for at in [0usize, 812, 1663] {
         for code in [0u8, 3, 4, 5, 6] {
-            let (octets, place) = made(alloc, YCC, (32, 52), pattern, (at, code))?;
-            if !is_alike_at(alloc, &octets, place)? {
+            if !wrong_alike(alloc, pattern, (at, code))? {
                 return Ok(false);
             }
         }
@@ -308,19 +335,28 @@ fn are_alike(alloc: Global, pattern: u8) -> Result<bool, AllocError> {
     Ok(true)
 }
 
-/// Whether files of so many rows of two groups are read as they were, by each pattern and with each
-/// wrong group at each of these places, and cut in the last group.
+/// Whether a file of so many rows of two groups is read as it was, by a pattern and with a wrong
+/// group, and cut in the last group.
+fn file_alike(
+    alloc: Global,
+    kind: Kind,
+    rows: usize,
+    pattern: u8,
+    wrong: (usize, u8),
+) -> Result<bool, AllocError> {
+    let (octets, place) = made(alloc, kind, (2, rows), pattern, wrong)?;
+    let refused = [place.wrapping_add(1), place.wrapping_add(4), 1 << 20];
+    let cut = &octets[..octets.len().saturating_sub(2)];
+    Ok(is_alike(alloc, &octets, &refused, &[0])? && is_alike(alloc, cut, &[1 << 20], &[0])?)
+}
+
+/// Whether such files are, by each pattern and with each wrong group at each of these places.
 fn rows_alike(alloc: Global, kind: Kind, rows: usize) -> Result<bool, AllocError> {
     let last = rows.wrapping_mul(2).wrapping_sub(1);
     for pattern in 0..4u8 {
         for at in [0, rows, last] {
             for code in [1u8, 3, 255, 4, 5, 6] {
-                let (octets, place) = made(alloc, kind, (2, rows), pattern, (at, code))?;
-                let refused = [place.wrapping_add(1), place.wrapping_add(4), 1 << 20];
-                let cut = &octets[..octets.len().saturating_sub(2)];
-                let is_read = is_alike(alloc, &octets, &refused, &[0])?
-                    && is_alike(alloc, cut, &[1 << 20], &[0])?;
-                if !is_read {
+                if !file_alike(alloc, kind, rows, pattern, (at, code))? {
                     return Ok(false);
                 }
             }
