@@ -2,7 +2,9 @@
 //! source that fails, and without memory.
 use crate::checks::met;
 use crate::engines::source;
-use crate::reading::{Came, DATAGRAMS, FLOWS, RECORDING, came, is_record, unopened};
+use crate::reading::{
+    Came, DATAGRAMS, FLOWS, RECORDING, came, content, is_record, is_so, unopened,
+};
 use flow::Flows;
 use media_file::FileFault;
 use recording_reader::{DatagramReader, FileOpeningFault, ReadingFault};
@@ -61,50 +63,61 @@ const CUTS: [(usize, usize, Option<u8>); 12] = [
 ];
 
 #[test]
-fn cut(rt: HostRuntime) -> Result<(), Fail> {
-    for (count, datagrams, number) in &CUTS {
-        let came = read(rt.alloc(), &CAPTURE[..*count], 0)?;
-        met(
-            &rt,
-            came == Some((*datagrams, number.map(SourceFault::Content))),
-        );
+fn cut(rt: HostRuntime) {
+    for (count, datagrams, number) in CUTS {
+        let octets = CAPTURE.get(..count).unwrap_or(&[]);
+        let read = read(rt.alloc(), octets, 0);
+        met(&rt, is_so(read, datagrams, content(number)));
     }
-    Ok(())
 }
 
-/// One call of the source fails. Two are of name and version, and two of the text; each record has
-/// one of its first octet, two of the others of its head, and one of its octets; the last one tells
-/// the end.
+/// The call of the source that fails, how many datagrams come before, and the fault behind them.
+/// Two are of name and version, and two of the text; each record has one of its first octet, two of
+/// the others of its head, and one of its octets; the last one tells the end.
+const FAILING: [(u64, usize, Option<SourceFault>); 7] = [
+    (1, 0, Some(SourceFault::Device)),
+    (4, 0, Some(SourceFault::Device)),
+    (8, 0, Some(SourceFault::Device)),
+    (9, 1, Some(SourceFault::Device)),
+    (16, 2, Some(SourceFault::Device)),
+    (17, 3, Some(SourceFault::Device)),
+    (18, 3, None),
+];
+
 #[test]
-fn failing_device(rt: HostRuntime) -> Result<(), Fail> {
-    let failed = Some(SourceFault::Device);
-    met(&rt, read(rt.alloc(), CAPTURE, 1)? == Some((0, failed)));
-    met(&rt, read(rt.alloc(), CAPTURE, 4)? == Some((0, failed)));
-    met(&rt, read(rt.alloc(), CAPTURE, 8)? == Some((0, failed)));
-    met(&rt, read(rt.alloc(), CAPTURE, 9)? == Some((1, failed)));
-    met(&rt, read(rt.alloc(), CAPTURE, 16)? == Some((2, failed)));
-    met(&rt, read(rt.alloc(), CAPTURE, 17)? == Some((3, failed)));
-    met(&rt, read(rt.alloc(), CAPTURE, 18)? == Some((3, None)));
-    Ok(())
+fn failing_device(rt: HostRuntime) {
+    for (call, datagrams, fault) in FAILING {
+        let read = read(rt.alloc(), CAPTURE, call);
+        met(&rt, is_so(read, datagrams, fault));
+    }
 }
 
-/// What is no capture, a version that isn't read, and a path that is none.
+/// What is no capture, and a version that isn't read, each with the number of its fault.
+const NONE: [(&[u8], u8); 2] = [(b"S20CAQ02\x00\x00", 3), (b"S20CAP03\x00\x00", 4)];
+
 #[test]
-fn faults(rt: HostRuntime) -> Result<(), Fail> {
-    let name = read(rt.alloc(), b"S20CAQ02\x00\x00", 0)?;
-    met(&rt, name == Some((0, Some(SourceFault::Content(3)))));
-    let version = read(rt.alloc(), b"S20CAP03\x00\x00", 0)?;
-    met(&rt, version == Some((0, Some(SourceFault::Content(4)))));
-    let mut octets = Vec::from_slice(rt.alloc(), CAPTURE)?;
+fn no_captures(rt: HostRuntime) {
+    for (octets, number) in NONE {
+        let read = read(rt.alloc(), octets, 0);
+        met(&rt, is_so(read, 0, content(Some(number))));
+    }
+}
+
+/// Whether a path that is none is told behind the first datagram, and named.
+fn is_no_path(alloc: Global) -> Result<bool, AllocError> {
+    let mut octets = Vec::from_slice(alloc, CAPTURE)?;
     octets[27] = 2;
     let mut source = MemorySource::new(octets, 7, 0);
-    let (came, fault) = read_lent(rt.alloc(), None, &mut source)?;
-    met(&rt, came == Some((1, Some(SourceFault::Content(6)))));
-    met(
-        &rt,
-        fault == Some(ReadingFault::Capture(FileFault::BadField)),
-    );
-    Ok(())
+    let (came, fault) = read_lent(alloc, None, &mut source)?;
+    Ok(
+        came == Some((1, content(Some(6))))
+            && fault == Some(ReadingFault::Capture(FileFault::BadField)),
+    )
+}
+
+#[test]
+fn a_path_that_is_none(rt: HostRuntime) {
+    met(&rt, is_no_path(rt.alloc()) == Ok(true));
 }
 
 /// A file of the datagrams: a recording, or a capture.
@@ -129,24 +142,52 @@ const FILES: [File; 2] = [
     },
 ];
 
+/// Whether a reader stands at the datagram of this place.
+fn has_record<A: Allocator>(reader: &DatagramReader<A, MemorySource>, place: usize) -> bool {
+    match reader.record() {
+        Some(record) => is_record(place, &record) && reader.path() == Some(record.path),
+        None => false,
+    }
+}
+
+/// Whether it tells its moment.
+fn has_moment<A: Allocator>(reader: &DatagramReader<A, MemorySource>, place: usize) -> bool {
+    match DATAGRAMS.get(place) {
+        Some((_, moment, _)) => reader.moment() == Some(*moment),
+        None => false,
+    }
+}
+
+/// Whether it tells the paths that came: by path A only the second one comes.
+fn has_paths<A: Allocator>(reader: &DatagramReader<A, MemorySource>, place: usize) -> bool {
+    reader.has_path(Path::B) && reader.has_path(Path::A) == (place > 0)
+}
+
+/// Whether the next datagram is the one of this place.
+fn gives_next<A: Allocator>(reader: &mut DatagramReader<A, MemorySource>, place: usize) -> bool {
+    reader.advance() == Ok(true)
+        && has_record(reader, place)
+        && has_moment(reader, place)
+        && has_paths(reader, place)
+}
+
 /// Whether the reader of a file gives the datagrams, and then the end.
 fn gives<A: Allocator>(reader: &mut DatagramReader<A, MemorySource>) -> bool {
     for place in 0..3usize {
-        if reader.advance() != Ok(true) {
-            return false;
-        }
-        let is_next = match reader.record() {
-            Some(record) => is_record(place, &record) && reader.path() == Some(record.path),
-            None => false,
-        };
-        let is_moment = reader.moment() == DATAGRAMS.get(place).map(|datagram| datagram.1);
-        // By path A only the second one comes.
-        let is_path = reader.has_path(Path::B) && reader.has_path(Path::A) == (place > 0);
-        if !is_next || !is_moment || !is_path {
+        if !gives_next(reader, place) {
             return false;
         }
     }
     reader.advance() == Ok(false) && reader.record().is_none() && reader.fault().is_none()
+}
+
+/// Whether a file's reader tells its kind and the flows, gives the datagrams, and counts others.
+fn gives_file<A: Allocator>(reader: &mut DatagramReader<A, MemorySource>, file: &File) -> bool {
+    let left_out = if file.is_recording { 2 } else { 0 };
+    reader.is_recording() == file.is_recording
+        && reader.flows() == Some(FLOWS)
+        && gives(reader)
+        && reader.left_out().total() == left_out
 }
 
 /// Whether a file's text and its datagrams come, and others are counted; `None` where memory is
@@ -166,11 +207,8 @@ fn is_file<A: Allocator>(
         }
         Err(_) => return Ok(Some(false)),
     };
-    let is_opened = &text[..reader.text_len()] == file.text
-        && reader.is_recording() == file.is_recording
-        && reader.flows() == Some(FLOWS);
-    let left_out = if file.is_recording { 2 } else { 0 };
-    Ok(Some(is_opened && gives(&mut reader) && reader.left_out().total() == left_out))
+    let is_text = text.get(..reader.text_len()) == Some(file.text);
+    Ok(Some(is_text && gives_file(&mut reader, file)))
 }
 
 impl Wanting for File {
@@ -183,23 +221,27 @@ impl Wanting for File {
 #[test]
 fn of_either_kind(rt: HostRuntime) -> Result<(), Fail> {
     for file in &FILES {
-        met(&rt, is_file(rt.alloc(), rt.alloc(), file)? == Some(true));
+        met(&rt, is_file(rt.alloc(), rt.alloc(), file) == Ok(Some(true)));
         met(&rt, growths(rt.alloc(), file)? == Some(1));
     }
     Ok(())
+}
+
+/// Whether a recording isn't opened since there are no flows, with its first four octets read.
+fn wants_flows(refusing: &Refusing<Global>, recording: MemorySource) -> bool {
+    let mut text = [0u8; 65535];
+    match DatagramReader::open(refusing, None, recording, &mut text) {
+        Err((FileOpeningFault::NoFlows, source)) => source.to_give() == &RECORDING[4..],
+        _ => false,
+    }
 }
 
 /// A recording is refused where there are no flows, with its first four octets read; it is so
 /// before memory is wanted.
 #[test]
 fn without_flows(rt: HostRuntime) -> Result<(), Fail> {
-    let mut text = [0u8; 65535];
     let recording = source(rt.alloc(), RECORDING)?;
     let refusing = Refusing::new(rt.alloc(), 1);
-    let is_refused = match DatagramReader::open(&refusing, None, recording, &mut text) {
-        Err((FileOpeningFault::NoFlows, source)) => source.to_give() == &RECORDING[4..],
-        _ => false,
-    };
-    met(&rt, is_refused);
+    met(&rt, wants_flows(&refusing, recording));
     Ok(())
 }

@@ -55,34 +55,34 @@ fn one_path(rt: HostRuntime) -> Result<(), Fail> {
     Ok(())
 }
 
-/// The packet of path B has 58 octets, and none of data.
+/// Whether a run ended well, and wrote and printed what it does of both paths: the packet of path B
+/// has 58 octets, and none of data.
+fn has_both(run: &Run) -> bool {
+    let written = run.written.held();
+    matches!(run.outcome, Ok(()))
+        && written.starts_with(RECORDING)
+        && written.len() == RECORDING.len() + 58
+        && run.printed.held() == b"exported 2 left out 0\n".as_slice()
+}
+
 #[test]
 fn two_paths(rt: HostRuntime) -> Result<(), Fail> {
     let b = b"239.1.1.2:5004".as_slice();
     let run = export_by(rt.alloc(), rt.alloc(), b"239.1.1.1:5004", Some(b))?;
-    let written = run.written.held();
-    met(&rt, matches!(run.outcome, Ok(())));
-    met(
-        &rt,
-        written.starts_with(RECORDING) && written.len() == RECORDING.len() + 58,
-    );
-    met(
-        &rt,
-        run.printed.held() == b"exported 2 left out 0\n".as_slice(),
-    );
+    met(&rt, has_both(&run));
     Ok(())
+}
+
+/// Whether a run was refused since a word is no flow, and wrote and printed nothing.
+fn is_no_flow(run: &Run) -> bool {
+    matches!(run.outcome, Err(Fault::Refused(Refusal::ExportFlow)))
+        && run.written.held().is_empty()
+        && run.printed.held().is_empty()
 }
 
 #[test]
 fn what_is_no_flow(rt: HostRuntime) -> Result<(), Fail> {
     let run = export_by(rt.alloc(), rt.alloc(), b"5004", None)?;
-    met(
-        &rt,
-        matches!(run.outcome, Err(Fault::Refused(Refusal::ExportFlow))),
-    );
-    met(
-        &rt,
-        run.written.held().is_empty() && run.printed.held().is_empty(),
-    );
+    met(&rt, is_no_flow(&run));
     Ok(())
 }

@@ -1,6 +1,6 @@
 //! A table of three flows, and what is told of each.
 use crate::checks::met;
-use recording_counts::{CountJson, FlowTable, MOST_STREAMS, Noted, RtpStream};
+use recording_counts::{CountJson, FlowCount, FlowTable, MOST_STREAMS, Noted, RtpStream};
 use std::alloc::{AllocError, Global};
 use std::net::{IpAddr, Ipv4Addr, Ipv6Addr, SocketAddr};
 use std::process::Abort;
@@ -88,17 +88,28 @@ const OBJECTS: [&str; 3] = [
      \"first\":0.000000001,\"last\":0.000000001,\"mbit_per_second\":null}",
 ];
 
-#[test]
-fn three_flows(rt: HostRuntime) -> Result<(), Fail> {
-    let mut table = FlowTable::new(rt.alloc());
-    for datagram in &datagrams() {
+/// A table of datagrams.
+fn table(alloc: Global, datagrams: &[Noted<'_>]) -> Result<FlowTable<Global>, AllocError> {
+    let mut table = FlowTable::new(alloc);
+    for datagram in datagrams {
         table.note(datagram)?;
     }
-    met(&rt, table.flows().len() == LINES.len());
-    for (count, (lines, object)) in table.flows().iter().zip(LINES.iter().zip(OBJECTS)) {
-        met(&rt, says(rt.alloc(), count, lines));
-        met(&rt, says(rt.alloc(), &CountJson(count), object));
+    Ok(table)
+}
+
+/// Whether flows are told so, in lines and as objects, and no others.
+fn are_told(alloc: Global, flows: &[FlowCount]) -> bool {
+    let mut are = flows.len() == LINES.len();
+    for (count, (lines, object)) in flows.iter().zip(LINES.iter().zip(OBJECTS)) {
+        are &= says(alloc, count, lines) && says(alloc, &CountJson(count), object);
     }
+    are
+}
+
+#[test]
+fn three_flows(rt: HostRuntime) -> Result<(), Fail> {
+    let table = table(rt.alloc(), &datagrams())?;
+    met(&rt, are_told(rt.alloc(), table.flows()));
     Ok(())
 }
 
@@ -111,12 +122,14 @@ fn stream_of(alloc: Global, timestamps: &[u32]) -> Result<Option<RtpStream>, All
         payload[4..8].copy_from_slice(&timestamp.to_be_bytes());
         table.note(&noted(None, at(5004), &payload))?;
     }
-    Ok(
-        table
-            .flows()
-            .first()
-            .and_then(|count| count.rtp.streams.kept.as_slice().first().copied()),
-    )
+    Ok(match table.flows() {
+        [count, ..] => first_stream(count),
+        [] => None,
+    })
+}
+
+fn first_stream(count: &FlowCount) -> Option<RtpStream> {
+    count.rtp.streams.kept.as_slice().first().copied()
 }
 
 /// Timestamps, and the earliest and the latest of them.
@@ -133,28 +146,46 @@ const SPANS: [(&[u32], u32, u32); 5] = [
 fn spans(rt: HostRuntime) -> Result<(), Fail> {
     for (timestamps, first, last) in SPANS {
         let stream = stream_of(rt.alloc(), timestamps)?.unwrap_or_default();
-        met(&rt, stream.datagrams == timestamps.len() as u64);
-        met(&rt, stream.first == first);
-        met(&rt, stream.last == last);
+        let are_all = stream.datagrams == timestamps.len() as u64;
+        met(&rt, are_all && stream.first == first && stream.last == last);
     }
     Ok(())
 }
 
+/// What is told of the marked ones.
+const MARKED_LINES: &str = "flow 239.20.0.1:5004\n  datagrams 3, octets 36, RTP 2\n  \
+     payload type 71, source 7: datagrams 1, timestamps 2 to 2\n  \
+     payload type 77, source 7: datagrams 1, timestamps 2 to 2";
+
 /// What reads as RTP beside the packet types of RTCP, and what doesn't.
 #[test]
 fn beside_rtcp(rt: HostRuntime) -> Result<(), Fail> {
-    let mut table = FlowTable::new(rt.alloc());
-    for payload in MARKED {
-        table.note(&noted(None, at(5004), payload))?;
-    }
-    for count in table.flows() {
-        let lines = "flow 239.20.0.1:5004\n  datagrams 3, octets 36, RTP 2\n  \
-                     payload type 71, source 7: datagrams 1, timestamps 2 to 2\n  \
-                     payload type 77, source 7: datagrams 1, timestamps 2 to 2";
-        met(&rt, says(rt.alloc(), count, lines));
-    }
-    met(&rt, table.flows().len() == 1);
+    let [first, second, third] = MARKED;
+    let marked = [
+        noted(None, at(5004), first),
+        noted(None, at(5004), second),
+        noted(None, at(5004), third),
+    ];
+    let table = table(rt.alloc(), &marked)?;
+    let is_told = match table.flows() {
+        [count] => says(rt.alloc(), count, MARKED_LINES),
+        _ => false,
+    };
+    met(&rt, is_told);
     Ok(())
+}
+
+/// How the text of a flow ends of which sixteen streams are kept.
+const OTHERS: &str = "\n  payload type 96, source 16: datagrams 1, timestamps 2 to 2\n  and others";
+
+/// Whether a flow has streams that aren't kept, and that is told.
+fn has_others(alloc: Global, count: &FlowCount) -> bool {
+    let streams = &count.rtp.streams;
+    let is_told = match format!(in alloc; "{count}") {
+        Ok(text) => text.as_str().ends_with(OTHERS),
+        Err(_) => false,
+    };
+    streams.kept.len() == MOST_STREAMS && streams.others && is_told
 }
 
 /// Sixteen streams are kept, and of others it is told that there are such.
@@ -166,15 +197,7 @@ fn seventeen_streams(rt: HostRuntime) -> Result<(), Fail> {
         table.note(&noted(None, at(5004), &payload))?;
     }
     for count in table.flows() {
-        met(&rt, count.rtp.streams.kept.len() == MOST_STREAMS);
-        met(&rt, count.rtp.streams.others);
-        let text = format!(in rt.alloc(); "{count}")?;
-        met(
-            &rt,
-            text.as_str().ends_with(
-                "\n  payload type 96, source 16: datagrams 1, timestamps 2 to 2\n  and others",
-            ),
-        );
+        met(&rt, has_others(rt.alloc(), count));
     }
     Ok(())
 }

@@ -86,6 +86,23 @@ fn three<A: Allocator>(
     Ok(files)
 }
 
+/// Three files of these octets.
+fn three_of<A: Allocator>(
+    global: Global,
+    first: &[u8],
+    second: &[u8],
+    third: &[u8],
+) -> Result<Vec<ImportFile<A, MemorySource>>, AllocError>
+    ensures { IfOk result (λ files. AllClosed files.items) }
+{
+    three(
+        global,
+        file(global, first)?,
+        file(global, second)?,
+        file(global, third)?,
+    )
+}
+
 /// A run of `import` of these files by these flows, and what was counted.
 fn import_by<A: Allocator + Copy>(
     global: Global,
@@ -128,12 +145,7 @@ pub fn is_imported<A: Allocator + Copy>(
     alloc: A,
 ) -> Result<Option<bool>, AllocError> {
     let capture = capture(global)?;
-    let mut files = three(
-        global,
-        file(global, RECORDING)?,
-        file(global, OTHER)?,
-        file(global, OLDER)?,
-    )?;
+    let mut files = three_of(global, RECORDING, OTHER, OLDER)?;
     let (run, counts) = import_by(global, alloc, WANTED, files.as_mut_slice())?;
     let is_written = run.answered(&capture, b"recorded A 2 B 3 left out 1\n");
     Ok(match counts {
@@ -143,9 +155,8 @@ pub fn is_imported<A: Allocator + Copy>(
 }
 
 #[test]
-fn joined(rt: HostRuntime) -> Result<(), Fail> {
-    met(&rt, is_imported(rt.alloc(), rt.alloc())? == Some(true));
-    Ok(())
+fn joined(rt: HostRuntime) {
+    met(&rt, is_imported(rt.alloc(), rt.alloc()) == Ok(Some(true)));
 }
 
 /// A run of both recordings and a third file, of whose source a call fails.
@@ -160,6 +171,13 @@ fn run_of(global: Global, octets: &[u8], fails_in: u64) -> Result<Run, AllocErro
     Ok(import_by(global, global, WANTED, files.as_mut_slice())?.0)
 }
 
+/// Whether a device failed in a run, which wrote a first part of a capture and printed nothing.
+fn has_failed(run: &Run, capture: &[u8]) -> bool {
+    matches!(run.outcome, Err(Fault::Device))
+        && capture.starts_with(run.written.held())
+        && run.printed.held().is_empty()
+}
+
 /// Each call of a capture's source fails in turn: what was written is a first part of the capture,
 /// and nothing is printed. So many calls are made, ten at least.
 #[test]
@@ -171,11 +189,7 @@ fn failing_device(rt: HostRuntime) -> Result<(), Fail> {
         if run.outcome.is_ok() {
             break;
         }
-        met(&rt, matches!(run.outcome, Err(Fault::Device)));
-        met(
-            &rt,
-            capture.starts_with(run.written.held()) && run.printed.held().is_empty(),
-        );
+        met(&rt, has_failed(&run, &capture));
         calls = call;
     }
     met(&rt, 10 <= calls && calls < 59);
@@ -209,17 +223,22 @@ const FAULTS: [(&[u8], usize, (&str, u8), usize); 6] = [
     (b"\x1f\x8b\x08\x00\x00\x00\x00\x00", 8, ("capture", 3), 0),
 ];
 
+/// Whether a run was refused so, wrote this and printed nothing.
+fn stops(run: &Run, wanted: (&str, u8), written: &[u8]) -> bool {
+    refused_by(run) == Some(wanted)
+        && run.written.held() == written
+        && run.printed.held().is_empty()
+}
+
 /// What was written before a file's fault are the records before it, and nothing is where it is
 /// before a first one.
 #[test]
 fn faults(rt: HostRuntime) -> Result<(), Fail> {
     let capture = capture(rt.alloc())?;
-    for (octets, cut, wanted, count) in &FAULTS {
-        let octets = octets.get(..*cut).unwrap_or(&[]);
-        let run = run_of(rt.alloc(), octets, 0)?;
-        met(&rt, refused_by(&run) == Some(*wanted));
-        met(&rt, Some(run.written.held()) == capture.get(..*count));
-        met(&rt, run.printed.held().is_empty());
+    for (octets, cut, wanted, count) in FAULTS {
+        let run = run_of(rt.alloc(), octets.get(..cut).unwrap_or(&[]), 0)?;
+        let written = capture.get(..count).unwrap_or(&[]);
+        met(&rt, count <= capture.len() && stops(&run, wanted, written));
     }
     Ok(())
 }
@@ -230,30 +249,25 @@ const ALIKE: FlowWords<'static> = FlowWords {
     b: Some(b"5004"),
 };
 
-/// Three files don't tell the paths of a recording; captures say them.
+/// A run of a file between two captures, by these flows.
+fn run_between(global: Global, second: &[u8]) -> Result<Run, AllocError> {
+    let mut files = three_of(global, OLDER, second, OLDER)?;
+    Ok(import_by(global, global, ALIKE, files.as_mut_slice())?.0)
+}
+
+/// Three files don't tell the paths of a recording.
 #[test]
-fn one_place(rt: HostRuntime) -> Result<(), Fail> {
-    let global = rt.alloc();
-    let mut files = three(
-        global,
-        file(global, OLDER)?,
-        file(global, RECORDING)?,
-        file(global, OLDER)?,
-    )?;
-    let (run, _) = import_by(global, global, ALIKE, files.as_mut_slice())?;
-    met(&rt, refused_by(&run) == Some(("import", 3)));
-    met(&rt, run.written.held().is_empty());
-    let mut files = three(
-        global,
-        file(global, OLDER)?,
-        file(global, OLDER)?,
-        file(global, OLDER)?,
-    )?;
-    let (run, _) = import_by(global, global, ALIKE, files.as_mut_slice())?;
-    met(&rt, run.outcome.is_ok());
-    met(
-        &rt,
-        run.printed.held() == b"recorded A 3 B 6 left out 0\n".as_slice(),
-    );
+fn one_place_of_a_recording(rt: HostRuntime) -> Result<(), Fail> {
+    let run = run_between(rt.alloc(), RECORDING)?;
+    met(&rt, stops(&run, ("import", 3), b""));
+    Ok(())
+}
+
+/// Captures say them.
+#[test]
+fn one_place_of_captures(rt: HostRuntime) -> Result<(), Fail> {
+    let run = run_between(rt.alloc(), OLDER)?;
+    let told = b"recorded A 3 B 6 left out 0\n".as_slice();
+    met(&rt, run.outcome.is_ok() && run.printed.held() == told);
     Ok(())
 }

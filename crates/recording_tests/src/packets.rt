@@ -152,12 +152,13 @@ fn is_from_to(head: PacketHead) -> bool {
     }
 }
 
+fn is_no_ip(head: PacketHead) -> bool {
+    matches!(packet_datagram(&head, &IP4), Err(NoDatagram::NotIp))
+}
+
 /// 101 is raw IP, and 147 the first of the numbers for private use.
 #[test]
 fn link_layers_by_number(rt: HostRuntime) {
     met(&rt, is_from_to(head(101)));
-    met(
-        &rt,
-        matches!(packet_datagram(&head(147), &IP4), Err(NoDatagram::NotIp)),
-    );
+    met(&rt, is_no_ip(head(147)));
 }

@@ -5,6 +5,7 @@ use crate::engines::source;
 use flow::{Flow, Flows};
 use media_file::FileFault;
 use pcap_file::RecordingFault;
+use recording_counts::LeftOut;
 use recording_reader::{DatagramReader, FileOpeningFault, ReadingFault, RecordView};
 use refusing::Refusing;
 use st_format::memory::MemorySource;
@@ -152,35 +153,92 @@ const CUTS: [(usize, usize, Option<u8>); 15] = [
     (272, 3, None),
 ];
 
-#[test]
-fn cut(rt: HostRuntime) -> Result<(), Fail> {
-    for (count, datagrams, number) in &CUTS {
-        let came = read(rt.alloc(), &RECORDING[..*count], 0)?;
-        met(
-            &rt,
-            came == Some((*datagrams, number.map(SourceFault::Content))),
-        );
+/// Whether what was read is so many datagrams, and this fault behind them.
+pub fn is_so(read: Result<Came, AllocError>, datagrams: usize, fault: Option<SourceFault>) -> bool {
+    match read {
+        Ok(came) => came == Some((datagrams, fault)),
+        Err(_) => false,
     }
-    Ok(())
 }
 
-/// One call of the source fails. Five are of the file's head; each packet has four of its head and
-/// one for each five of its octets; the last one tells the end.
+/// A fault of what is read, by its number.
+pub fn content(number: Option<u8>) -> Option<SourceFault> {
+    match number {
+        Some(number) => Some(SourceFault::Content(number)),
+        None => None,
+    }
+}
+
 #[test]
-fn failing_device(rt: HostRuntime) -> Result<(), Fail> {
-    let failed = Some(SourceFault::Device);
-    met(&rt, read(rt.alloc(), RECORDING, 5)? == Some((0, failed)));
-    met(&rt, read(rt.alloc(), RECORDING, 16)? == Some((0, failed)));
-    met(&rt, read(rt.alloc(), RECORDING, 24)? == Some((1, failed)));
-    met(&rt, read(rt.alloc(), RECORDING, 60)? == Some((2, failed)));
-    met(&rt, read(rt.alloc(), RECORDING, 61)? == Some((3, failed)));
-    met(&rt, read(rt.alloc(), RECORDING, 62)? == Some((3, None)));
-    Ok(())
+fn cut(rt: HostRuntime) {
+    for (count, datagrams, number) in CUTS {
+        let octets = RECORDING.get(..count).unwrap_or(&[]);
+        let read = read(rt.alloc(), octets, 0);
+        met(&rt, is_so(read, datagrams, content(number)));
+    }
+}
+
+/// The call of the source that fails, how many datagrams come before, and the fault behind them.
+/// Five are of the file's head; each packet has four of its head and one for each five of its
+/// octets; the last one tells the end.
+const FAILING: [(u64, usize, Option<SourceFault>); 6] = [
+    (5, 0, Some(SourceFault::Device)),
+    (16, 0, Some(SourceFault::Device)),
+    (24, 1, Some(SourceFault::Device)),
+    (60, 2, Some(SourceFault::Device)),
+    (61, 3, Some(SourceFault::Device)),
+    (62, 3, None),
+];
+
+#[test]
+fn failing_device(rt: HostRuntime) {
+    for (call, datagrams, fault) in FAILING {
+        let read = read(rt.alloc(), RECORDING, call);
+        met(&rt, is_so(read, datagrams, fault));
+    }
 }
 
 /// Reading one without copying.
 #[derive(Clone, Copy)]
 struct Borrowing;
+
+/// Whether a reader's next datagram is the one of this place, and is lent.
+fn is_lent<A: Allocator>(reader: &mut DatagramReader<A, MemorySource>, place: usize) -> bool {
+    if reader.advance() != Ok(true) {
+        return false;
+    }
+    match reader.record() {
+        Some(record) => is_record(place, &record) && reader.octets() == record.octets,
+        None => false,
+    }
+}
+
+/// Whether each of them is.
+fn lends_each<A: Allocator>(reader: &mut DatagramReader<A, MemorySource>) -> bool {
+    for place in 0..3usize {
+        if !is_lent(reader, place) {
+            return false;
+        }
+    }
+    true
+}
+
+/// Whether a reader has come to its end, as often as it is asked, and has no datagram then.
+fn is_over<A: Allocator>(reader: &mut DatagramReader<A, MemorySource>) -> bool {
+    reader.advance() == Ok(false) && reader.advance() == Ok(false) && has_none(reader)
+}
+
+fn has_none<A: Allocator>(reader: &DatagramReader<A, MemorySource>) -> bool {
+    reader.record().is_none()
+        && reader.path().is_none()
+        && reader.moment().is_none()
+        && reader.octets().is_empty()
+}
+
+/// Whether a packet of TCP and a datagram of another flow were left out, and no more.
+fn has_left_out(left_out: &LeftOut) -> bool {
+    left_out.not_udp == 1 && left_out.other_flow == 1 && left_out.total() == 2
+}
 
 /// Whether the datagrams come so where they are borrowed, and others are counted by why; `None`
 /// where memory is wanted.
@@ -194,31 +252,7 @@ fn is_borrowed<A: Allocator>(global: Global, alloc: A) -> Result<Option<bool>, A
         }
         Err(_) => return Ok(Some(false)),
     };
-    for place in 0..3usize {
-        if reader.advance() != Ok(true) {
-            return Ok(Some(false));
-        }
-        let is_next = match reader.record() {
-            Some(record) => is_record(place, &record) && reader.octets() == record.octets,
-            None => false,
-        };
-        if !is_next {
-            return Ok(Some(false));
-        }
-    }
-    let is_over = reader.advance() == Ok(false);
-    let left_out = reader.left_out();
-    Ok(Some(
-        is_over
-            && reader.advance() == Ok(false)
-            && reader.record().is_none()
-            && reader.path().is_none()
-            && reader.moment().is_none()
-            && reader.octets().is_empty()
-            && left_out.not_udp == 1
-            && left_out.other_flow == 1
-            && left_out.total() == 2,
-    ))
+    Ok(Some(lends_each(&mut reader) && is_over(&mut reader) && has_left_out(&reader.left_out())))
 }
 
 impl Wanting for Borrowing {

@@ -1,6 +1,6 @@
 //! Files received: captures, and recordings of other tools by the flows of two paths.
 use crate::checks::met;
-use crate::engines::{sink, source};
+use crate::engines::{is_capture_fault, is_recording_fault, lacks_sdp, sink, sources};
 use crate::reading::{DATAGRAMS, FLOWS, RECORDING};
 use capture_engines::{Reception, Wanted, receive_files};
 use flow::Flows;
@@ -22,27 +22,6 @@ const WANTED: Wanted<'static> = Wanted {
     tells_refusals: true,
 };
 
-/// Whether a run ended by this fault of a capture.
-fn is_capture_fault(outcome: Result<(), Fault>, fault: FileFault) -> bool {
-    match outcome {
-        Err(Fault::Refused(Refusal::Capture(told))) => told == fault,
-        _ => false,
-    }
-}
-
-/// Whether it ended by this fault of a recording.
-fn is_recording_fault(outcome: Result<(), Fault>, fault: RecordingFault) -> bool {
-    match outcome {
-        Err(Fault::Refused(Refusal::Recording(told))) => told == fault,
-        _ => false,
-    }
-}
-
-/// Whether it ended since there is no SDP.
-fn lacks_sdp(outcome: Result<(), Fault>) -> bool {
-    matches!(outcome, Err(Fault::Refused(Refusal::ReceiveNoSdp)))
-}
-
 /// A capture of the datagrams of the recording, with the text.
 fn capture(global: Global) -> Result<Vec<u8>, Fail> {
     let mut sink = sink(global)?;
@@ -53,7 +32,7 @@ fn capture(global: Global) -> Result<Vec<u8>, Fail> {
     Ok(Vec::from_slice(global, sink.held())?)
 }
 
-/// How a run over files ends, and how many datagrams were delivered.
+/// How a run over files ends, and what was received.
 fn run(
     global: Global,
     files: &[&[u8]],
@@ -61,10 +40,7 @@ fn run(
     is_sound: bool,
     sdp: Option<&[u8]>,
 ) -> Result<(Result<(), Fault>, Option<Reception>), Fail> {
-    let mut sources = Vec::new(global);
-    for file in files {
-        sources.push(source(global, file)?)?;
-    }
+    let mut sources = sources(global, files)?;
     let (mut state, mut printed) = (sink(global)?, sink(global)?);
     let mut reception = None;
     let outcome = receive_files(
@@ -82,49 +58,82 @@ fn run(
     Ok((outcome, reception))
 }
 
+/// How many datagrams were delivered, and how many of them refused by the first reason.
+fn counted(reception: &Option<Reception>) -> Option<(u64, u64)> {
+    match reception {
+        Some(reception) => Some((reception.delivered, reception.tally.refused[0])),
+        None => None,
+    }
+}
+
+/// A recording is taken by its flows, a capture isn't.
+const BY_FLOWS: Result<Flows, Refusal> = Ok(FLOWS);
+
+const NO_FLOWS: Result<Flows, Refusal> = Err(Refusal::ReceiveNoSdp);
+
+/// Whether a recording and a capture behind it are received.
+fn is_received(global: Global, capture: &[u8]) -> Result<bool, Fail> {
+    let files = [RECORDING, capture];
+    let (outcome, reception) = run(global, &files, &[BY_FLOWS, NO_FLOWS], false, Some(SDP))?;
+    Ok(outcome.is_ok() && counted(&reception) == Some((6, 6)))
+}
+
+/// Whether a capture and a recording behind it are received by the capture's SDP.
+fn is_received_by_own(global: Global, capture: &[u8]) -> Result<bool, Fail> {
+    let files = [capture, RECORDING];
+    let (outcome, reception) = run(global, &files, &[NO_FLOWS, BY_FLOWS], false, None)?;
+    Ok(outcome.is_ok() && counted(&reception) == Some((6, 6)))
+}
+
+/// Whether a recording and a capture behind it aren't, without an SDP.
+fn is_unreceived(global: Global, capture: &[u8]) -> Result<bool, Fail> {
+    let files = [RECORDING, capture];
+    let (outcome, reception) = run(global, &files, &[BY_FLOWS, NO_FLOWS], false, None)?;
+    Ok(lacks_sdp(&outcome) && reception.is_none())
+}
+
 /// A recording by flows, and a capture behind it, by which a receiver is opened without an SDP only
 /// where it comes first.
 #[test]
 fn of_either_kind(rt: HostRuntime) -> Result<(), Fail> {
-    let global = rt.alloc();
-    let capture = capture(global)?;
-    let ways = [Ok(FLOWS), Err(Refusal::ReceiveNoSdp)];
-    let (outcome, reception) = run(global, &[RECORDING, &capture], &ways, false, Some(SDP))?;
-    met(&rt, outcome.is_ok());
-    met(
-        &rt,
-        reception.map(|r| (r.delivered, r.tally.refused[0])) == Some((6, 6)),
-    );
-    let back = [Err(Refusal::ReceiveNoSdp), Ok(FLOWS)];
-    let (outcome, reception) = run(global, &[&capture, RECORDING], &back, false, None)?;
-    met(&rt, outcome.is_ok());
-    met(&rt, reception.map(|r| r.delivered) == Some(6));
-    let (outcome, reception) = run(global, &[RECORDING, &capture], &ways, false, None)?;
-    met(&rt, lacks_sdp(outcome));
-    met(&rt, reception.is_none());
+    let capture = capture(rt.alloc())?;
+    met(&rt, is_received(rt.alloc(), &capture)?);
+    met(&rt, is_received_by_own(rt.alloc(), &capture)?);
+    met(&rt, is_unreceived(rt.alloc(), &capture)?);
     Ok(())
 }
 
-/// What stops a file: its fault, that no recording is taken, or that it is no capture.
+/// What stops a file: its own fault, behind the datagrams of the file before.
 #[test]
-fn stopped(rt: HostRuntime) -> Result<(), Fail> {
-    let global = rt.alloc();
+fn stopped_by_a_cut(rt: HostRuntime) -> Result<(), Fail> {
     let files = [RECORDING, &RECORDING[..70]];
-    let ways = [Ok(FLOWS), Ok(FLOWS)];
-    let (outcome, reception) = run(global, &files, &ways, true, Some(SDP))?;
-    met(&rt, is_recording_fault(outcome, RecordingFault::Truncated));
-    met(&rt, reception.map(|r| r.delivered) == Some(3));
-    let none = [Err(Refusal::ReceiveNoSdp)];
-    let (outcome, _) = run(global, &[RECORDING], &none, false, Some(SDP))?;
-    met(&rt, lacks_sdp(outcome));
-    let cuts = [
-        (3, FileFault::Truncated),
-        (7, FileFault::Truncated),
-        (8, FileFault::BadName),
-    ];
-    for (count, fault) in cuts {
-        let (outcome, _) = run(global, &[&RECORDING[..count]], &[], false, Some(SDP))?;
-        met(&rt, is_capture_fault(outcome, fault));
+    let (outcome, reception) = run(rt.alloc(), &files, &[BY_FLOWS, BY_FLOWS], true, Some(SDP))?;
+    let is_cut = is_recording_fault(&outcome, RecordingFault::Truncated);
+    met(&rt, is_cut && counted(&reception) == Some((3, 3)));
+    Ok(())
+}
+
+/// That no recording is taken.
+#[test]
+fn stopped_untaken(rt: HostRuntime) -> Result<(), Fail> {
+    let (outcome, _) = run(rt.alloc(), &[RECORDING], &[NO_FLOWS], false, Some(SDP))?;
+    met(&rt, lacks_sdp(&outcome));
+    Ok(())
+}
+
+/// How many octets of a recording there are, and the fault by which they are no capture.
+const NO_CAPTURES: [(usize, FileFault); 3] = [
+    (3, FileFault::Truncated),
+    (7, FileFault::Truncated),
+    (8, FileFault::BadName),
+];
+
+#[test]
+fn stopped_by_no_capture(rt: HostRuntime) -> Result<(), Fail> {
+    for (count, fault) in NO_CAPTURES {
+        let octets = RECORDING.get(..count).unwrap_or(&[]);
+        let (outcome, _) = run(rt.alloc(), &[octets], &[], false, Some(SDP))?;
+        met(&rt, is_capture_fault(&outcome, fault));
     }
     Ok(())
 }

@@ -1,6 +1,6 @@
 //! The packet numbers by which streams are told, against counts by hand.
 use crate::checks::met;
-use crate::streams::{SDP, Sent, datagram, low_datagram};
+use crate::streams::{SDP, Sent, said_by};
 use media_file::{write_front, write_record};
 use st_format::Path;
 use st_format::memory::{MemorySink, MemorySource};
@@ -51,12 +51,7 @@ fn write_b(sink: &mut MemorySink, number: u32, is_low: bool) -> Result<(), Fail>
 /// Writes the packet of a number.
 fn write(sink: &mut MemorySink, path: Path, number: u32, is_low: bool) -> Result<(), Fail> {
     let moment = 1000 * u64::from(number) + if path == Path::B { 250 } else { 0 };
-    let octets = if is_low {
-        low_datagram(96, sent(number))
-    } else {
-        datagram(96, sent(number))
-    };
-    write_record(sink, path, moment, &octets)?;
+    write_record(sink, path, moment, &said_by(sent(number), is_low))?;
     Ok(())
 }
 
@@ -149,21 +144,20 @@ const TWO_SENDERS: &[u8] = b"\
 {\"kind\":\"window\",\"timestamps\":[900]}
 ";
 
+/// Writes the packet of a number of source 7, which leaves the high half 0, or of source 8.
+fn write_of(sink: &mut MemorySink, source: u8, number: u32) -> Result<(), Fail> {
+    let mut octets = said_by(Sent(number, 900, false), source == 7);
+    octets[11] = source;
+    write_record(sink, Path::A, 0, &octets)?;
+    Ok(())
+}
+
 /// Each stream is told by what its own packets say.
 #[test]
 fn two_senders(rt: HostRuntime) -> Result<(), Fail> {
     let mut sink = begun(rt.alloc(), 8192)?;
-    for (source, numbers) in [(7u8, [65535, 65536u32]), (8, [65535, 200_000])] {
-        for number in numbers {
-            let packet = Sent(number, 900, false);
-            let mut octets = if source == 7 {
-                low_datagram(96, packet)
-            } else {
-                datagram(96, packet)
-            };
-            octets[11] = source;
-            write_record(&mut sink, Path::A, 0, &octets)?;
-        }
+    for (source, number) in [(7u8, 65535u32), (7, 65536), (8, 65535), (8, 200_000)] {
+        write_of(&mut sink, source, number)?;
     }
     met(&rt, is_told(rt.alloc(), &sink, TWO_SENDERS)?);
     Ok(())

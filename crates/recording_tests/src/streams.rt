@@ -1,13 +1,13 @@
 //! The streams of captures and recordings inspected, against texts by hand.
 use crate::checks::met;
-use crate::engines::{Run, sink, source};
+use crate::engines::{Run, is_capture_fault, is_recording_fault, lacks_sdp, sink, source, sources};
 use crate::reading::{FLOWS, RECORDING};
 use flow::Flows;
 use media_file::{FileFault, write_front, write_record};
 use pcap_file::RecordingFault;
 use run_outcome::{Fault, Refusal};
 use st_format::Path;
-use st_format::memory::MemorySource;
+use st_format::memory::{MemorySink, MemorySource};
 use std::alloc::{Allocator, Global};
 use std::test::Fail;
 use stream_inspection::{Form, Wanted, inspect_streams};
@@ -56,7 +56,7 @@ pub fn datagram(payload_type: u8, sent: Sent) -> [u8; 28] {
 }
 
 /// The same of a sender that leaves the high half of the packet number 0.
-pub fn low_datagram(payload_type: u8, sent: Sent) -> [u8; 28] {
+fn low_datagram(payload_type: u8, sent: Sent) -> [u8; 28] {
     let mut octets = datagram(payload_type, sent);
     octets[12] = 0;
     octets[13] = 0;
@@ -69,18 +69,27 @@ fn capture(global: Global, text: &[u8], is_low: bool) -> Result<MemorySource, Fa
     let mut sink = sink(global)?;
     write_front(&mut sink, &text[..text.len().min(65535)])?;
     for (path, moment, sent) in SENT {
-        let octets = if is_low {
-            low_datagram(96, sent)
-        } else {
-            datagram(96, sent)
-        };
-        write_record(&mut sink, path, moment, &octets)?;
+        write_record(&mut sink, path, moment, &said_by(sent, is_low))?;
     }
-    let other = Sent(5, 48, false);
-    write_record(&mut sink, Path::A, 4000, &datagram(97, other))?;
-    write_record(&mut sink, Path::A, 4100, &[128, 200, 0, 0])?;
-    write_record(&mut sink, Path::B, 4200, &[1, 2, 3, 4, 5])?;
+    write_others(&mut sink)?;
     Ok(source(global, sink.held())?)
+}
+
+/// The datagram of a packet, as its sender says its number.
+pub fn said_by(sent: Sent, is_low: bool) -> [u8; 28] {
+    if is_low {
+        low_datagram(96, sent)
+    } else {
+        datagram(96, sent)
+    }
+}
+
+fn write_others(sink: &mut MemorySink) -> Result<(), Fail> {
+    let other = Sent(5, 48, false);
+    write_record(sink, Path::A, 4000, &datagram(97, other))?;
+    write_record(sink, Path::A, 4100, &[128, 200, 0, 0])?;
+    write_record(sink, Path::B, 4200, &[1, 2, 3, 4, 5])?;
+    Ok(())
 }
 
 const COLUMNS: &[u8] = b"\
@@ -135,28 +144,48 @@ const JSON: &[u8] = b"\
 {\"kind\":\"window\",\"timestamps\":[900,2400,3900]}
 ";
 
+/// How a run over captures ends, by a text that is given or that of the first one, and what was
+/// printed.
+fn inspected(
+    global: Global,
+    form: Form,
+    sdp: Option<&[u8]>,
+    captures: &mut [MemorySource],
+) -> Result<(Result<(), Fault>, MemorySink), Fail> {
+    let mut printed = sink(global)?;
+    let outcome = inspect_streams(
+        global,
+        Wanted::Said,
+        form,
+        sdp,
+        captures,
+        &[],
+        &mut [],
+        &mut printed,
+    );
+    Ok((outcome, printed))
+}
+
+/// The forms, what is told in each, and whether the sender leaves the high halves 0.
+const FORMS: [(Form, &[u8], bool); 3] = [
+    (Form::Columns, COLUMNS, false),
+    (Form::Json, JSON, false),
+    (Form::Columns, COLUMNS, true),
+];
+
+/// Whether this is told of the capture in a form.
+fn is_inspected(global: Global, form: Form, text: &[u8], is_low: bool) -> Result<bool, Fail> {
+    let mut captures = [capture(global, SDP, is_low)?];
+    let (outcome, printed) = inspected(global, form, None, &mut captures)?;
+    Ok(outcome.is_ok() && printed.held() == text)
+}
+
 /// A capture that says what it has, in both forms. It is told the same, whether or not the sender
 /// says the high halves of its packet numbers.
 #[test]
 fn streams_of_a_capture(rt: HostRuntime) -> Result<(), Fail> {
-    for (form, text, is_low) in [
-        (Form::Columns, COLUMNS, false),
-        (Form::Json, JSON, false),
-        (Form::Columns, COLUMNS, true),
-    ] {
-        let mut captures = [capture(rt.alloc(), SDP, is_low)?];
-        let mut printed = sink(rt.alloc())?;
-        let ended = inspect_streams(
-            rt.alloc(),
-            Wanted::Said,
-            form,
-            None,
-            &mut captures,
-            &[],
-            &mut [],
-            &mut printed,
-        );
-        met(&rt, ended.is_ok() && printed.held() == text);
+    for (form, text, is_low) in FORMS {
+        met(&rt, is_inspected(rt.alloc(), form, text, is_low)?);
     }
     Ok(())
 }
@@ -181,42 +210,27 @@ const AFTER: &[u8] = b"\
 /// The captures of the two paths, the second with so many octets of its own; the front of the first
 /// has no text. Nothing is known of moments.
 fn paths(global: Global, octets: usize) -> Result<[MemorySource; 2], Fail> {
-    let mut a = sink(global)?;
-    write_front(&mut a, b"")?;
-    let first = datagram(96, Sent(65534, 900, false));
-    write_record(&mut a, Path::A, 0, &first)?;
-    let second = datagram(96, Sent(200_000, 2400, false));
-    write_record(&mut a, Path::A, 0, &second)?;
-    let mut b = sink(global)?;
-    write_front(&mut b, b"")?;
-    write_record(&mut b, Path::B, 0, &first)?;
-    write_record(&mut b, Path::B, 0, &second)?;
-    let held = b.held();
-    Ok([
-        source(global, a.held())?,
-        source(global, &held[..octets.min(held.len())])?,
-    ])
+    let (a, b) = (capture_by(global, Path::A)?, capture_by(global, Path::B)?);
+    let of_b = b.get(..octets.min(b.len())).unwrap_or(&[]);
+    Ok([source(global, &a)?, source(global, of_b)?])
+}
+
+/// The capture of a path by itself.
+fn capture_by(global: Global, path: Path) -> Result<Vec<u8>, Fail> {
+    let mut sink = sink(global)?;
+    write_front(&mut sink, b"")?;
+    for sent in [Sent(65534, 900, false), Sent(200_000, 2400, false)] {
+        write_record(&mut sink, path, 0, &datagram(96, sent))?;
+    }
+    Ok(Vec::from_slice(global, sink.held())?)
 }
 
 /// An SDP text that is given, and a second capture that is cut within its second record.
 #[test]
 fn paths_after_each_other(rt: HostRuntime) -> Result<(), Fail> {
     let mut captures = paths(rt.alloc(), 49 + 30)?;
-    let mut printed = sink(rt.alloc())?;
-    let ended = inspect_streams(
-        rt.alloc(),
-        Wanted::Said,
-        Form::Json,
-        Some(SDP),
-        &mut captures,
-        &[],
-        &mut [],
-        &mut printed,
-    );
-    let is_cut = matches!(
-        ended,
-        Err(Fault::Refused(Refusal::Capture(FileFault::Truncated)))
-    );
+    let (outcome, printed) = inspected(rt.alloc(), Form::Json, Some(SDP), &mut captures)?;
+    let is_cut = is_capture_fault(&outcome, FileFault::Truncated);
     met(&rt, is_cut && printed.held() == AFTER);
     Ok(())
 }
@@ -225,19 +239,8 @@ fn paths_after_each_other(rt: HostRuntime) -> Result<(), Fail> {
 #[test]
 fn no_text(rt: HostRuntime) -> Result<(), Fail> {
     let mut captures = paths(rt.alloc(), 100)?;
-    let mut printed = sink(rt.alloc())?;
-    let ended = inspect_streams(
-        rt.alloc(),
-        Wanted::Said,
-        Form::Json,
-        None,
-        &mut captures,
-        &[],
-        &mut [],
-        &mut printed,
-    );
-    let is_refused = matches!(ended, Err(Fault::Refused(Refusal::ReceiveNoSdp)));
-    met(&rt, is_refused && printed.held().is_empty());
+    let (outcome, printed) = inspected(rt.alloc(), Form::Json, None, &mut captures)?;
+    met(&rt, lacks_sdp(&outcome) && printed.held().is_empty());
     Ok(())
 }
 
@@ -255,10 +258,7 @@ fn run(
     ways: &[Result<Flows, Refusal>],
     told: &[u8],
 ) -> Result<(Result<(), Fault>, bool), Fail> {
-    let mut sources = Vec::new(global);
-    for file in files {
-        sources.push(source(global, file)?)?;
-    }
+    let mut sources = sources(global, files)?;
     let mut printed = sink(global)?;
     let outcome = inspect_streams(
         global,
@@ -273,30 +273,41 @@ fn run(
     Ok((outcome, printed.held() == told))
 }
 
-/// Recordings by their flows, of which the second is cut within its first packet; one that is not
-/// taken, so; and one that is taken as a capture.
+/// A recording is taken by its flows, or isn't.
+const BY_FLOWS: Result<Flows, Refusal> = Ok(FLOWS);
+
+const NO_FLOWS: Result<Flows, Refusal> = Err(Refusal::ReceiveNoSdp);
+
 #[test]
-fn recordings(rt: HostRuntime) -> Result<(), Fail> {
-    let global = rt.alloc();
-    let (outcome, is_told) = run(global, &[RECORDING], &[Ok(FLOWS)], SHORT)?;
+fn a_recording(rt: HostRuntime) -> Result<(), Fail> {
+    let (outcome, is_told) = run(rt.alloc(), &[RECORDING], &[BY_FLOWS], SHORT)?;
     met(&rt, outcome.is_ok() && is_told);
+    Ok(())
+}
+
+/// The second one is cut within its first packet.
+#[test]
+fn a_recording_that_is_cut(rt: HostRuntime) -> Result<(), Fail> {
     let files = [RECORDING, &RECORDING[..70]];
-    let (outcome, is_told) = run(global, &files, &[Ok(FLOWS), Ok(FLOWS)], SHORT)?;
-    let is_cut = matches!(
-        outcome,
-        Err(Fault::Refused(Refusal::Recording(RecordingFault::Truncated)))
-    );
+    let (outcome, is_told) = run(rt.alloc(), &files, &[BY_FLOWS, BY_FLOWS], SHORT)?;
+    let is_cut = is_recording_fault(&outcome, RecordingFault::Truncated);
     met(&rt, is_cut && is_told);
-    let none = [Ok(FLOWS), Err(Refusal::ReceiveNoSdp)];
-    let (outcome, is_told) = run(global, &[RECORDING, RECORDING], &none, b"")?;
-    let is_untaken = matches!(outcome, Err(Fault::Refused(Refusal::ReceiveNoSdp)));
-    met(&rt, is_untaken && is_told);
-    let (outcome, is_told) = run(global, &[RECORDING], &[], b"")?;
-    let is_other = matches!(
-        outcome,
-        Err(Fault::Refused(Refusal::Capture(FileFault::BadName)))
-    );
-    met(&rt, is_other && is_told);
+    Ok(())
+}
+
+#[test]
+fn a_recording_that_is_not_taken(rt: HostRuntime) -> Result<(), Fail> {
+    let files = [RECORDING, RECORDING];
+    let (outcome, is_told) = run(rt.alloc(), &files, &[BY_FLOWS, NO_FLOWS], b"")?;
+    met(&rt, lacks_sdp(&outcome) && is_told);
+    Ok(())
+}
+
+#[test]
+fn a_recording_taken_as_a_capture(rt: HostRuntime) -> Result<(), Fail> {
+    let (outcome, is_told) = run(rt.alloc(), &[RECORDING], &[], b"")?;
+    let is_none = is_capture_fault(&outcome, FileFault::BadName);
+    met(&rt, is_none && is_told);
     Ok(())
 }
 
