@@ -7,7 +7,7 @@ pub(crate) const OUTPUT: &str = "-";
 
 /// How many octets are passed on at once, at most. A pipe takes a picture in pieces that stay in
 /// the processor's cache until they are read a quarter faster than as a whole.
-const PIECE: usize = 16_384;
+const PIECE: usize = 8_192;
 
 /// A stream that is written: a device or a pipe by its name, standard output, or standard error.
 #[derive(Drop)]
