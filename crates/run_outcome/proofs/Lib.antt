@@ -1,6 +1,5 @@
 pub mod CommaLemmas
 pub mod Ended
-pub mod TextLines
 pub mod Printed
 pub mod Refusals
 pub mod SetSums
