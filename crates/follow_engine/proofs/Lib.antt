@@ -15,5 +15,4 @@ pub mod Grows
 pub mod Cut
 pub mod First
 pub mod Counted
-pub mod Numbers
 pub mod Short

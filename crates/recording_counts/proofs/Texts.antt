@@ -13,19 +13,6 @@ next_text f xs i d lt =
     (ap (flat_map f) (take_more xs i d lt) ∙ flat_map-append f (take i xs) (get_or xs i d ∷ [])
     ∙ ap (λ (t : List ℕ). flat_map f (take i xs) ++ t) (append-nil (f (get_or xs i d))))
 
--- a piece was added, and then the rest
-pub piece_then : (s t u piece rest : List ℕ) → t ≡ s ++ piece → u ≡ t ++ rest
-    → u ≡ s ++ (piece ++ rest)
-piece_then s t u piece rest one more =
-    more ∙ ap (λ (l : List ℕ). l ++ rest) one ∙ append_assoc s piece rest
-
--- a word and a number were added, and then the rest
-pub number_then : (s t u word number rest : List ℕ) → t ≡ s ++ (word ++ number) → u ≡ t ++ rest
-    → u ≡ s ++ (word ++ (number ++ rest))
-number_then s t u word number rest one more =
-    piece_then s t u (word ++ number) rest one more
-    ∙ ap (λ (l : List ℕ). s ++ l) (append_assoc word number rest)
-
 -- the text of the next item was added behind those of the first
 pub next_added : {X : Type 0} (f : X → List ℕ) (xs : List X) (i : ℕ) (d : X) (s t u : List ℕ)
     → i < length xs → t ≡ s ++ flat_map f (take i xs) → u ≡ t ++ f (get_or xs i d)

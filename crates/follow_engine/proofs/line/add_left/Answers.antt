@@ -1,6 +1,6 @@
 use Rattle.std.proofs.Common.{codes}
 use Rattle.std.specs.Fmt.{decimal}
-use Rattle.follow_engine.proofs.Numbers.{number_then}
+use Rattle.text_line.proofs.Pieces.{number_then}
 use Rattle.follow_engine.proofs.line.add_left.Goals as goal
 
 pub returns-clause-text : goal.returns-clause-text

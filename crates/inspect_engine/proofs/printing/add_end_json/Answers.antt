@@ -1,6 +1,6 @@
 use Rattle.std.proofs.Common.{codes}
 use Rattle.std.specs.Fmt.{decimal}
-use Rattle.recording_counts.proofs.Texts.{number_then, piece_then}
+use Rattle.text_line.proofs.Pieces.{number_then, piece_then}
 use Rattle.inspect_engine.specs.Inspected.{left_out_json}
 use Rattle.inspect_engine.proofs.printing.add_end_json.Goals as goal
 

@@ -1,7 +1,7 @@
 use Rattle.std.proofs.Common.{codes}
 use Rattle.std.specs.Fmt.{decimal}
 use Rattle.recording_counts.specs.declared.left_out.LeftOut.{LeftOut}
-use Rattle.recording_counts.proofs.Texts.{number_then}
+use Rattle.text_line.proofs.Pieces.{number_then}
 use Rattle.inspect_engine.proofs.printing.add_first_reasons.Goals as goal
 
 pub returns-clause-text : goal.returns-clause-text

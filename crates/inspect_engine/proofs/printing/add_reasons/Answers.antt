@@ -1,7 +1,7 @@
 use Rattle.std.proofs.Common.{codes}
 use Rattle.std.specs.Fmt.{decimal}
 use Rattle.recording_counts.specs.declared.left_out.LeftOut.{LeftOut}
-use Rattle.recording_counts.proofs.Texts.{number_then, piece_then}
+use Rattle.text_line.proofs.Pieces.{number_then, piece_then}
 use Rattle.inspect_engine.specs.Inspected.{first_reasons_json}
 use Rattle.inspect_engine.proofs.printing.add_reasons.Goals as goal
 

@@ -2,7 +2,7 @@ use Rattle.std.proofs.Common.{codes}
 use Rattle.std.specs.Net.Text.{socket_text}
 use Rattle.recording_counts.specs.FlowJson.{numbers_json, streams_json, times_json}
 use Rattle.recording_counts.specs.declared.flow_count.FlowCount.{FlowCount}
-use Rattle.recording_counts.proofs.Texts.{piece_then}
+use Rattle.text_line.proofs.Pieces.{piece_then}
 use Rattle.recording_counts.proofs.flow_json.add_count_json.Goals as goal
 
 pub returns-clause-text : goal.returns-clause-text

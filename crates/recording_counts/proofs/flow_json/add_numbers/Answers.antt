@@ -1,7 +1,7 @@
 use Rattle.std.proofs.Common.{codes}
 use Rattle.std.specs.Fmt.{decimal}
 use Rattle.recording_counts.specs.declared.flow_count.FlowCount.{FlowCount}
-use Rattle.recording_counts.proofs.Texts.{number_then}
+use Rattle.text_line.proofs.Pieces.{number_then}
 use Rattle.recording_counts.proofs.flow_json.add_numbers.Goals as goal
 
 pub returns-clause-text : goal.returns-clause-text

@@ -1,7 +1,7 @@
 use Rattle.std.proofs.Common.{codes}
 use Rattle.recording_counts.specs.FlowJson.{moment_json}
 use Rattle.recording_counts.specs.declared.times.Times.{Times}
-use Rattle.recording_counts.proofs.Texts.{piece_then}
+use Rattle.text_line.proofs.Pieces.{piece_then}
 use Rattle.recording_counts.proofs.flow_json.add_times.Goals as goal
 
 pub returns-clause-text : goal.returns-clause-text

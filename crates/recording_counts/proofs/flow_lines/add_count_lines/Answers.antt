@@ -3,7 +3,7 @@ use Rattle.std.specs.Fmt.{decimal}
 use Rattle.std.specs.Net.Text.{socket_text}
 use Rattle.recording_counts.specs.FlowLines.{rtcp_text, streams_text}
 use Rattle.recording_counts.specs.declared.flow_count.FlowCount.{FlowCount}
-use Rattle.recording_counts.proofs.Texts.{number_then, piece_then}
+use Rattle.text_line.proofs.Pieces.{number_then, piece_then}
 use Rattle.recording_counts.proofs.flow_lines.add_count_lines.Goals as goal
 
 pub returns-clause-text : goal.returns-clause-text

@@ -1,6 +1,6 @@
 use Rattle.std.proofs.Common.{codes}
 use Rattle.recording_counts.specs.FlowLines.{moment_text}
-use Rattle.recording_counts.proofs.Texts.{piece_then}
+use Rattle.text_line.proofs.Pieces.{piece_then}
 use Rattle.recording_counts.proofs.flow_lines.add_span.Goals as goal
 
 pub returns-clause-text : goal.returns-clause-text

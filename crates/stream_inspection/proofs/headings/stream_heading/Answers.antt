@@ -1,6 +1,6 @@
 use Rattle.std.proofs.Common.{codes}
 use Rattle.std.specs.Fmt.{decimal}
-use Rattle.stream_inspection.proofs.Pieces.{number_then}
+use Rattle.text_line.proofs.Pieces.{number_then}
 use Rattle.stream_inspection.proofs.headings.stream_heading.Goals as goal
 
 pub returns-clause-text : goal.returns-clause-text
