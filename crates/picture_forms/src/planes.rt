@@ -43,7 +43,8 @@ pub struct Stride {
     pub step: usize,
 }
 
-/// Spells samples of a plane, `count` from the `start`-th on, into `octets`, which have just the room.
+/// Spells samples of a plane, `count` from the `start`-th on, into `octets`, which have just the
+/// room.
 pub fn spell(
     spelling: Spelling,
     samples: &[u16],

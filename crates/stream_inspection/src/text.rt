@@ -11,8 +11,8 @@ use arrayvec::ArrayString;
 use std::alloc::{AllocError, Allocator};
 use text_line::add;
 
-/// Room for any line, in octets: a window of sixteen timestamps as JSON is given 370 of them, and no
-/// line is given more.
+/// Room for any line, in octets: a window of sixteen timestamps as JSON is given 370 of them, and
+/// no line is given more.
 pub(crate) const LINE: usize = 512;
 
 /// How rows are told.
