@@ -24,8 +24,7 @@ use crate::reception::Reception;
 use crate::seen::Seen;
 use flow::Flows;
 use path_receiver::{Receiver, Tally};
-use receiver_file::save_receiver;
-use run_outcome::{Fault, Line, Refusal, of_state, print, print_frames, room};
+use run_outcome::{Fault, Line, Refusal, print, print_frames, room, save_state};
 use st_format::{ByteSink, ByteSource};
 use std::alloc::Allocator;
 
@@ -131,7 +130,7 @@ fn put_out<A: Allocator, K: ByteSink, O: ByteSink>(
         ∷ counts (O.failures output.old) (O.failures output.new) ∷ []) }
 {
     print_intake(&intake, tells_refusals, output)?;
-    save(&intake.receiver, state)?;
+    save_state(&intake.receiver, state)?;
     *reception = Some(Reception {
         delivered: intake.delivered,
         tally: intake.tally,
@@ -211,20 +210,6 @@ fn rescue_files<A: Allocator + Copy, S: ByteSource>(
             Some(intake) => Ok(Rescue::Part(intake, fault)),
             None => Err(fault),
         },
-    }
-}
-
-fn save<A: Allocator, K: ByteSink>(receiver: &Receiver<A>, state: &mut K) -> Result<(), Fault>
-    ensures whole { OnOk result
-        (K.took state.new ≡ K.took state.old ++ state_text (kept_of receiver.now)) }
-    ensures writable { IsWritable receiver.now }
-    ensures refused { IfErr result (λ f. IfRefused f (state.new ≡ state.old)) }
-    ensures unrefused { IfErr result (λ f. IfRefused f ⊥) }
-    ensures failures { Accounts result (counts (K.failures state.old) (K.failures state.new) ∷ []) }
-{
-    match save_receiver(state, receiver) {
-        Ok(()) => Ok(()),
-        Err(fault) => Err(of_state(fault)),
     }
 }
 

@@ -8,9 +8,9 @@ ghost use Rattle.receiver_engines.specs.MergeRefused.{IsMergeRefusal};
 ghost use Rattle.run_outcome.specs.Refusing.{OfRefusal};
 
 use crate::merging_all::join;
-use crate::states::{read_receiver, save};
+use crate::states::read_receiver;
 use path_receiver::Receiver;
-use run_outcome::{Fault, print_frames};
+use run_outcome::{Fault, print_frames, save_state};
 use st_format::{ByteSink, ByteSource};
 use std::alloc::Allocator;
 
@@ -62,7 +62,7 @@ where
 {
     let merged = merge_both(alloc, left, right)?;
     print_frames(&merged, output)?;
-    save(&merged, state)
+    save_state(&merged, state)
 }
 
 /// Reads two receivers, and merges the second into the first.

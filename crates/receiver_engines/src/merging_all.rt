@@ -12,9 +12,9 @@ ghost use Rattle.receiver_engines.specs.MergedAll.{JoinsAll, JoinsEach, JoinsOne
 ghost use Rattle.receiver_engines.specs.MergedAll.{PrintsAll};
 ghost use Rattle.receiver_engines.specs.Merging.{Saves, SavesPart};
 
-use crate::states::{read_receiver, save};
+use crate::states::read_receiver;
 use path_receiver::Receiver;
-use run_outcome::{Fault, Refusal, print_frames};
+use run_outcome::{Fault, Refusal, print_frames, save_state};
 use st_format::{ByteSink, ByteSource};
 use std::alloc::Allocator;
 
@@ -66,7 +66,7 @@ where
 {
     let merged = join_all(alloc, first, others)?;
     print_frames(&merged, output)?;
-    save(&merged, state)
+    save_state(&merged, state)
 }
 
 /// Reads a receiver, and merges others into it.

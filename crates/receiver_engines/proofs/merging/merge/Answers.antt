@@ -1,6 +1,6 @@
 use Rattle.std.proofs.Common.{◌≡◌, ◌++◌, inr}
 use Rattle.media_file.specs.StateFile.{state_text}
-use Rattle.receiver_engines.specs.Merging.{MergesFiles, PrintsMerged, SavesPart}
+use Rattle.receiver_engines.specs.Merging.{MergesFiles, PrintsMerged, Saves, SavesPart}
 use Rattle.receiver_file.specs.Saved.{kept_of}
 use Rattle.run_outcome.proofs.Printed.{on_err, on_ok}
 use Rattle.st_format.specs.Device.{GrowsPart}
@@ -19,10 +19,10 @@ returns-clause-merged g c =
     IsRead (g.R.ByteSource.gave c.args.right.now) (g.R.ByteSource.gave two)
     (g.R.ByteSource.ended two) in
     let old = g.K.ByteSink.took c.args.state.now in
-    let new = g.K.ByteSink.took c.save.new.state in
+    let new = g.K.ByteSink.took c.save_state.new.state in
     let m = c.in_ok-merged.merged in
-    on_ok c.save.result (new ≡ old ++ state_text (kept_of m)) (MergesFiles left right old new)
-    (merges left right old new m c.in_ok-merged.ensures.joined) c.save.ensures.whole
+    on_ok c.save_state.result (new ≡ old ++ state_text (kept_of m)) (MergesFiles left right old new)
+    (merges left right old new m c.in_ok-merged.ensures.joined) c.save_state.ensures.whole
 
 pub returns-clause-printed : goal.returns-clause-printed
 returns-clause-printed g c =
@@ -37,17 +37,29 @@ returns-clause-printed g c =
     let old = g.O.ByteSink.took c.args.output.now in
     let new = g.O.ByteSink.took c.print_frames.new.output in
     let m = c.in_ok-merged.merged in
-    on_ok c.save.result
-    (g.K.ByteSink.took c.save.new.state
+    on_ok c.save_state.result
+    (g.K.ByteSink.took c.save_state.new.state
     ≡ g.K.ByteSink.took c.args.state.now ++ state_text (kept_of m))
     (PrintsMerged left right old new)
     (λ saved. prints left right old new m c.in_ok-merged.ensures.joined
-    c.in_ok-print_frames.ensures.printed) c.save.ensures.whole
+    c.in_ok-print_frames.ensures.printed) c.save_state.ensures.whole
 
 pub returns-clause-part : goal.returns-clause-part
 returns-clause-part g c =
     let old = g.K.ByteSink.took c.args.state.now in
-    let new = g.K.ByteSink.took c.save.new.state in
+    let new = g.K.ByteSink.took c.save_state.new.state in
     let m = c.in_ok-merged.merged in
-    on_err c.save.result (GrowsPart old new (state_text (kept_of m))) (SavesPart old new)
-    (λ part. inr (m, part)) c.save.ensures.part
+    on_err c.save_state.result (GrowsPart old new (state_text (kept_of m))) (SavesPart old new)
+    (λ part. inr (m, part)) c.save_state.ensures.part
+
+pub returns-clause-saved : goal.returns-clause-saved
+returns-clause-saved g c =
+    let old = g.K.ByteSink.took c.args.state.now in
+    let new = g.K.ByteSink.took c.save_state.new.state in
+    let m = c.in_ok-merged.merged in
+    on_ok c.save_state.result (new ≡ old ++ state_text (kept_of m)) (Saves old new)
+    (λ taken. record {
+      receiver = m;
+      writable = c.save_state.ensures.writable;
+      taken = taken;
+    }) c.save_state.ensures.whole

@@ -2,7 +2,7 @@ use Rattle.std.proofs.Common.{◌≡◌, ◌++◌, inr}
 use Rattle.std.specs.List.{zip}
 use Rattle.media_file.specs.StateFile.{state_text}
 use Rattle.receiver_engines.specs.MergedAll.{MergesAll, PrintsAll}
-use Rattle.receiver_engines.specs.Merging.{SavesPart}
+use Rattle.receiver_engines.specs.Merging.{Saves, SavesPart}
 use Rattle.receiver_file.specs.Saved.{kept_of}
 use Rattle.run_outcome.proofs.Printed.{on_err, on_ok}
 use Rattle.run_outcome.specs.Moments.{WasRead}
@@ -20,10 +20,10 @@ returns-clause-merged g c =
     let told = WasRead g.S.ByteSource.gave g.S.ByteSource.ended in
     let others = zip c.args.others.now c.join_all.new.others in
     let old = g.K.ByteSink.took c.args.state.now in
-    let new = g.K.ByteSink.took c.save.new.state in
+    let new = g.K.ByteSink.took c.save_state.new.state in
     let m = c.in_ok-merged.merged in
-    on_ok c.save.result (new ≡ old ++ state_text (kept_of m)) (MergesAll first told others old new)
-    (merges_all first told others old new m c.in_ok-merged.ensures.joined) c.save.ensures.whole
+    on_ok c.save_state.result (new ≡ old ++ state_text (kept_of m)) (MergesAll first told others old new)
+    (merges_all first told others old new m c.in_ok-merged.ensures.joined) c.save_state.ensures.whole
 
 pub returns-clause-printed : goal.returns-clause-printed
 returns-clause-printed g c =
@@ -36,17 +36,29 @@ returns-clause-printed g c =
     let old = g.O.ByteSink.took c.args.output.now in
     let new = g.O.ByteSink.took c.print_frames.new.output in
     let m = c.in_ok-merged.merged in
-    on_ok c.save.result
-    (g.K.ByteSink.took c.save.new.state
+    on_ok c.save_state.result
+    (g.K.ByteSink.took c.save_state.new.state
     ≡ g.K.ByteSink.took c.args.state.now ++ state_text (kept_of m))
     (PrintsAll first told others old new)
     (λ saved. prints_all first told others old new m c.in_ok-merged.ensures.joined
-    c.in_ok-print_frames.ensures.printed) c.save.ensures.whole
+    c.in_ok-print_frames.ensures.printed) c.save_state.ensures.whole
 
 pub returns-clause-part : goal.returns-clause-part
 returns-clause-part g c =
     let old = g.K.ByteSink.took c.args.state.now in
-    let new = g.K.ByteSink.took c.save.new.state in
+    let new = g.K.ByteSink.took c.save_state.new.state in
     let m = c.in_ok-merged.merged in
-    on_err c.save.result (GrowsPart old new (state_text (kept_of m))) (SavesPart old new)
-    (λ part. inr (m, part)) c.save.ensures.part
+    on_err c.save_state.result (GrowsPart old new (state_text (kept_of m))) (SavesPart old new)
+    (λ part. inr (m, part)) c.save_state.ensures.part
+
+pub returns-clause-saved : goal.returns-clause-saved
+returns-clause-saved g c =
+    let old = g.K.ByteSink.took c.args.state.now in
+    let new = g.K.ByteSink.took c.save_state.new.state in
+    let m = c.in_ok-merged.merged in
+    on_ok c.save_state.result (new ≡ old ++ state_text (kept_of m)) (Saves old new)
+    (λ taken. record {
+      receiver = m;
+      writable = c.save_state.ensures.writable;
+      taken = taken;
+    }) c.save_state.ensures.whole
