@@ -17,12 +17,12 @@ use receiver_engines::read_fill;
 use run_outcome::{Fault, Refusal, Writer};
 
 /// The file of this name, where one is named, which isn't looked at yet. A part of it is of use,
-/// and stays.
+/// and stays; a pipe gets each frame at once.
 pub(crate) fn named_output<'a>(rt: &'a HostRuntime, name: Option<&'a str>) -> Option<FileOutput<'a>>
     ensures { IfSome result (λ f. (file_took f ≡ []) × IsUnplaced f) }
 {
     match name {
-        Some(name) => Some(FileOutput::new(rt, name, Rest::Stays)),
+        Some(name) => Some(FileOutput::new(rt, name, Rest::Stays).at_once()),
         None => None,
     }
 }

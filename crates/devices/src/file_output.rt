@@ -76,6 +76,20 @@ impl<'a> FileOutput<'a> {
         }
     }
 
+    /// The same, of which a device or a pipe gets each write at once, as what is shown while it
+    /// comes.
+    pub fn at_once(self) -> Self
+        ensures named { written_name result ≡ written_name self.entry }
+        ensures failures { writing_failures result ≡ writing_failures self.entry }
+        ensures took { file_took result ≡ file_took self.entry }
+        ensures unplaced { IsUnplaced self.entry → IsUnplaced result }
+        ensures rest { result.rest ≡ self.entry.rest }
+    {
+        let mut output = self;
+        output.sink.hold_nothing();
+        output
+    }
+
     /// Which plain file stands there, if one does.
     pub fn identity(&self) -> Option<Identity> {
         match self.sink.name() {

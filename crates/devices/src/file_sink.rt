@@ -24,6 +24,8 @@ pub struct FileSink<'a> {
     /// What stands there, once that is looked at.
     place: Option<Place<Global>>,
     pub(crate) progress: Progress<'a>,
+    /// How many octets wait until they go on together, where they go to a device or a pipe.
+    buffer: usize,
     failures: u64,
     /// Why it failed last, where the system said so.
     fault: Option<io::Error>,
@@ -54,9 +56,20 @@ impl<'a> FileSink<'a> {
             name,
             place: None,
             progress: Progress::Front,
+            buffer: BUFFER,
             failures: 0,
             fault: None,
         }
+    }
+
+    /// From its first octet on each write goes to a device or a pipe at once.
+    pub(crate) fn hold_nothing(&mut self)
+        ensures named { self.new.name.now ≡ self.old.name.now }
+        ensures failures { ⟦<FileSink<'a> as ByteSink>⟧.failures self.new
+            ≡ ⟦<FileSink<'a> as ByteSink>⟧.failures self.old }
+        ensures progress { self.new.progress ≡ self.old.progress }
+    {
+        self.buffer = 0;
     }
 
     /// Looks at the place where the file is to stand, of which nothing is changed. One that can't
@@ -120,7 +133,7 @@ impl<'a> FileSink<'a> {
             }
             Place::Direct => {
                 let stream = Noted::new(Stream::open(self.rt, self.name)?);
-                let writer = BufWriter::with_capacity(self.rt.alloc(), BUFFER, stream)?;
+                let writer = BufWriter::with_capacity(self.rt.alloc(), self.buffer, stream)?;
                 Ok(Progress::Direct(writer))
             }
         }
