@@ -373,6 +373,34 @@ done
 rm -f followed.y4m
 follows 'what was sent, exchanged' "$frames" --out followed.y4m lossy-b.cap lossy-a.cap
 alike 'follow: what was sent, exchanged, the file' followed.y4m sent.y4m
+# A picture goes into a pipe whole as its frame leaves: what stands behind the first record of the second is written only when
+# the first was read, or given up after 20 seconds.
+stream_head=$(head -n 1 sent.y4m | wc -c)
+one_picture=$((stream_head + ($(wc -c <sent.y4m) - stream_head) / 3))
+mkfifo go
+{
+    head -c $((front + 5 * 35)) sent-a.cap
+    read -r _ <go
+    tail -c +$((front + 5 * 35 + 1)) sent-a.cap
+} | {
+    "$program" follow --eager --out - - 2>err
+    echo $? >status
+} | {
+    timeout 20 head -c "$one_picture" >first.y4m
+    echo >go
+    cat >rest.y4m
+}
+rm go
+: >out
+status=$(cat status)
+says 'follow: pictures as they come' 0 '' 'frame 900 present 16 missing 0 contested 0 late 0
+frame 2400 present 16 missing 0 contested 0 late 0
+frame 3900 present 16 missing 0 contested 0 late 0
+frames 3 kept 12 late 0 far 0 refused 0'
+head -c "$one_picture" sent.y4m >want.y4m
+alike 'follow: pictures as they come, the first' first.y4m want.y4m
+tail -c +$((one_picture + 1)) sent.y4m >want.y4m
+alike 'follow: pictures as they come, the others' rest.y4m want.y4m
 # Each picture as a file of its own is the one that was sent; and so of forty, each three times the same.
 mkdir filed
 follows 'what was sent, as files' "$frames" --pictures filed lossy-a.cap lossy-b.cap

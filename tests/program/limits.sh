@@ -77,4 +77,24 @@ $frame" ''
 head -c 65553 kept.cap >cut.cap
 run receive --state none.rcv --sdp q.sdp --window 900 cut.cap
 says 'a record of 65,535 octets, cut' 1 '' 'st2110: capture 5 Truncated'
-rm -f in line refused.cap kept.cap
+
+# The greatest picture, of 134,217,728 samples.
+printf 'format %s\nopen 96 any 900\nA %s\n' 'YCbCr-4:2:2 8 8192 8192 60/1' "$d1" >in
+limit trace 'a picture of 8192 by 8192' 0 'kept 1
+frame 900 present 8 missing 134217720 contested 0' ''
+
+# More datagrams than a number of 16 bits has values: 131,072, of a picture's two, which make what the two do.
+octets "$record_a" "$d1" "$record_b" "$d2" >many.rec
+i=0
+while [ $i -lt 16 ]; do
+    cat many.rec many.rec >twice.rec
+    mv twice.rec many.rec
+    i=$((i + 1))
+done
+{ octets 5332304341503031; cat many.rec; } >many.cap
+run receive --state many.rcv --sdp q.sdp --window 900 many.cap
+says '131,072 datagrams' 0 "delivered 131072
+$whole" ''
+run receive --state two.rcv --sdp q.sdp --window 900 old.cap second.cap
+alike '131,072 datagrams: the receiver' many.rcv two.rcv
+rm -f in line refused.cap kept.cap many.rec many.cap
