@@ -116,3 +116,14 @@ none 'picture: nothing is written where a file is not there' r.pic
 status=$?
 : >out
 says 'picture: a full output' 3 '' 'st2110: device'
+
+# The README's first page, of two cards' recording: by path A alone 6 of 18 rows of 32 columns are missing, and magenta.
+run receive --sdp "$recordings/two-cards.sdp" --a 5004 --window 900 --state a.rcv "$recordings/two-cards.pcapng"
+run picture --ts 900 --mark --out a.ppm a.rcv
+says 'the README: a picture with marks' 0 '' ''
+magenta=$(tail -c $((3 * 32 * 18)) a.ppm | od -An -v -tx1 -w3 | grep -n 'ff 00 ff' | cut -d : -f 1)
+if [ "$(head -n 2 a.ppm)" = "$(printf 'P6\n32 18')" ] && [ "$magenta" = "$(seq 193 288; seq 481 576)" ]; then
+    pass 'the README: the rows that are missing'
+else
+    fail 'the README: the rows that are missing' "$(head -n 2 a.ppm) and $magenta"
+fi
