@@ -5,6 +5,7 @@ ghost use Rattle.st_format.specs.History.{IsRead};
 ghost use Rattle.st_format.specs.declared.path.Path.{Path as By};
 ghost use Rattle.run_outcome.specs.Fault.{Accounts, IfRefused, counts};
 ghost use Rattle.run_outcome.specs.Refusing.{OfRefusal};
+ghost use Rattle.run_outcome.specs.declared.fault.Fault.TheVariants.{Device};
 ghost use Rattle.packet_plan.specs.Plan.{IsFullPlan, packet_at};
 ghost use Rattle.packet_plan.specs.Text.{datagram_text, datagram_texts};
 ghost use Rattle.path_receiver.specs.Frames.{Holds};
@@ -134,6 +135,8 @@ fn pass<A: Allocator, L: DatagramLink>(
         ≤ L.DatagramSource.delivered link.old + limit }
     ensures opening { receiver.new.opening ≡ receiver.old.opening }
     ensures unrefused { IfErr result (λ f. IfRefused f ⊥) }
+    // No memory is asked for.
+    ensures device { IfErr result (λ f. f ≡ Device) }
     ensures failures { Accounts result
         (counts (L.DatagramSink.failures link.old) (L.DatagramSink.failures link.new) ∷ []) }
 {
@@ -179,6 +182,8 @@ fn pass_one<A: Allocator, L: DatagramLink>(
         ≤ L.DatagramSource.delivered link.old + 1 }
     ensures opening { receiver.new.opening ≡ receiver.old.opening }
     ensures unrefused { IfErr result (λ f. IfRefused f ⊥) }
+    // No memory is asked for.
+    ensures device { IfErr result (λ f. f ≡ Device) }
     ensures failures { Accounts result
         (counts (L.DatagramSink.failures link.old) (L.DatagramSink.failures link.new) ∷ []) }
 {

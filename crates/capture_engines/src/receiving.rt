@@ -83,10 +83,11 @@ pub fn check_words<A: Allocator + Copy>(alloc: A, wanted: Wanted<'_>) -> Result<
 ///
 /// # Errors
 ///
-/// A refusal where a word, the SDP, the opening or a capture is refused, before anything is written
-/// to `state`; and else that a device failed or memory was wanted. The refusal is the first in this
-/// order: of the window; of the source; of the SDP; of each capture, one after the other, of its
-/// front, then, where no SDP is given, of opening by the first one's text, and of its records.
+/// A refusal where a word, the SDP, the opening or a capture is refused, before anything is printed
+/// or written to `state`; and else that a device failed or memory was wanted. The refusal is the
+/// first in this order: of the window; of the source; of the SDP; of each capture, one after the
+/// other, of its front, then, where no SDP is given, of opening by the first one's text, and of its
+/// records.
 pub fn receive<A, S, K, O>(
     alloc: A,
     wanted: Wanted<'_>,
@@ -109,6 +110,8 @@ where
         wanted.entry.tells_refusals
         (O.took output.old) (O.took output.new) (K.took state.old) (K.took state.new)) }
     ensures refused { IfErr result (λ f. IfRefused f (state.new ≡ state.old)) }
+    // A refusal comes before anything is printed.
+    ensures quiet { IfErr result (λ f. IfRefused f (output.new ≡ output.old)) }
     ensures refusal { IfErr result (λ f. OfRefusal f (IsReceiveRefusal wanted.entry.window.now
         wanted.entry.ssrc.now (pair sdp.old sdp.new) (WasRead S.gave S.ended)
         (zip captures.old captures.new))) }

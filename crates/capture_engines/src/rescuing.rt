@@ -87,6 +87,8 @@ where
         (O.took output.old) (O.took output.new) (K.took state.old) (K.took state.new) r)) }
     ensures refused { IfErr result (λ f. IfRefused f (IsFalse is_sound
         → state.new ≡ state.old)) }
+    ensures quiet { IfErr result (λ f. IfRefused f (IsFalse is_sound
+        → output.new ≡ output.old)) }
     ensures refusal { IfErr result (λ f. OfRefusal f (IsReceivingRefusal wanted.entry.window.now
         wanted.entry.ssrc.now (option_copied sdp.entry) ways.now (WasRead S.gave S.ended)
         (zip files.old files.new))) }
@@ -125,6 +127,7 @@ fn put_out<A: Allocator, K: ByteSink, O: ByteSink>(
         ≡ Some (record { delivered = intake.delivered; tally = intake.tally })) }
     ensures none { OnErr result (reception.new ≡ reception.old) }
     ensures refused { IfErr result (λ f. IfRefused f (state.new ≡ state.old)) }
+    ensures quiet { IfErr result (λ f. IfRefused f (output.new ≡ output.old)) }
     ensures unrefused { IfErr result (λ f. IfRefused f ⊥) }
     ensures failures { Accounts result (counts (K.failures state.old) (K.failures state.new)
         ∷ counts (O.failures output.old) (O.failures output.new) ∷ []) }

@@ -1,8 +1,9 @@
 //! Sending pictures into a capture.
-ghost use Rattle.std.specs.Prelude.{◌≡◌, ◌≤◌, ◌∷◌, [], false, length, IfErr, OnOk};
+ghost use Rattle.std.specs.Prelude.{◌≡◌, ◌≤◌, ◌⊎◌, ◌∷◌, [], false, length, IfErr, OnOk};
 ghost use Rattle.packet_plan.specs.Sender.{stamp_of};
 ghost use Rattle.run_outcome.specs.Fault.{Accounts, counts};
 ghost use Rattle.run_outcome.specs.Refusing.{OfRefusal};
+ghost use Rattle.run_outcome.specs.declared.fault.Fault.TheVariants.{Device, Refused};
 ghost use Rattle.run_outcome.specs.declared.refusal.Refusal.TheVariants.{SendFormats};
 
 use media_file::{CaptureWriter, Paths};
@@ -80,6 +81,8 @@ impl<A: Allocator, K: ByteSink> Sender<A, K> {
         ensures refusal { IfErr result (λ f. OfRefusal f
             (λ r. (r ≡ SendFormats)
             × ((R.values picture.now).format ≡ self.old.plan.format → ⊥))) }
+        // No memory is asked for.
+        ensures others { IfErr result (λ f. (f ≡ Refused SendFormats) ⊎ (f ≡ Device)) }
         ensures failures { Accounts result (counts (K.failures self.old.writer.sink)
             (K.failures self.new.writer.sink) ∷ []) }
         ensures names { K.names self.new.writer.sink ≡ K.names self.old.writer.sink }

@@ -7,6 +7,7 @@ ghost use Rattle.packet_plan.specs.Plan.{IsSize};
 ghost use Rattle.run_outcome.specs.Moments.{WasRead};
 ghost use Rattle.run_outcome.specs.Fault.{Accounts, IfRefused, counts, failures_in};
 ghost use Rattle.run_outcome.specs.Refusing.{OfRefusal};
+ghost use Rattle.run_outcome.specs.declared.fault.Fault.TheVariants.{Refused};
 ghost use Rattle.run_outcome.specs.declared.refusal.Refusal.TheVariants.{SendPictures};
 ghost use Rattle.capture_engines.specs.Sent.{FirstIs, FirstSays, IsSaidRefusal, IsPicturesRefusal};
 ghost use Rattle.capture_engines.specs.Sent.{IsRestRefusal, IsSendRefusal};
@@ -87,6 +88,8 @@ pub fn check_pictures(pictures: usize) -> Result<(), Fault>
     ensures few { OnOk result (pictures ≤ 10000) }
     ensures refusal { IfErr result (λ f. OfRefusal f
         (λ r. (r ≡ SendPictures) × (10000 < pictures))) }
+    // No memory is asked for.
+    ensures only { IfErr result (λ f. f ≡ Refused SendPictures) }
     ensures failures { Accounts result [] }
 {
     if pictures > PICTURES {

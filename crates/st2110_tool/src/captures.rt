@@ -91,7 +91,7 @@ where
 ///
 /// The status is 0; or 1 where a word, the SDP, the opening or a capture is refused, 3 where a
 /// device failed, and 4 where the allocator refused memory, which `faults` is told by one line.
-/// Nothing is written to `state` where the status is 1.
+/// Nothing is printed or written to `state` where the status is 1.
 pub fn run_receive<A, S, K, O, F>(
     alloc: A,
     wanted: Wanted<'_>,
@@ -125,6 +125,7 @@ where
         wanted.entry.tells_refusals
         (O.took output.old) (O.took output.new) (K.took state.old) (K.took state.new) }
     ensures refused { result ≡ 1 → state.new ≡ state.old }
+    ensures quiet { result ≡ 1 → output.new ≡ output.old }
     // At status 1 a refusal of the words or the files was told by its line.
     ensures told { result ≡ 1
         → TellsRefusal (IsReceiveRefusal wanted.entry.window.now wanted.entry.ssrc.now

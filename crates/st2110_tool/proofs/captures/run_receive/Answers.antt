@@ -39,6 +39,11 @@ returns-clause-refused g c =
     let run = c.receive-outcome in
     λ is. on_refused run.result _ (c.end.ensures.refused is) run.ensures.refused
 
+pub returns-clause-quiet : goal.returns-clause-quiet
+returns-clause-quiet g c =
+    let run = c.receive-outcome in
+    λ is. on_refused run.result _ (c.end.ensures.refused is) run.ensures.quiet
+
 pub returns-clause-told : goal.returns-clause-told
 returns-clause-told g c =
     let run = c.receive-outcome in
