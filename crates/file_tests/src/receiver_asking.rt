@@ -175,7 +175,12 @@ fn is_mixed(format: &Format, octets: &[u8], mask: u16) -> bool
 }
 
 /// A source of octets that gives at most `piece` a call, and fails where a call reaches an octet.
-fn asked(alloc: Global, octets: &[u8], piece: usize, refused: usize) -> Result<Asked, AllocError> {
+fn source_of(
+    alloc: Global,
+    octets: &[u8],
+    piece: usize,
+    refused: usize,
+) -> Result<Asked, AllocError> {
     Ok(Asked {
         inner: MemorySource::new(Vec::from_slice(alloc, octets)?, piece.max(1), 0),
         refused,
@@ -187,7 +192,7 @@ fn asked(alloc: Global, octets: &[u8], piece: usize, refused: usize) -> Result<A
 }
 
 /// A reading's fault, and what it asked of the source.
-fn outcome(fault: Option<FileFault>, asked: &Asked) -> Outcome {
+fn came_to(fault: Option<FileFault>, asked: &Asked) -> Outcome {
     Outcome {
         fault,
         at: asked.at,
@@ -204,9 +209,9 @@ fn read_before(
     piece: usize,
     refused: usize,
 ) -> Result<Outcome, AllocError> {
-    let mut asked = asked(alloc, octets, piece, refused)?;
+    let mut asked = source_of(alloc, octets, piece, refused)?;
     let fault = read_singly(&mut asked).err();
-    Ok(outcome(fault, &asked))
+    Ok(came_to(fault, &asked))
 }
 
 /// What it comes to now, of a source that lends nothing.
@@ -216,9 +221,9 @@ fn read_now(
     piece: usize,
     refused: usize,
 ) -> Result<Outcome, AllocError> {
-    let mut asked = asked(alloc, octets, piece, refused)?;
+    let mut asked = source_of(alloc, octets, piece, refused)?;
     let fault = load_receiver(alloc, &mut asked).err();
-    Ok(outcome(fault, &asked))
+    Ok(came_to(fault, &asked))
 }
 
 /// What it comes to now, of one that lends what it holds, which is nothing from the refused octet
@@ -231,10 +236,10 @@ fn read_lent(
 ) -> Result<Outcome, AllocError> {
     let held = &octets[..refused.min(octets.len())];
     let mut lending = Lending {
-        asked: asked(alloc, held, piece, refused)?,
+        asked: source_of(alloc, held, piece, refused)?,
     };
     let fault = load_receiver(alloc, &mut lending).err();
-    Ok(outcome(fault, &lending.asked))
+    Ok(came_to(fault, &lending.asked))
 }
 
 /// Whether octets are read as they were, where each call is refused that reaches an octet.
