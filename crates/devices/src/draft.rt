@@ -24,7 +24,7 @@ const FRONT: usize = 240;
 
 /// A file that is written under a name of its own.
 #[derive(Drop)]
-pub(crate) struct Draft<'a, R: Files + Alloc> {
+pub struct Draft<'a, R: Files + Alloc> {
     files: &'a R,
     /// The name that it has until it takes the other.
     name: PathBuf<R::A>,
@@ -37,14 +37,14 @@ pub(crate) struct Draft<'a, R: Files + Alloc> {
 
 /// A draft that could not take its name, and why.
 #[derive(Drop)]
-pub(crate) struct Unplaced<'a, R: Files + Alloc> {
+pub struct Unplaced<'a, R: Files + Alloc> {
     pub draft: Draft<'a, R>,
     pub fault: io::Error,
 }
 
 impl<'a, R: Files + Alloc> Draft<'a, R> {
     /// Makes a file beside this one, under a name that none has.
-    pub(crate) fn begin(
+    pub fn begin(
         files: &'a R,
         target: PathBuf<R::A>,
         replaced: Option<Metadata>,
@@ -68,7 +68,7 @@ impl<'a, R: Files + Alloc> Draft<'a, R> {
     }
 
     /// Writes octets behind those that it took, and answers how many.
-    pub(crate) fn write(&mut self, octets: &[u8]) -> io::Result<usize>
+    pub fn write(&mut self, octets: &[u8]) -> io::Result<usize>
         ensures within { IfOk result (λ n. n ≤ length octets.now) }
         ensures took { IfOk result
             (λ n. draft_took self.new ≡ draft_took self.old ++ take n octets.now) }
@@ -78,7 +78,7 @@ impl<'a, R: Files + Alloc> Draft<'a, R> {
     }
 
     /// Gives it the name, once all that it took is written out.
-    pub(crate) fn put_in_place(self) -> Result<History, Unplaced<'a, R>>
+    pub fn put_in_place(self) -> Result<History, Unplaced<'a, R>>
         ensures placed { IfOk result (λ file. file.octets ≡ draft_took self.entry) }
         ensures kept { IfErr result (λ it. draft_took it.draft ≡ draft_took self.entry) }
     {
@@ -129,7 +129,7 @@ impl<'a, R: Files + Alloc> Draft<'a, R> {
     }
 
     /// Removes it, as far as that goes.
-    pub(crate) fn remove(&self) {
+    pub fn remove(&self) {
         let _ = fs::remove_file(self.files, &self.name);
     }
 

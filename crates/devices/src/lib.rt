@@ -4,13 +4,9 @@
 //! failed, and a meter how far the reading of files is.
 #![tactic(auto)]
 
-#[cfg(test)]
-mod directories;
 mod directory_output;
 mod discard;
 mod draft;
-#[cfg(test)]
-mod failing;
 mod file_output;
 mod file_sink;
 mod file_source;
@@ -24,14 +20,13 @@ mod meter;
 mod noted;
 mod output;
 mod pace;
-#[cfg(test)]
-mod paces;
 mod place;
 mod standing;
 mod stream;
 
 pub use directory_output::{DirectoryOutput, NextFile};
 pub use discard::Discard;
+pub use draft::{Draft, Unplaced};
 pub use file_output::{FileOutput, Rest};
 pub use file_sink::FileSink;
 pub use file_source::FileSource;
@@ -46,5 +41,7 @@ pub use input::InputSource;
 pub use link::{UdpLink, unbound};
 pub use meter::Meter;
 pub use output::OutputSink;
+pub use pace::Pace;
+pub use place::{Place, find_place};
 pub use standing::{Reading, Writing};
 pub use stream::Stream;

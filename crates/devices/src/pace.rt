@@ -3,13 +3,13 @@ use std::fmt;
 
 /// How much was read, and in what time.
 #[derive(Clone, Copy)]
-pub(crate) struct Pace {
+pub struct Pace {
     /// How many octets were read.
-    pub(crate) done: u64,
+    pub done: u64,
     /// How many there are to read, where that is known.
-    pub(crate) total: Option<u64>,
+    pub total: Option<u64>,
     /// How many milliseconds that took so far.
-    pub(crate) millis: u64,
+    pub millis: u64,
 }
 
 impl Pace {

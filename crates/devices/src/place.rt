@@ -11,7 +11,7 @@ const LINKS: u32 = 40;
 
 /// Where a file is to be written.
 #[derive(Drop)]
-pub(crate) enum Place<A: Allocator> {
+pub enum Place<A: Allocator> {
     /// Nothing stands there, or a plain file, which is to be replaced.
     Plain {
         target: PathBuf<A>,
@@ -24,7 +24,7 @@ pub(crate) enum Place<A: Allocator> {
 /// Finds out what stands there, following links. A place that can't be written to is a fault, also
 /// a file that itself may not be written, though one could be put in its place. Of what stands
 /// there nothing is changed.
-pub(crate) fn find_place<R: Files + Alloc>(files: &R, name: &str) -> io::Result<Place<R::A>> {
+pub fn find_place<R: Files + Alloc>(files: &R, name: &str) -> io::Result<Place<R::A>> {
     if is_stream(name) {
         return Ok(Place::Direct);
     }

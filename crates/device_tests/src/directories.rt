@@ -1,5 +1,5 @@
 //! Tests: files in a directory, each under its name once it is whole.
-use crate::directory_output::DirectoryOutput;
+use devices::DirectoryOutput;
 use st_format::{ByteSink, write_whole};
 use std::{fs, io};
 

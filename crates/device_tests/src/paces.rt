@@ -1,5 +1,5 @@
 //! Tests: the line of how far a reading is.
-use crate::pace::Pace;
+use devices::Pace;
 use std::io;
 
 #[test]

@@ -1,6 +1,5 @@
 //! Tests: files of which one call fails, and what stands under a name then.
-use crate::draft::Draft;
-use crate::place::{Place, find_place};
+use devices::{Draft, Place, find_place};
 use std::alloc::{Allocator, Global};
 use std::cell::Cell;
 use std::fs::{self, File, Files, Metadata, OpenFile, OpenOptions, Permissions};
