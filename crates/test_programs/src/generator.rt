@@ -34,26 +34,6 @@ impl Generator {
         self.below(draws) == 0
     }
 
-    /// A number below a limit once in so many draws, and else `sound`.
-    pub fn one_of(&mut self, draws: u32, limit: u32, sound: u32) -> u32 {
-        if self.one_in(draws) {
-            self.below(limit)
-        } else {
-            sound
-        }
-    }
-
-    /// One of these numbers, each as likely; 0 where there is none.
-    pub fn pick(&mut self, numbers: &[u32]) -> u32 {
-        let place = self.size(numbers.len());
-        numbers.get(place).copied().unwrap_or(0)
-    }
-
-    /// A number of 32 bits.
-    pub fn any(&mut self) -> u32 {
-        self.below(65536) << 16 | self.below(65536)
-    }
-
     /// Any octet, or one of the least and greatest.
     pub fn octet(&mut self) -> u8 {
         match self.below(8) {

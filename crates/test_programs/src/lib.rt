@@ -1,9 +1,6 @@
-//! What programs and tests share that try made input: numbers without order, and why a run can't go
-//! on.
+//! What tests share that try made input: numbers without order.
 #![tactic(auto)]
 
-mod fault;
 mod generator;
 
-pub use fault::Fault;
 pub use generator::Generator;
