@@ -510,6 +510,12 @@ status=$?
 says 'import: nothing is recorded of standard input and a file' 0 "recorded A 0 B 0 left out 22
 $read_once
 $(cat flows.said)" '  left out 22 of another flow'
+run import --sdp "$recordings/two-cards.sdp" --a 239.1.1.1:5006 --out - "$recordings/two-cards.pcapng"
+alike 'import: nothing is recorded to standard output: the capture' out none.cap
+: >out
+says 'import: nothing is recorded to standard output' 0 '' "recorded A 0 B 0 left out 16
+  left out 16 of another flow
+$(cat flows.said)"
 
 # import of standard input, words that are refused, and an SDP that is.
 "$program" import --sdp "$recordings/two-cards.sdp" --out piped.cap - <"$recordings/two-cards.pcapng" >out 2>err

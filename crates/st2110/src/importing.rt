@@ -48,7 +48,8 @@ fn record<'a>(
     ended.status
 }
 
-/// Tells the flows of those files that are recordings, and answers the exit status.
+/// Tells the flows of those files that are recordings, where the counts were told: on standard
+/// output, or where that is the capture on standard error. Answers the exit status.
 fn tell_flows(
     rt: &HostRuntime,
     words: &ImportWords<'_>,
@@ -58,7 +59,11 @@ fn tell_flows(
     let Ok(names) = recordings(rt, words, files) else {
         return end_without_memory(rt, explains);
     };
-    let stream = Stream::Output(rt.stdout());
+    let stream = if words.out == "-" {
+        Stream::Error(rt.stderr())
+    } else {
+        Stream::Output(rt.stdout())
+    };
     run_made(
         rt,
         explains,
