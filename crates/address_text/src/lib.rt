@@ -45,7 +45,7 @@ pub fn add_ip<const N: usize>(text: &mut ArrayString<N>, address: IpAddr)
     }
 }
 
-/// Adds an IPv4 address and its port.
+/// Adds an IPv4 address and its port, a colon between: at most 21 of the 64 octets.
 fn add_socket_v4<const N: usize>(text: &mut ArrayString<N>, address: SocketAddrV4)
     requires { array_string_len text.old + 64 ≤ N }
     ensures text { text.new.bytes ≡ text.old.bytes ++ socket_v4_text address }
@@ -78,7 +78,7 @@ fn add_scope<const N: usize>(text: &mut ArrayString<N>, scope: u32)
     }
 }
 
-/// Adds an IPv4 address.
+/// Adds an IPv4 address as four decimal numbers with dots between: at most 15 octets.
 pub(crate) fn add_ipv4<const N: usize>(text: &mut ArrayString<N>, address: Ipv4Addr)
     requires { array_string_len text.old + 15 ≤ N }
     ensures text { text.new.bytes ≡ text.old.bytes ++ ipv4_text (ipv4_octets address) }

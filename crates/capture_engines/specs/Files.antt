@@ -18,7 +18,7 @@ octets_of records = map (λ e. e.octets) records
 
 -- ---- how a file is taken
 
--- the flows by which a recording is
+-- the flows by which a recording is taken; none where it is refused, or taken as a capture
 abbrev pub flows_in : Way → Option Flows
 flows_in (way.Flows flows) = Some flows
 flows_in (way.Refused r) = None
@@ -55,7 +55,7 @@ HasFileText w octets text =
 
 -- ---- its datagrams
 
--- those of a capture
+-- those of a capture, up to its end or its first fault
 abbrev pub capture_datagrams : List ℕ → List (List ℕ)
 capture_datagrams octets = octets_of (capture_records octets)
 

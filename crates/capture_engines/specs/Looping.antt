@@ -35,7 +35,7 @@ pub record Came (turns delivered : ℕ) (before now : List (Path × List ℕ)) (
   pub few : delivered ≤ turns
   pub holds : Holds receiver (map (λ (d : Path × List ℕ). d.1) arrivals)
 
--- a line, with its end
+-- a line, and LF behind it
 abbrev pub ended_line : List ℕ → List ℕ
 ended_line line = line ++ 10 ∷ []
 

@@ -28,7 +28,7 @@ refusals_text refused outside =
     flat_map (λ e. counted_line (refused e) (RefusedCount e (refused e))) all_refusals
     ++ counted_line outside (OutsideCount outside)
 
--- the line of a refusal, by the counts of all
+-- the line of a refusal, where it came, by the counts of all refusals
 abbrev pub refusal_line : List ℕ → Refusal → List ℕ
 refusal_line counts e =
     counted_line (slice_index counts (slot_of e))
@@ -39,7 +39,7 @@ abbrev pub tally_text : Tally → List ℕ
 tally_text t = flat_map (refusal_line t.refused) all_refusals ++ counted_line t.outside
     (OutsideCount t.outside)
 
--- those of answers
+-- the same by the answers that were counted, each count up to 2^64 - 1
 abbrev pub answers_text : List (Result Taken Refusal) → List ℕ
 answers_text answers =
     refusals_text (λ e. capped (count_by (is_refusal e) answers))

@@ -43,7 +43,7 @@ abbrev pub IsBehindWindow : List ℕ → Refusal → Type 0
 IsBehindWindow window refusal.ReceiveSource = (ts : List ℕ) × AreTimestamps window ts
 IsBehindWindow window r = ⊤
 
--- the first refusal of the words
+-- the first refusal of the words: of the source only where the window lists timestamps
 abbrev pub IsFirstWordRefusal : List ℕ → List ℕ → Refusal → Type 0
 IsFirstWordRefusal window ssrc r = IsWordRefusal window ssrc r × IsBehindWindow window r
 
@@ -62,7 +62,7 @@ pub record Opens (window text : List ℕ) : Type 0 where
   pub sdp : IsSdp text
   pub is_window : IsWindow window
 
--- what is wrong with a window
+-- why a window isn't one: it has no timestamp, or more than 16; else one stands in it twice
 abbrev pub IsWindowFault : List ℕ → OpenFault → Type 0
 IsWindowFault window open_fault.BadWindow = IsWindowSize (length window) → ⊥
 IsWindowFault window open_fault.DoubleTimestamp =
@@ -81,7 +81,7 @@ IsGivenRefusal window told refusal.ReceiveSdp = GivesAbove 16777216 told
 IsGivenRefusal window told r = IsShortText told
     × ((octets : List ℕ) → told octets → IsOpeningRefusal window octets r)
 
--- a receiver is opened by it
+-- a receiver is opened by an SDP text that was read, and that isn't too long
 abbrev pub GivenOpens : List ℕ → (List ℕ → Type 0) → Type 0
 GivenOpens window told = IsShortText told
     × ((octets : List ℕ) → told octets → Opens window octets)

@@ -41,6 +41,6 @@ seen_by true (Some flows) records left = record {
 seen_by true None records left = no_file
 seen_by false flows records left = no_file
 
--- what a reader has seen of its file
+-- what a reader has seen of its file so far; of a capture nothing is told
 abbrev pub seen_of : {S : Type 0} → FileReader S → Seen
 seen_of r = seen_by r.is_recording r.flows r.records r.left_out

@@ -30,7 +30,7 @@ const STAMP: Stamp = Stamp {
 /// What `loop` is asked for, beside its picture.
 #[derive(Clone, Copy, Debug, PartialEq, Eq)]
 pub struct Looping {
-    /// The most octets of a packet.
+    /// The most octets of a packet, its RTP header among them: up to 9000.
     pub max_octets: u32,
     /// The most turns that are taken from the link.
     pub limit: u64,
@@ -98,7 +98,7 @@ where
     print_passed(passed, &receiver, output)
 }
 
-/// A receiver of the datagrams of a picture.
+/// A receiver of the one timestamp of `STAMP`, pinned to its source.
 fn open<A: Allocator + Copy>(alloc: A, picture: &Picture<A>) -> Result<Receiver<A>, Fault>
     ensures opening { IfOk result (λ r. r.opening ≡ loop_opening picture.now.format) }
     ensures holds { IfOk result (λ r. Holds r []) }

@@ -62,7 +62,7 @@ impl<A: Allocator> MemoryLink<A> {
         self.failures
     }
 
-    /// Whether this call is the one that fails.
+    /// Whether this call is the one that fails. Each call counts down to it.
     fn fails_now(&mut self) -> bool
         ensures puts { self.new.puts ≡ self.old.puts }
         ensures comings { self.new.comings ≡ self.old.comings }

@@ -31,7 +31,7 @@ use std::alloc::Allocator;
 /// What was taken of files.
 #[derive(Drop)]
 pub(crate) enum Rescue<A: Allocator> {
-    /// All.
+    /// Every file was taken to its end.
     Whole(Intake<A>),
     /// What was read up to a fault.
     Part(Intake<A>, Fault),
@@ -234,7 +234,7 @@ fn print_intake<A: Allocator, O: ByteSink>(
     print_frames(&intake.receiver, output)
 }
 
-/// Prints what a tally counts, where that is wanted.
+/// Prints a tally's lines, or nothing: refusals are told only where that is asked for.
 fn print_wanted<O: ByteSink>(tally: &Tally, is_wanted: bool, output: &mut O) -> Result<(), Fault>
     ensures printed { OnOk result
         (O.took output.new ≡ O.took output.old ++ if_wanted is_wanted (tally_text tally.now)) }

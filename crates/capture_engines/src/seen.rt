@@ -15,7 +15,7 @@ pub struct Seen {
     pub a: Option<bool>,
     /// The same of path B.
     pub b: Option<bool>,
-    /// The packets that were left out.
+    /// How many packets were left out, by the reason.
     pub left_out: LeftOut,
 }
 
@@ -31,7 +31,7 @@ impl Seen {
         }
     }
 
-    /// What a reader has seen of its file.
+    /// What a reader has seen of its file so far; of a capture nothing is told.
     pub fn of<A: Allocator, S: ByteSource>(reader: &DatagramReader<A, S>) -> Seen
         ensures { result ≡ seen_of reader.now }
     {

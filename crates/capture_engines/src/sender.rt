@@ -17,13 +17,13 @@ use std::alloc::Allocator;
 pub struct Sending {
     /// The payload type, at most 127.
     pub payload_type: u8,
-    /// The number of the first packet.
+    /// The number of the first packet; numbers run on modulo 2^32 (RFC 4175, 4.1).
     pub first: u32,
     /// The timestamp of the first picture, in ticks of a 90 kHz clock.
     pub base: u32,
     /// The synchronization source.
     pub ssrc: u32,
-    /// The most octets of a packet.
+    /// The most octets of a packet, its RTP header among them: up to 9000.
     pub max_octets: u32,
     /// The paths by which each packet goes.
     pub paths: Paths,

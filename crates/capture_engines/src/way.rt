@@ -18,9 +18,9 @@ use st_format::{ByteSource, read_whole};
 /// How a file is taken that begins as a recording of another tool.
 #[derive(Clone, Copy)]
 pub enum Way {
-    /// By the flows of the paths.
+    /// As a recording, by these flows of the paths.
     Flows(Flows),
-    /// It is refused so.
+    /// Not at all: this refusal ends the run.
     Refused(Refusal),
     /// As a capture, which has another name.
     Capture,
@@ -38,7 +38,7 @@ impl Way {
         }
     }
 
-    /// The flows, where there are any.
+    /// The flows; none where the file is refused, or taken as a capture.
     pub fn flows(self) -> Option<Flows>
         ensures { result ≡ flows_in self }
     {

@@ -69,11 +69,11 @@ IsSetRefusal target a b f r =
 
 -- ---- what was told
 
--- the form of each
+-- the form in which flows are told: lines, or objects of JSON
 abbrev pub flow_form : Bool → FlowForm
 flow_form is_json = if is_json then lines.Json else lines.Lines
 
--- the form in which streams are told
+-- the form in which streams are told: columns, or objects of JSON
 abbrev pub stream_form : Bool → StreamForm
 stream_form is_json = if is_json then columns.Json else columns.Columns
 

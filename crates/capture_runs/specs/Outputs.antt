@@ -94,7 +94,7 @@ IsReportOver None k = k ≡ None
 IsReportOver (Some f) None = ⊥
 IsReportOver (Some f) (Some k) = k.sink.file ≡ f
 
--- the file below it
+-- the file below a sink of what frames lack
 abbrev pub report_under : Option (ReportSink UnplacedOutput) → Option FileOutput
 report_under k = option_map (λ s. s.sink.file) k
 
@@ -110,12 +110,12 @@ IsFilesOver filling fill (Some d) None = ⊥
 IsFilesOver filling fill (Some d) (Some k) = (k.files ≡ d) × (k.settling.filling ≡ filling)
     × (k.settling.fill ≡ fill) × (k.settling.held ≡ None)
 
--- the directory below it
+-- the directory below a sink of pictures
 abbrev pub directory_under : {A : Type 0} → Option (FilesSink PictureDirectory A)
     → Option PictureDirectory
 directory_under k = option_map (λ s. s.files) k
 
--- the files in it
+-- the files in a directory that have their names, each name with its octets
 abbrev pub files_under : PictureDirectory → List (List ℕ × List ℕ)
 files_under d = filed_files d.directory
 

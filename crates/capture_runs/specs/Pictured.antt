@@ -42,7 +42,7 @@ IsSinkOver filling fill (Some f) None = ⊥
 IsSinkOver filling fill (Some f) (Some k) = (k.sink.file ≡ f) × (k.settling.filling ≡ filling)
     × (k.settling.fill ≡ fill) × (k.format ≡ None) × (k.settling.held ≡ None)
 
--- the file below a sink
+-- the file below a sink of pictures
 abbrev pub file_under : {A : Type 0} → Option (FormSink UnplacedOutput A) → Option FileOutput
 file_under pictures = option_map (λ k. k.sink.file) pictures
 

@@ -13,7 +13,7 @@ pub enum Aim {
     Streams(Wanted),
 }
 
-/// What `inspect` reads.
+/// The files that `inspect` reads, by what is told of them.
 #[derive(Drop)]
 pub struct Inspected<'a> {
     /// The files as they were looked at to find what is told, where that was done. Only proofs see

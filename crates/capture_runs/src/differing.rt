@@ -8,7 +8,7 @@ use sdp_format::read_located;
 use st_format::Format;
 use std::fs;
 
-/// A format and a payload type.
+/// What an SDP says of a stream, or what is sent.
 #[derive(Clone, Copy, PartialEq, Eq)]
 pub struct StreamFormat {
     pub format: Format,
@@ -61,7 +61,7 @@ fn first_format(rt: &HostRuntime, words: &SendWords<'_>) -> Option<Format> {
     read_format(&mut file).ok()
 }
 
-/// The file of a name, where it is a plain one.
+/// The file of a name, if it is a plain one: it is read once more here, which a pipe can't be.
 fn plain_file<'a>(rt: &'a HostRuntime, name: &'a str) -> Option<FileSource<'a>> {
     if fs::metadata(rt, name).ok()?.is_file() {
         Some(FileSource::new(rt, name))

@@ -54,7 +54,7 @@ pub struct FollowCommand<'a> {
     /// The SDP, and by which flows each file is taken that is a recording.
     pub files: Files<'a>,
     pub sides: Vec<FollowFile<'a>>,
-    /// The files that are written.
+    /// The pictures' stream, the report and the directory of pictures, those that are named.
     pub outputs: FollowOutputs<'a>,
     /// Whether one of them is one of the files that are read.
     pub is_input: bool,
@@ -170,7 +170,6 @@ fn beside<'a>(words: &FollowWords<'a>) -> &'a str {
     }
 }
 
-/// What `follow` is asked for.
 fn asked<'a>(words: &'a FollowWords<'a>) -> FollowAsked<'a> {
     FollowAsked {
         frames: words.window as usize,

@@ -33,7 +33,7 @@ use std::io::Stdout;
 use std::snapshot::Snapshot;
 use stream_inspection::{Form as StreamForm, Target, Wanted, inspect_streams};
 
-/// What `inspect` is asked for.
+/// What the words of `inspect` ask for: which stream, where one is asked for, and of which files.
 #[derive(Clone, Copy)]
 pub struct InspectAsked<'a> {
     /// The format and the payload type that are given, or why there is no such format.
@@ -42,7 +42,7 @@ pub struct InspectAsked<'a> {
     pub sdp: Option<&'a str>,
     /// The flows of recordings of other tools.
     pub flows: FlowWords<'a>,
-    /// The files of captures and recordings.
+    /// The names of the captures' and recordings' files, in the order in which they are read.
     pub recordings: &'a [&'a str],
     /// Whether it is told as objects of JSON.
     pub is_json: bool,

@@ -14,7 +14,7 @@ use st_format::read_whole;
 /// What a capture begins with, of whatever version.
 const CAPTURE: &[u8] = b"S20CAP";
 
-/// Files that were looked at.
+/// The files that are named, of which those up to the first capture were looked at.
 #[derive(Drop)]
 pub(crate) struct Looked<'a> {
     pub(crate) files: Vec<Replayed<'a>>,
@@ -40,7 +40,7 @@ pub(crate) fn files_of<'a>(
     Ok(files)
 }
 
-/// The file of a name, which may be to be read twice.
+/// The file of this name. What it gives is kept where it may be to be read twice.
 fn file_of<'a>(rt: &'a HostRuntime, name: &'a str, is_twice: bool, meter: &Meter) -> Replayed<'a>
     ensures { IsFresh result }
 {

@@ -37,7 +37,7 @@ pub struct Files<'a> {
     pub looked: Vec<Replayed<'a>>,
     /// The window of the first timestamps, where these are asked for.
     pub found: Option<Found<'a>>,
-    /// The captures and recordings.
+    /// The captures and recordings, in the order in which they are named.
     pub recordings: Vec<Replayed<'a>>,
     /// The flows by which each is taken that is a recording, or the refusal that comes where it is.
     pub ways: Vec<Result<Flows, Refusal>>,
@@ -47,7 +47,7 @@ pub struct Files<'a> {
     pub meter: Meter,
 }
 
-/// What `receive` is asked for.
+/// What the words of `receive` ask for, and the names of the files that it reads.
 #[derive(Clone, Copy)]
 pub struct Asked<'a> {
     pub wanted: Wanted<'a>,
@@ -55,7 +55,7 @@ pub struct Asked<'a> {
     pub flows: FlowWords<'a>,
     /// The SDP's file, where one is named.
     pub sdp: Option<&'a str>,
-    /// The files of captures and recordings.
+    /// The names of the captures' and recordings' files, in the order in which they are read.
     pub recordings: &'a [&'a str],
 }
 

@@ -33,9 +33,9 @@ pub(crate) type FollowSinks<'a> = BothSinks<
 pub struct FollowOutputs<'a> {
     /// The stream of the frames' pictures.
     pub out: Option<FileOutput<'a>>,
-    /// What each frame lacks.
+    /// The text of what each frame lacks.
     pub report: Option<FileOutput<'a>>,
-    /// Each picture as a file of its own.
+    /// The directory in which each picture is a file of its own.
     pub pictures: Option<PictureDirectory<'a>>,
 }
 
@@ -108,7 +108,6 @@ impl<'a> FollowOutputs<'a> {
     }
 }
 
-/// A writing that failed, where it did.
 fn failed_of(writing: Option<Writing<'_>>) -> Option<Writing<'_>> {
     match writing {
         Some(writing) if writing.has_failed => Some(writing),
@@ -203,7 +202,6 @@ fn file_reported<'a>(report: ReportSink<UnplacedOutput<'a>>) -> FileOutput<'a>
     below.file
 }
 
-/// The directory below a sink of pictures, where there is one.
 fn pictures_of<'a>(sink: Option<FilesSink<PictureDirectory<'a>>>) -> Option<PictureDirectory<'a>>
     ensures { result ≡ directory_under sink.entry }
 {

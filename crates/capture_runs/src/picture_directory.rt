@@ -47,7 +47,7 @@ fn name_of(timestamp: u32) -> ArrayString<NAME>
     name
 }
 
-/// Adds a part to a name that has the room.
+/// Adds a part to a name. Its callers show that there is room, so no part is refused.
 fn add(name: &mut ArrayString<NAME>, part: &str)
     requires { array_string_len name.old + length part.now ≤ NAME }
     ensures { name.new.bytes ≡ name.old.bytes ++ part.now }
@@ -92,7 +92,7 @@ pub(crate) fn named_directory<'a>(
     }
 }
 
-/// Looks at the directory, where there is one.
+/// Looks at the directory, in which nothing is changed. Where none is named that is no failure.
 pub(crate) fn find_directory(pictures: &mut Option<PictureDirectory<'_>>) -> Result<(), DeviceFault>
     requires { AreNoPictures pictures.old }
     ensures { AreNoPictures pictures.new }
@@ -103,7 +103,7 @@ pub(crate) fn find_directory(pictures: &mut Option<PictureDirectory<'_>>) -> Res
     }
 }
 
-/// How the writing into the directory went, where there is one.
+/// How the writing into the directory went, for what a person is told of it.
 pub(crate) fn directory_writing<'b>(
     pictures: &'b Option<PictureDirectory<'_>>,
 ) -> Option<Writing<'b>> {

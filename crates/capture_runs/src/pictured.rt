@@ -27,7 +27,7 @@ pub(crate) fn named_output<'a>(rt: &'a HostRuntime, name: Option<&'a str>) -> Op
     }
 }
 
-/// The values that the text of a fill says, where there is one.
+/// The values of a fill, where its text is given; `FollowFill` where the text says none.
 pub(crate) fn fill_said(text: Option<&[u8]>) -> Result<Option<[u16; 3]>, Fault>
     ensures given { IfOk result (λ fill. IsFillGiven (option_copied text.entry) fill) }
     ensures refusal { IfErr result (λ f. OfRefusal f (IsFillRefusal (option_copied text.entry))) }
@@ -41,7 +41,7 @@ pub(crate) fn fill_said(text: Option<&[u8]>) -> Result<Option<[u16; 3]>, Fault>
     }
 }
 
-/// Looks at the place of the file, where there is one.
+/// Looks at the place of the file, where one is named; refuses it if it is one that is read.
 pub(crate) fn find_place(out: &mut Option<FileOutput<'_>>, is_input: bool) -> Result<(), Fault>
     requires { IfSome out.old (λ f. (file_took f ≡ []) × IsUnplaced f) }
     ensures unwritten { IfSome out.new (λ f. (file_took f ≡ []) × IsUnplaced f) }
@@ -82,7 +82,6 @@ pub(crate) fn file_of<'a>(pictures: Option<FormSink<UnplacedOutput<'a>>>) -> Opt
     }
 }
 
-/// The file below a sink of pictures.
 fn file_written<'a>(pictures: FormSink<UnplacedOutput<'a>>) -> FileOutput<'a>
     ensures file { result ≡ pictures.entry.sink.file }
     ensures unplaced { IsUnplaced result }
@@ -106,7 +105,7 @@ pub(crate) fn settle(out: &mut Option<FileOutput<'_>>, is_done: bool) -> bool
     }
 }
 
-/// How the writing of the file went, where there is one.
+/// How the writing of the file went, where one is named, for what a person is told of it.
 pub(crate) fn writing<'b>(out: &'b Option<FileOutput<'_>>) -> Option<Writing<'b>> {
     match out {
         Some(file) => Some(file.writing()),

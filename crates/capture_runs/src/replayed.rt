@@ -9,7 +9,7 @@ use devices::FileSource;
 pub enum Keeping {
     /// It isn't: where the file is read again it is opened again.
     No,
-    /// It is.
+    /// It is, in memory, and is given again before the rest of the file.
     Yes,
     /// It was, up to where memory was wanted.
     Lost,

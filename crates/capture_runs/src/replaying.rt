@@ -71,7 +71,7 @@ impl<'a> Replayed<'a> {
         }
     }
 
-    /// The file from its front.
+    /// The file opened anew, of which nothing is remembered.
     fn reopened(self) -> Self
         ensures { replayed_gave result ≡ [] }
     {

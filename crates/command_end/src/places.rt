@@ -182,16 +182,16 @@ fn of_memory<'a>(devices: &Devices<'a>) -> Said<'a> {
 /// Where to look for what a refusal is of.
 #[derive(Clone, Copy)]
 enum Blamed {
-    /// The word of this name.
+    /// The word of the command that has the value, by its name.
     Word(&'static str),
     /// The file that was begun last, where its reading stands.
     Read,
     /// The SDP, where its reading stands. One without a file of its own is that of the first
     /// capture.
     Sdp,
-    /// The line of this number of a script.
+    /// The line of this number of a script, counted from 1.
     Line(usize),
-    /// A line of an SDP.
+    /// The place in an SDP that its first fault has.
     Described(Located),
 }
 
@@ -323,7 +323,7 @@ fn of_refusal<'a>(refusal: Refusal, devices: &Devices<'a>) -> Option<Said<'a>> {
     }
 }
 
-/// The place of a file that is refused.
+/// Where the reading of a refused file stands, and what was wanted: all kinds, where it is of none.
 fn of_file<'a>(
     refusal: Refusal,
     reading: Reading<'a>,

@@ -65,13 +65,13 @@ const U64: ValueParser<'static> = ValueParser::Unsigned(0, 18_446_744_073_709_55
 /// The words for the paths of a capture.
 const PATHS: ValueParser<'static> = ValueParser::Names(&["a", "b", "both"]);
 
-/// The words for the forms in which a picture is read.
+/// The forms in which a picture is read: raw isn't one, as it doesn't say its format.
 const READ_FORMS: ValueParser<'static> = ValueParser::Names(&["picture", "y4m", "ppm"]);
 
 /// The words for the forms in which a picture is written.
 const FORMS: ValueParser<'static> = ValueParser::Names(&["picture", "y4m", "ppm", "raw"]);
 
-/// How many commands there are.
+/// How many commands there are: `nth_command` gives one for each place from 0 on.
 const COMMANDS: usize = 16;
 
 /// The command of a place in the order of the help; `trace` where there is none. (One table of all
@@ -261,14 +261,14 @@ const MAX: &[Word] = &[Word {
     help: "The most octets of a packet, up to 9000",
 }];
 
-/// The payload type of what is sent.
+/// The payload type of what is sent: a number, or that which the SDP says.
 const SENT_TYPE: &[Word] = &[Word {
     name: "pt",
     usage: Usage::Type("N", "96"),
     help: "The payload type, up to 127; or sdp, that which the SDP says",
 }];
 
-/// The payload type.
+/// The payload type, as a number alone.
 const TYPE: &[Word] = &[Word {
     name: "pt",
     usage: Usage::Default("N", U7, "96"),
@@ -294,7 +294,6 @@ const STAMP: &[Word] = &[
     },
 ];
 
-/// The words of `receive`.
 const RECEIVED: &[Word] = &[
     Word {
         name: "sdp",
@@ -358,7 +357,6 @@ const FOLLOW: Said = Said {
     words: &[FOLLOWED, PROGRESS],
 };
 
-/// The words of `follow`.
 const FOLLOWED: &[Word] = &[
     Word {
         name: "sdp",
@@ -429,7 +427,6 @@ const FOLLOWED: &[Word] = &[
     },
 ];
 
-/// The words of `merge`.
 const MERGED: &[Word] = &[
     Word {
         name: "state",
@@ -453,7 +450,7 @@ const MERGED: &[Word] = &[
     },
 ];
 
-/// The job of `process`.
+/// What `process` computes, of the frames of which timestamp, and what fills them.
 const JOB: &[Word] = &[
     Word {
         name: "job",
@@ -505,7 +502,6 @@ const PICTURE: Said = Said {
     words: &[PICTURED],
 };
 
-/// The words of `picture`.
 const PICTURED: &[Word] = &[
     Word {
         name: "ts",
@@ -549,7 +545,6 @@ const PICTURED: &[Word] = &[
     },
 ];
 
-/// The file of `report`.
 const REPORTED: &[Word] = &[Word {
     name: "state",
     usage: Usage::File("STATE"),
@@ -570,7 +565,6 @@ const LOOPED: &[Word] = &[
     },
 ];
 
-/// The files of `migrate`.
 const MIGRATED: &[Word] = &[
     Word {
         name: "sdp",
@@ -589,7 +583,6 @@ const MIGRATED: &[Word] = &[
     },
 ];
 
-/// The words of `import`.
 const IMPORTED: &[Word] = &[
     Word {
         name: "sdp",
@@ -622,7 +615,6 @@ const IMPORTED: &[Word] = &[
     },
 ];
 
-/// The words of `inspect`.
 const INSPECTED: &[Word] = &[
     Word {
         name: "sdp",
@@ -667,7 +659,6 @@ const INSPECTED: &[Word] = &[
     },
 ];
 
-/// The words of `export`.
 const EXPORTED: &[Word] = &[
     Word {
         name: "a",
@@ -704,7 +695,6 @@ const EXPORTED: &[Word] = &[
     },
 ];
 
-/// The words of `convert`.
 const CONVERTED: &[Word] = &[
     Word {
         name: "from",
@@ -748,7 +738,7 @@ const PROGRESS: &[Word] = &[Word {
         takes; at a terminal that comes by itself, unless --quiet is given",
 }];
 
-/// The program with its commands.
+/// The command line of `st2110`, as clap reads it; or that there is no memory for it.
 pub fn program<'a>(alloc: Global) -> Result<Command<'a>, AllocError> {
     let mut program = named(alloc)?;
     for place in 0..COMMANDS {
@@ -757,7 +747,7 @@ pub fn program<'a>(alloc: Global) -> Result<Command<'a>, AllocError> {
     Ok(program)
 }
 
-/// The program without its commands.
+/// The program's name and version, and the words that every command takes.
 fn named<'a>(alloc: Global) -> Result<Command<'a>, AllocError> {
     Command::new(alloc, "st2110")
         .version(VERSION)
@@ -787,7 +777,6 @@ fn quiet<'a>(alloc: Global) -> Arg<'a> {
         .help("Leave that out also where standard error is a terminal")
 }
 
-/// A command with its words.
 fn command<'a>(alloc: Global, said: &Said) -> Result<Command<'a>, AllocError> {
     let mut command = Command::new(alloc, said.name).about(said.about);
     for words in said.words {
@@ -809,7 +798,7 @@ fn with_words<'a>(
     Ok(command)
 }
 
-/// A word of a command, with its help.
+/// A word of a command, with its help, and with what has to be given beside it or may not be.
 fn argument<'a>(alloc: Global, word: &Word) -> Result<Arg<'a>, AllocError> {
     let argument = Arg::new(alloc, word.name).help(word.help);
     let formed = formed(argument, word.name, word.usage);
@@ -825,7 +814,7 @@ fn argument<'a>(alloc: Global, word: &Word) -> Result<Arg<'a>, AllocError> {
     }
 }
 
-/// Gives a word its form.
+/// How a word is given: as a flag, as an option with a value, or by its place.
 fn formed<'a>(word: Arg<'a>, name: &'static str, form: Usage) -> Arg<'a> {
     match form {
         Usage::Flag => word.long(name).action(ArgAction::SetTrue),
@@ -848,7 +837,7 @@ fn formed<'a>(word: Arg<'a>, name: &'static str, form: Usage) -> Arg<'a> {
     }
 }
 
-/// An option with a value.
+/// An option by its long name; `value` is what help calls its value.
 fn option<'a>(word: Arg<'a>, name: &'static str, value: &'static str) -> Arg<'a> {
     word.long(name).value_name(value)
 }

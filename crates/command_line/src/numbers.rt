@@ -65,7 +65,7 @@ fn nanoseconds(part: &str) -> Option<u32>
     }
 }
 
-/// The number that digits are.
+/// The number that digits are, below 2^32. `parse` takes a `+` before them too, which is none.
 fn digits(text: &str) -> Option<u32> {
     if text.starts_with('+') {
         return None;

@@ -36,7 +36,7 @@ pub enum Words<'a> {
     Send(SendWords<'a>),
     /// Take the datagrams of captures and recordings.
     Receive(ReceiveWords<'a>),
-    /// Merge receivers.
+    /// Merge receivers' files into one.
     Merge(MergeWords<'a>),
     /// Run a job on frames of receivers, and send its picture.
     Process(ProcessWords<'a>),
@@ -58,7 +58,7 @@ pub enum Words<'a> {
     Picture(PictureWords<'a>),
 }
 
-/// The words behind `sdp`.
+/// The words behind `sdp`, by which of its two jobs they ask for.
 #[derive(Clone, Copy)]
 pub enum SdpWords<'a> {
     /// Read the text of the file of this name, where one is named that isn't `-`, else that on
@@ -71,7 +71,7 @@ pub enum SdpWords<'a> {
 /// The words behind `sdp --write`.
 #[derive(Clone, Copy)]
 pub struct WriteWords<'a> {
-    /// The format.
+    /// The text of the format, as in `YCbCr-4:2:2 10 1920 1080 60000/1001`. It isn't read yet.
     pub format: &'a str,
     /// Where the datagrams of path A go.
     pub a: &'a str,
@@ -90,20 +90,20 @@ pub struct MigrateWords<'a> {
     pub capture: &'a str,
 }
 
-/// The words behind `send`.
+/// The words behind `send`: names of files, and what its packets have in common.
 #[derive(Drop)]
 pub struct SendWords<'a> {
     /// The SDP's file, where one is named.
     pub sdp: Option<&'a str>,
-    /// The capture's file.
+    /// The name of the capture's file; `-` is standard output.
     pub out: &'a str,
     pub stamp: StampWords,
     /// Whether the payload type is that which the SDP says, in place of the stamp's.
     pub by_sdp: bool,
-    /// The most octets of a packet.
+    /// The most octets of a packet, its RTP header among them.
     pub max_octets: u32,
     pub paths: NamedPaths,
-    /// The pictures' files.
+    /// The names of the pictures' files, or that of one stream.
     pub pictures: Vec<&'a str>,
 }
 
@@ -111,7 +111,7 @@ pub struct SendWords<'a> {
 #[derive(Clone, Copy)]
 pub struct StampWords {
     pub payload_type: u8,
-    /// The number of the first packet.
+    /// The number of the first packet; numbers run on.
     pub first: u32,
     /// The timestamp of the first picture, in ticks of a 90 kHz clock.
     pub base: u32,
@@ -129,7 +129,7 @@ pub enum NamedPaths {
     Both,
 }
 
-/// The words behind `receive`.
+/// The words behind `receive`: names of files, and texts that aren't read yet.
 #[derive(Drop)]
 pub struct ReceiveWords<'a> {
     /// The SDP's file, where one is named.
@@ -140,7 +140,7 @@ pub struct ReceiveWords<'a> {
     pub b: Option<&'a str>,
     pub window: &'a str,
     pub ssrc: &'a str,
-    /// The receiver's file.
+    /// The name of the receiver's file; `-` is standard output.
     pub state: &'a str,
     /// Whether refusals are counted and told.
     pub refusals: bool,
@@ -159,38 +159,38 @@ pub struct MergeWords<'a> {
     pub others: Vec<&'a str>,
 }
 
-/// The words behind `process`.
+/// The words behind `process`: names of files, and texts that aren't read yet.
 #[derive(Drop)]
 pub struct ProcessWords<'a> {
     pub job: &'a str,
-    /// The timestamp of the frames.
+    /// The timestamp of the frames, in ticks of a 90 kHz clock.
     pub timestamp: u32,
     pub fill: &'a str,
     /// The held picture's file, where one is named.
     pub hold: Option<&'a str>,
     /// The SDP's file, where one is named.
     pub sdp: Option<&'a str>,
-    /// The capture's file.
+    /// The name of the capture's file; `-` is standard output.
     pub out: &'a str,
     pub stamp: StampWords,
-    /// The most octets of a packet.
+    /// The most octets of a packet, its RTP header among them.
     pub max_octets: u32,
-    /// The receivers' files.
+    /// The names of the receivers' files, one for each picture that the job takes.
     pub states: Vec<&'a str>,
 }
 
-/// The words behind `loop`.
+/// The words behind `loop`: which picture is sent, and how far it goes.
 #[derive(Clone, Copy)]
 pub struct LoopWords<'a> {
     /// The picture's file.
     pub picture: &'a str,
-    /// The most octets of a packet.
+    /// The most octets of a packet, its RTP header among them.
     pub max_octets: u32,
-    /// The most turns.
+    /// The most turns: in each a datagram is sent and one looked for.
     pub limit: u64,
 }
 
-/// The words behind `import`.
+/// The words behind `import`: names of files, and texts of flows that aren't read yet.
 #[derive(Drop)]
 pub struct ImportWords<'a> {
     /// The SDP's file.
@@ -199,18 +199,18 @@ pub struct ImportWords<'a> {
     pub a: Option<&'a str>,
     /// Where those of path B go, likewise.
     pub b: Option<&'a str>,
-    /// The capture's file.
+    /// The name of the capture's file; `-` is standard output.
     pub out: &'a str,
-    /// The recordings' files.
+    /// The names of the captures' and recordings' files.
     pub recordings: Vec<&'a str>,
 }
 
-/// The words behind `inspect`.
+/// The words behind `inspect`: names of files, and what says the stream that is looked at.
 #[derive(Drop)]
 pub struct InspectWords<'a> {
     /// The SDP's file, where one is named.
     pub sdp: Option<&'a str>,
-    /// The format of a stream, where one is given.
+    /// The format and the payload type of a stream, where they are given.
     pub format: Option<FormatWords<'a>>,
     /// Where the datagrams of path A go in recordings of other tools, where that is said.
     pub a: Option<&'a str>,
@@ -231,14 +231,14 @@ pub struct FormatWords<'a> {
     pub ghost payload_type_bits: { payload_type ≤ 127 },
 }
 
-/// The words behind `export`.
+/// The words behind `export`: names of files, and texts of flows that aren't read yet.
 #[derive(Clone, Copy)]
 pub struct ExportWords<'a> {
     /// Where the datagrams of path A go.
     pub a: &'a str,
     /// Where those of path B go, where that is said.
     pub b: Option<&'a str>,
-    /// The recording's file.
+    /// The name of the recording's file; `-` is standard output.
     pub out: &'a str,
     /// The capture's file.
     pub capture: &'a str,
@@ -246,7 +246,7 @@ pub struct ExportWords<'a> {
     pub paced: Option<StartWords>,
 }
 
-/// The words behind `follow`.
+/// The words behind `follow`: names of files, and texts that aren't read yet.
 #[derive(Drop)]
 pub struct FollowWords<'a> {
     /// The SDP's file, where one is named.
@@ -255,7 +255,7 @@ pub struct FollowWords<'a> {
     pub a: Option<&'a str>,
     /// Where those of path B go, likewise.
     pub b: Option<&'a str>,
-    /// How many frames the window has.
+    /// How many frames are in at most.
     pub window: u32,
     pub ssrc: &'a str,
     /// Whether a frame leaves as soon as nothing of it is missing.
@@ -274,7 +274,7 @@ pub struct FollowWords<'a> {
     pub recordings: Vec<&'a str>,
 }
 
-/// The words behind `convert`.
+/// The words behind `convert`: two files with their forms, and which picture of the first is taken.
 #[derive(Clone, Copy)]
 pub struct ConvertWords<'a> {
     /// The form of the file that is read, where that is said.
@@ -283,7 +283,7 @@ pub struct ConvertWords<'a> {
     pub form: Option<&'a str>,
     /// Which picture of a stream counts: 0 is the first.
     pub place: u64,
-    /// The rate of a pixmap's picture.
+    /// The rate of a pixmap's picture, as `25/1`: the pixmap doesn't say it.
     pub rate: &'a str,
     /// The file that is read.
     pub input: &'a str,
@@ -291,10 +291,10 @@ pub struct ConvertWords<'a> {
     pub out: &'a str,
 }
 
-/// The words behind `picture`.
+/// The words behind `picture`: which frame is written, and what stands where it has no value.
 #[derive(Clone, Copy)]
 pub struct PictureWords<'a> {
-    /// The timestamp of the frame.
+    /// The timestamp of the frame, in ticks of a 90 kHz clock.
     pub timestamp: u32,
     pub fill: Option<&'a str>,
     /// The held picture's file, where one is named.
@@ -342,7 +342,7 @@ fn has_progress(matches: &ArgMatches<'_>) -> bool {
     }
 }
 
-/// Reads the command.
+/// Reads the command; without one it is `trace`.
 fn command<'a>(alloc: Global, matches: &ArgMatches<'a>) -> Result<Words<'a>, WordsFault> {
     match matches.subcommand() {
         Some((name, given)) => command_words(alloc, name, given),
@@ -611,7 +611,7 @@ fn number(given: &ArgMatches<'_>, id: &str) -> u32 {
     given.get_one::<u32>(id).unwrap_or(0)
 }
 
-/// The words of a list.
+/// The words of a list; none where it isn't given.
 fn list<'a>(alloc: Global, given: &ArgMatches<'a>, id: &str) -> Result<Vec<&'a str>, AllocError> {
     match given.get_strs(id) {
         Some(words) => words.to_vec(alloc),

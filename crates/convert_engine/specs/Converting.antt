@@ -37,7 +37,7 @@ IsStreamRefusal place read (refusal.Form f) =
     (octets : List ℕ) → read octets → IsStreamFault place octets f
 IsStreamRefusal place read r = ⊥
 
--- and of a pixmap
+-- the refusal of a pixmap of a rate: what was read has this fault first
 abbrev pub IsPixmapRefusal : ℕ → ℕ → (List ℕ → Type 0) → Refusal → Type 0
 IsPixmapRefusal n d read (refusal.Form f) =
     (octets : List ℕ) → read octets → IsPixmapFault n d octets f

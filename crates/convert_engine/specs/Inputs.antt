@@ -64,6 +64,6 @@ pub record HasPixelsFault (n d : ℕ) (octets : List ℕ) (f : FormFault) : Type
   pub head : HasPixmapHead n d octets rest (fields_of format)
   pub fault : pixels_walk format rest ≡ Err f
 
--- the first fault of a pixmap
+-- the first fault of a pixmap: of its head, or else of its samples
 abbrev pub IsPixmapFault : ℕ → ℕ → List ℕ → FormFault → Type 0
 IsPixmapFault n d octets f = (pixmap_head_walk n d octets ≡ Err f) ⊎ HasPixelsFault n d octets f

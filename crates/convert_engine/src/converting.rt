@@ -14,7 +14,7 @@ use run_outcome::{Fault, Refusal, read_unpacked};
 use st_format::{ByteSink, ByteSource, Picture, Rate};
 use std::alloc::Allocator;
 
-/// The form of what is read.
+/// The form of what is read, with what it doesn't say itself.
 #[derive(Clone, Copy)]
 pub enum InputForm {
     /// A picture's own file.
@@ -28,7 +28,7 @@ pub enum InputForm {
 /// What `convert` is asked for, beside its files.
 #[derive(Clone, Copy)]
 pub struct Conversion {
-    /// The form of what is read.
+    /// The form of what is read, and which picture of it counts.
     pub input: InputForm,
     /// The form of what is written.
     pub form: Form,
@@ -82,7 +82,7 @@ fn holds<A: Allocator>(form: Form, picture: &Picture<A>) -> bool
     form.holds(picture.format().sampling())
 }
 
-/// Reads the picture.
+/// Reads the picture in this form. Only a picture's own file has to end behind it.
 fn read_input<A: Allocator + Copy, S: ByteSource>(
     alloc: A,
     input: InputForm,

@@ -21,7 +21,7 @@ use std::path::PathBuf;
 pub struct DirectoryOutput<'a> {
     rt: &'a HostRuntime,
     name: &'a str,
-    /// The file that is written next.
+    /// The file that is written next, beside the name that it is to take.
     pub file: NextFile<'a>,
     /// Those that have their names, which only proofs read: they take no memory.
     pub filed: Vec<Filed>,

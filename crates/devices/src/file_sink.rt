@@ -151,7 +151,7 @@ impl<'a> FileSink<'a> {
         self.failures > 0
     }
 
-    /// The name of the file.
+    /// The name that it was given, links in it not followed.
     pub(crate) fn name(&self) -> &'a str {
         self.name
     }

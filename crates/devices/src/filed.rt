@@ -8,7 +8,7 @@ use crate::history::History;
 pub struct Filed {
     /// The octets of the name.
     pub name: History,
-    /// What the file took.
+    /// The octets that the file took, in order.
     pub took: History,
 }
 

@@ -14,7 +14,7 @@ use std::time::Duration;
 /// Where sockets are bound: on this machine alone, at a port that is free.
 const LOOPBACK: &str = "127.0.0.1:0";
 
-/// What the sockets are called.
+/// What the sockets are called where a fault of them is told.
 const SOCKETS: &str = "the sockets on 127.0.0.1";
 
 /// How long a datagram is waited for, in seconds.

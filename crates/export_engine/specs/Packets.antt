@@ -112,7 +112,7 @@ abbrev pub packet_by : Option IpEnvelope → Entry → List ℕ
 packet_by None e = []
 packet_by (Some envelope) e = datagram_by envelope e.moment e.octets
 
--- the packet of a record, where it has one
+-- the packet of a record, at its moment; nothing, where the record is left out
 abbrev pub packet_text : Envelopes → Entry → List ℕ
 packet_text es e = packet_by (sent_by es e) e
 
@@ -133,6 +133,6 @@ is_there (Some envelope) = true
 abbrev pub has_packet : Envelopes → Entry → Bool
 has_packet es e = is_there (sent_by es e)
 
--- how many have one
+-- how many records have a packet
 abbrev pub packet_count : Envelopes → List Entry → ℕ
 packet_count es entries = count_by (has_packet es) entries

@@ -51,7 +51,7 @@ IsInterfaceText text (Some n) ends =
     (name rest : List ℕ) × (text ≡ name ++ (codes "@" ++ rest)) × IsName name n
     × IsSourceOf rest ends
 
--- a text spells a flow
+-- a text spells a flow: interface, source and address, each where it names one, and a port
 abbrev pub IsFlowText : List ℕ → Flow → Type 0
 IsFlowText text f = IsInterfaceText text f.interface (f.source, (f.address, f.port))
 

@@ -12,13 +12,13 @@ use std::net::IpAddr;
 /// default, port 0 with none of them, is what arrays are filled with.
 #[derive(Clone, Copy, Debug, Default, PartialEq, Eq)]
 pub struct Flow {
-    /// The interface that they are taken at.
+    /// The interface that they are taken at; `None` where any will do.
     pub interface: Option<InterfaceName>,
-    /// The address that they come from.
+    /// The address that they come from; `None` where any will do.
     pub source: Option<IpAddr>,
-    /// The address that they are sent to.
+    /// The address that they are sent to; `None` where any will do.
     pub address: Option<IpAddr>,
-    /// The port that they are sent to.
+    /// The UDP port that they are sent to (RFC 768).
     pub port: u16,
 }
 
@@ -82,7 +82,7 @@ impl Flow {
     }
 }
 
-/// Whether there is a flow, and a datagram is of it.
+/// Whether a datagram is of this flow; of no flow none is.
 fn is_flow_to(
     flow: &Option<Flow>,
     interface: &Option<InterfaceName>,

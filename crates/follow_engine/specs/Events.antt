@@ -50,7 +50,7 @@ running_from s = record {
 
 -- ---- a datagram
 
--- the timestamp of its header, where it has one
+-- the timestamp of a header, where it was read
 abbrev pub header_time : Result Rtp RtpFault → Option ℕ
 header_time (Ok rtp) = Some rtp.timestamp
 header_time (Err e) = None
@@ -59,7 +59,7 @@ header_time (Err e) = None
 abbrev pub time_of : List ℕ → Option ℕ
 time_of octets = header_time (rtp_walk octets)
 
--- one more is late
+-- how many datagrams came late, with one more that is answered so
 abbrev pub late_with : ℕ → Result Followed Refusal → ℕ
 late_with late (Ok (Kept number)) = late
 late_with late (Ok Due) = late
@@ -210,6 +210,6 @@ abbrev pub handed_by : Event → Option Handed
 handed_by (Left h late) = Some h
 handed_by (Anew timestamp) = None
 
--- the frames that left
+-- the frames that left, in the order in which they did
 abbrev pub frames_of_events : List Event → List Handed
 frames_of_events events = filter_map handed_by events

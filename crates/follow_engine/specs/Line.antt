@@ -5,7 +5,7 @@ use Rattle.follow_engine.specs.declared.line.FollowLine.{FollowLine}
 use Rattle.follow_engine.specs.declared.line.FollowLine.TheVariants.{Left, Anew, Totals, Wants}
 use Rattle.follow_engine.specs.declared.line.FollowLine.TheVariants.{WantsMore}
 
--- the text of a line
+-- what a line says, in ASCII, numbers in decimal digits (own)
 abbrev pub line_text : FollowLine → List ℕ
 line_text (Left timestamp counts late) =
     codes "frame " ++ (decimal timestamp ++ (codes " present " ++ (decimal counts.present
@@ -19,7 +19,7 @@ line_text (Totals t) =
 line_text (Wants frames) = codes "late wants window " ++ decimal frames
 line_text WantsMore = codes "late wants more than window 16"
 
--- a line with its end
+-- a line, and LF behind it
 abbrev pub ended_line : FollowLine → List ℕ
 ended_line l = line_text l ++ 10 ∷ []
 

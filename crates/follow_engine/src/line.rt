@@ -57,7 +57,7 @@ fn add_line(text: &mut ArrayString<LINE>, line: FollowLine)
     }
 }
 
-/// Adds the line of a frame that left.
+/// Adds the timestamp, the samples of each kind, and how many datagrams came late.
 fn add_left(text: &mut ArrayString<LINE>, timestamp: u32, counts: Counts, late: u64)
     requires { array_string_len text.old ≡ 0 }
     ensures text { text.new.bytes ≡ text.old.bytes ++ line_text (Left timestamp counts late) }
@@ -70,7 +70,7 @@ fn add_left(text: &mut ArrayString<LINE>, timestamp: u32, counts: Counts, late: 
     add_number(text, " late ", late);
 }
 
-/// Adds the line of the totals.
+/// Adds how many frames left, and what became of the datagrams.
 fn add_totals(text: &mut ArrayString<LINE>, totals: FollowTotals)
     requires { array_string_len text.old ≡ 0 }
     ensures text { text.new.bytes ≡ text.old.bytes ++ line_text (Totals totals) }

@@ -33,7 +33,7 @@ use std::alloc::Allocator;
 /// What `follow` is asked for, beside its files.
 #[derive(Clone, Copy)]
 pub struct FollowAsked<'a> {
-    /// How many frames are in at most.
+    /// How many frames are in at most: 1 to 16, or it is refused.
     pub frames: usize,
     /// The number of the one source to take datagrams of, or `any`.
     pub ssrc: &'a [u8],

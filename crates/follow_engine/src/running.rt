@@ -181,7 +181,6 @@ impl<A: Allocator + Copy> Run<A> {
         Ok(())
     }
 
-    /// Whether a frame is in.
     fn has_frames(&self) -> bool
         ensures some { IsTrue result → 0 < length self.now.follower.opening.window }
         ensures none { IsFalse result → self.now.follower.opening.window ≡ [] }
@@ -309,7 +308,7 @@ fn time_of(octets: &[u8]) -> Option<u32>
     }
 }
 
-/// The timestamp, where it is told.
+/// The timestamp from which on the stream is followed anew, where it is.
 fn told_at(is_told: bool, timestamp: u32) -> Option<u32>
     ensures { IsAnewAt is_told (Some timestamp) result }
 {

@@ -65,7 +65,7 @@ opened o size ahead = record {
 abbrev pub newest_of : Following → Option ℕ
 newest_of s = newest_in s.gone s.opening.window
 
--- where a timestamp stands to it
+-- where a timestamp stands to a follower: that it is too far ahead is looked at first
 abbrev pub standing_of : Following → ℕ → Standing
 standing_of s timestamp =
     standing_near (is_beyond (newest_of s) s.most_ahead timestamp)

@@ -64,7 +64,7 @@ pub record IsNear (u v : ℕ) : Type 0 where
   pub forth : u < v + 2 ^ 31
   pub back : v < u + 2 ^ 31
 
--- the greatest of a list
+-- v is in the list, and nothing in it is greater
 pub record IsGreatest (v : ℕ) (us : List ℕ) : Type 0 where
   pub inside : IsMember v us
   pub all : (u : ℕ) → IsMember u us → u ≤ v
@@ -84,7 +84,7 @@ pub record IsOrderly (size ahead : ℕ) (us : List ℕ) : Type 0 where
       → length (newer_than v before) ≤ size → IsNear u v
   pub within : AreWithin ahead us
 
--- the datagrams of a time
+-- the octets of the datagrams of a time, in the order of the list
 abbrev pub datagrams_at : ℕ → List Timed → List (List ℕ)
 datagrams_at u xs = octets_of (filter (λ x. x.time == u) xs)
 

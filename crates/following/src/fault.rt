@@ -27,7 +27,7 @@ impl FollowFault {
         self as u8
     }
 
-    /// Its bare name.
+    /// Its bare name: that of the variant.
     pub fn name(self) -> &'static str
         ensures { result.now ≡ follow_fault_name self }
     {
@@ -75,7 +75,7 @@ pub struct FrameFault {
 /// Why following a source ended.
 #[derive(Clone, Copy, Debug, PartialEq, Eq, Error)]
 pub enum StreamFault {
-    /// The source failed.
+    /// The source failed, after so many datagrams, which are taken.
     #[error("{0}")]
     Source(ReceiveFault),
     /// The sink failed. The frame that it did not take is in the caller's frame.

@@ -31,7 +31,7 @@ use std::alloc::{Allocator, Global};
 use std::marker::Model;
 use std::mem;
 
-/// The most frames that a follower has.
+/// The most frames that a follower has: as many as a receiver's window has timestamps (own).
 pub const MOST_FRAMES: usize = MOST_TIMESTAMPS;
 
 /// How many ticks of the 90 kHz clock a new timestamp may usually be ahead of the newest: 10 s.
@@ -128,7 +128,7 @@ impl<A: Allocator + Copy> Follower<A> {
         Follower::of_size(alloc, format, payload_type, ssrc, size, most_ahead)
     }
 
-    /// The same, where the size is one.
+    /// Opens it where the size is that of a window: then memory alone can be wanted.
     fn of_size(
         alloc: A,
         format: Format,
@@ -306,7 +306,8 @@ impl<A: Allocator> Follower<A> {
         Some(self.hand_out(out))
     }
 
-    /// The same, where a frame is in.
+    /// Exchanges `out` with the oldest frame, where one is in; what `out` was becomes a spare
+    /// frame.
     fn hand_out(&mut self, out: &mut Frame<A>) -> u32
         requires some { 0 < length self.old.opening.window }
         requires format { out.old.format ≡ self.old.opening.format }
@@ -339,7 +340,7 @@ impl<A: Allocator> Follower<A> {
         self.gone = None;
     }
 
-    /// The frame of a timestamp, where it is in.
+    /// The frame of a timestamp, in 90 kHz ticks; `None` where it isn't in.
     pub fn frame(&self, timestamp: u32) -> Option<&Frame<A>>
         ensures frame { option_copied result
             ≡ frame_at self.now.opening.window self.now.frames timestamp }
@@ -372,7 +373,7 @@ impl<A: Allocator> Follower<A> {
         }
     }
 
-    /// The format of the frames.
+    /// The format that it was opened with, which all its frames have.
     pub fn format(&self) -> Format
         ensures format { result ≡ self.now.opening.format }
         ensures follower { IsFollower self.now }

@@ -47,7 +47,7 @@ impl<A: Allocator + Copy> MemoryFrames<A> {
         self.frames.as_slice()
     }
 
-    /// Keeps a copy of a frame.
+    /// Keeps a copy of a frame; an `Err` where there is no memory for it.
     fn keep<B: Allocator>(&mut self, timestamp: u32, frame: &Frame<B>) -> Result<(), FrameSinkFault>
         ensures kept { OnOk result (map shown_of self.new.frames.items
             ≡ map shown_of self.old.frames.items

@@ -59,7 +59,7 @@ fn lost(since: Option<u32>, timestamp: u32, answer: Result<Followed, Refusal>) -
     }
 }
 
-/// The first of two, where there is one.
+/// Since when datagrams were lost: since this timestamp, where none was lost before.
 fn first(since: Option<u32>, timestamp: u32) -> Option<u32>
     ensures { result ≡ first_lost since timestamp }
 {

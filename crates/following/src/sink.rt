@@ -40,7 +40,7 @@ pub trait FollowObserver {
     /// What it is after an answer, by what it was before.
     ghost after: { Self → Result Followed Refusal → Self };
 
-    /// Takes note of an answer.
+    /// Takes note of the answer to the next datagram, also of a refusal.
     fn note(&mut self, answer: Result<Followed, Refusal>)
         ensures { self.new ≡ after self.old answer };
 }

@@ -5,7 +5,7 @@ ghost use Rattle.following.specs.Serial.{ahead_of, is_newer};
 ghost use Rattle.following.specs.Standing.{entry_at, is_behind, is_beyond, is_there, newest_in};
 ghost use Rattle.following.specs.Standing.{place_in, standing_in, standing_near};
 
-/// Where a timestamp stands.
+/// Where a timestamp stands to the frames that are in.
 #[derive(Clone, Copy, Debug, PartialEq, Eq)]
 pub enum Standing {
     /// Its frame is in, at this place, counted from the oldest.
@@ -14,7 +14,7 @@ pub enum Standing {
     New(usize),
     /// It is new and not older than all, and there is no room.
     Waits,
-    /// There is no place for it.
+    /// It came too late, or has no place in the order of those that are in.
     Nowhere,
     /// It is too far ahead of the newest.
     Beyond,
@@ -104,7 +104,7 @@ pub fn place_of(window: &[u32], timestamp: u32) -> usize
     window.len()
 }
 
-/// The place of a timestamp, where the window has it.
+/// The place of a timestamp, counted from the oldest; `None` where the window hasn't it.
 pub fn place_there(window: &[u32], timestamp: u32) -> Option<usize>
     ensures found { IfSome result (λ i. slice_get window.now i ≡ Some timestamp) }
     ensures none { IfNone result (All (λ t. t ≢ timestamp) window.now) }

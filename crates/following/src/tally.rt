@@ -17,7 +17,7 @@ pub struct FollowTally {
 }
 
 impl FollowTally {
-    /// Of no answer.
+    /// The counts of no answer.
     pub const NONE: FollowTally = FollowTally {
         kept: 0,
         late: 0,

@@ -92,7 +92,8 @@ fn hand_early<A: Allocator>(
     None
 }
 
-/// Hands the oldest frame out, where one is in.
+/// Hands the oldest frame out: it is then in `frame`, and its timestamp is answered. `None`, and
+/// nothing is changed, where no frame is in.
 pub fn hand_out<A: Allocator>(follower: &mut Follower<A>, frame: &mut Frame<A>) -> Option<u32>
     requires { frame.old.format ≡ follower.old.opening.format }
     ensures state { follower.new ≡ without_oldest follower.old }

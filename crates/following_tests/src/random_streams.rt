@@ -70,7 +70,7 @@ impl Totals {
     }
 }
 
-/// The timestamp of a time.
+/// A time as a timestamp: in ticks of 90 kHz, modulo 2^32.
 fn timestamp_of(time: u64) -> u32 {
     (time % 4_294_967_296) as u32
 }

@@ -7,7 +7,7 @@ use Rattle.picture_forms.specs.Layouts.{IsRgb, IsYcc}
 use Rattle.form_files.specs.declared.form.Form.{Form}
 use Rattle.form_files.specs.declared.form.Form.TheVariants.{Picture, Y4m, Pixmap, Raw}
 
--- the word for a form
+-- the word by which a form is asked for
 abbrev pub form_word : Form → List ℕ
 form_word Picture = codes "picture"
 form_word Y4m = codes "y4m"
@@ -33,7 +33,7 @@ form_by_ending name =
     (if bytes_eq (last_four name) (codes ".ppm") then Pixmap else
     (if bytes_eq (last_four name) (codes ".raw") then Raw else Picture))
 
--- pictures of this sampling have this form
+-- a form holds pictures of this sampling: YUV4MPEG2 YCbCr alone, and a pixmap RGB alone
 abbrev pub HoldsSampling : Form → Sampling → Type 0
 HoldsSampling Picture s = ⊤
 HoldsSampling Y4m s = IsYcc s

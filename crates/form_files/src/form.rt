@@ -10,7 +10,7 @@ pub enum Form {
     Picture,
     /// A YUV4MPEG2 stream of one frame.
     Y4m,
-    /// A portable pixmap.
+    /// A portable pixmap, of R, G and B.
     Pixmap,
     /// The pgroups of the raster, packed, and nothing before or behind them.
     Raw,

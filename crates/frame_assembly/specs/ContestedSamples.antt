@@ -11,7 +11,7 @@ use Rattle.st_format.specs.Position.{row_groups}
 use Rattle.st_format.specs.Raster.{Raster, cell_at}
 use Rattle.frame_assembly.specs.Missing.{in_column}
 
--- the sample of a row, a column and a component is contested
+-- the sample there is one of the raster, and values were offered for it that differ
 pub record IsContestedSample (r : Raster) (row column component : ℕ) : Type 0 where
   pub position : IsPosition (in_column row column component) r.format
   pub contested : is_contested (cell_at r (in_column row column component)) ≡ true

@@ -12,7 +12,7 @@ use Rattle.st_format.specs.Raster.{Raster}
 use Rattle.frame_assembly.specs.declared.state.GroupState.{GroupState}
 use Rattle.frame_assembly.specs.declared.state.GroupState.TheVariants.{Gone, Whole, Mixed}
 
--- the cells of a row
+-- the cells of a row, in the order in which its samples are sent
 abbrev pub row_cells : Raster → ℕ → List Cell
 row_cells r row = take (row_samples r.format) (drop (row * row_samples r.format) r.cells)
 

@@ -20,7 +20,7 @@ sample_text row column name =
     numbered_word (codes "contested row ") row ++ (numbered_word (codes " column ") column
     ++ (codes " " ++ (name ++ codes "\n")))
 
--- of a position
+-- the line of a position, which names its component
 abbrev pub contested_line : Sampling → Position → List ℕ
 contested_line s p =
     sample_text p.row p.column (slice_index_or (component_names s) p.component [])

@@ -30,6 +30,6 @@ pub record Gathers (old new : SinkTold) (page page' text : List ℕ) : Type 0 wh
   pub taken : TakesText old new first
   pub whole : page ++ text ≡ first ++ page'
 
--- a word and a number
+-- a word, and a number in decimal digits
 abbrev pub numbered_word : List ℕ → ℕ → List ℕ
 numbered_word word number = word ++ decimal number

@@ -22,7 +22,7 @@ is_of (Some g) f = same_fields (fields_of g) (fields_of f)
 
 -- ---- frames as pictures
 
--- what is held, where it has this format
+-- the picture that is held, where it has this format: one of another counts for nothing
 abbrev pub held_for : Option Values → Format → Option Values
 held_for None f = None
 held_for (Some p) f = if same_fields (fields_of p.format) (fields_of f) then Some p else None

@@ -33,7 +33,7 @@ pub trait PictureFiles {
 /// timestamp. The samples that a frame has no value for are filled.
 #[derive(Drop)]
 pub struct FilesSink<F: PictureFiles + Drop, A: Allocator = Global> {
-    /// The files.
+    /// What writes the pictures, each as a file by the name of its timestamp.
     pub files: F,
     settling: Settling<A>,
 }
@@ -54,7 +54,7 @@ impl<F: PictureFiles + Drop, A: Allocator + Copy> FilesSink<F, A> {
         }
     }
 
-    /// The files.
+    /// Gives back what wrote the files, with those that were written.
     pub fn into_files(self) -> F
         ensures { result ≡ self.files }
     {

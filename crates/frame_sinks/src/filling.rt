@@ -11,7 +11,7 @@ use st_format::{Depth, Format};
 /// How the samples of frames that follow each other are filled that are missing or contested.
 #[derive(Clone, Copy, Debug, PartialEq, Eq)]
 pub enum Filling {
-    /// By the values of a fill.
+    /// By the values of a fill, one for each component.
     Fill,
     /// By those of the picture before; of the first frame by the fill's.
     Hold,

@@ -205,7 +205,7 @@ fn settle_held<A: Allocator, B: Allocator>(
     }
 }
 
-/// The same by the fill.
+/// The same where none is held, or none of the frame's format: by the fill.
 fn settle_filled<A: Allocator>(frame: &Frame<A>, fill: Option<[u16; 3]>, samples: &mut [u16])
     requires { length samples.old ≡ sample_count frame.now.format }
     ensures settled { samples.new ≡ (picture_of fill None frame.now).samples }
@@ -215,7 +215,7 @@ fn settle_filled<A: Allocator>(frame: &Frame<A>, fill: Option<[u16; 3]>, samples
     settle_over(frame, Base::<Global>::Fill(fill), samples);
 }
 
-/// Settles a frame with this base.
+/// Settles a frame with a base of its format: only then are the samples those of a picture.
 fn settle_over<A: Allocator, B: Allocator>(frame: &Frame<A>, base: Base<'_, B>, samples: &mut [u16])
     requires base { IsBaseOf base frame.now.format }
     requires room { length samples.old ≡ sample_count frame.now.format }

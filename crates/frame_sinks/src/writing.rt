@@ -160,7 +160,7 @@ fn write_form<A: Allocator, K: ByteSink>(
     }
 }
 
-/// Whether a picture has the format of a frame.
+/// Whether a picture has a frame's format in all its fields: sampling, depth, size and rate.
 pub(crate) fn has_format<A: Allocator, B: Allocator>(picture: &Picture<B>, frame: &Frame<A>) -> bool
     ensures is { result ≡ same_fields (fields_of picture.now.format) (fields_of frame.now.format) }
     ensures same { IsTrue result → picture.now.format ≡ frame.now.format }

@@ -19,7 +19,7 @@ use Rattle.key_mix.specs.declared.faults.JobFault.TheVariants.{
 use Rattle.key_mix.specs.declared.faults.SendJobFault.{SendJobFault}
 use Rattle.key_mix.specs.declared.faults.SendJobFault.TheVariants.{Job, BadPacketSize, Sink}
 
--- of jobs
+-- the numbers of a job's faults, which aren't the order of the tests
 abbrev pub job_fault_number : JobFault → ℕ
 job_fault_number NoMemory = 1
 job_fault_number FormatsDiffer = 2
@@ -30,7 +30,7 @@ job_fault_number NotYcc444 = 6
 job_fault_number WrongInputCount = 7
 job_fault_number BadGain = 8
 
--- of jobs
+-- the names of a job's faults, as `name` answers them (own)
 abbrev pub job_fault_name : JobFault → List ℕ
 job_fault_name NoMemory = codes "NoMemory"
 job_fault_name FormatsDiffer = codes "FormatsDiffer"

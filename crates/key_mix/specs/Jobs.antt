@@ -37,7 +37,7 @@ abbrev pub along : Axis → Position → ℕ
 along Columns at = at.column
 along Rows at = at.row
 
--- how many of these there are
+-- how many columns or rows a wipe of a format has to count
 abbrev pub extent : Axis → Format → ℕ
 extent Columns f = f.width
 extent Rows f = f.height
@@ -123,7 +123,7 @@ turn_of NoMemory = 7
 abbrev pub IsSoundJob : Job → List Format → Type 0
 IsSoundJob j fs = (e : JobFault) → Against e j fs → ⊥
 
--- the first refusal
+-- a fault speaks against a job, and none that is tested before it does
 pub record IsRefusal (e : JobFault) (j : Job) (fs : List Format) : Type 0 where
   pub is : Against e j fs
   pub first : (other : JobFault) → turn_of other < turn_of e → Against other j fs → ⊥

@@ -33,7 +33,7 @@ abbrev pub made_number : {A : Type 0} → Making A → ℕ → ℕ
 made_number (Keyed a b by) k = keyed_number a.input b.input by.input k
 made_number (Matrixed rgb) k = matrixed_number rgb.input k
 
--- the picture of a format that is made
+-- the picture that is made, of this format: its samples in raster order
 abbrev pub made_picture : {A : Type 0} → Format → Making A → Values
 made_picture f m =
     record { format = f; samples = map (made_number m) (range_with_len 0 (sample_count f)) }

@@ -21,7 +21,7 @@ abbrev pub in_row : Sampling → ℕ → ℕ → Position
 in_row s row j =
     record { row = row; column = (place_in_row s j).0; component = (place_in_row s j).1 }
 
--- its weight in a wipe
+-- the weight of that sample in a wipe, by its column or its row
 abbrev pub row_weight : WipeShape → Sampling → ℕ → ℕ → ℕ
 row_weight w s row j = weight (along w.axis (in_row s row j)) w.position w.soft
 

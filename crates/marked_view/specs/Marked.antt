@@ -69,7 +69,7 @@ pixels_seen r count =
     flat_map (λ k. pixel_seen r (k / r.format.width) (k % r.format.width))
     (range_with_len 0 count)
 
--- the format of the view, by its fields
+-- the format of the view: 8 bits of R, G and B, of the frame's size and rate
 abbrev pub view_fields : Format → Fields
 view_fields f = record {
   sampling = Rgb;

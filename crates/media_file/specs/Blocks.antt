@@ -14,7 +14,7 @@ use Rattle.media_file.specs.Fields.{field_at}
 use Rattle.st_format.specs.Reading.{◌>>=◌}
 use Rattle.st_format.specs.Given.{with_rest}
 
--- the sampling of a code
+-- the sampling that a code says: 0 to 2, and no other
 abbrev pub sampling_of : ℕ → Result Sampling FileFault
 sampling_of n =
     if n == 0 then Ok Ycc422

@@ -21,11 +21,11 @@ pub record Content : Type 0 where
 abbrev pub capture_by : Version → Content → List ℕ
 capture_by v c = front_text v c.text ++ records_text c.records
 
--- what is written
+-- what is written: a capture of version 02
 abbrev pub capture_text : List ℕ → List Entry → List ℕ
 capture_text text records = capture_by Two (record { text = text; records = records })
 
--- The octets are a capture that says this.
+-- The octets are a capture of either version that says this.
 pub record IsCapture (octets : List ℕ) (c : Content) : Type 0 where
   pub version : Version
   pub front : HasFront version c.text

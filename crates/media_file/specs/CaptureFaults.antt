@@ -24,7 +24,7 @@ pub data IsCutRecord (octets : List ℕ) : Type 0 where
   Octets : 11 ≤ length octets → slice_index octets 0 ≤ 1 → length octets < 11 + count_in octets
       → IsCutRecord octets
 
--- where a capture is cut
+-- where a capture is cut: in name or version, its text, a record's head, or a record's octets
 pub data CutPlace : Type 0 where
   InKind : CutPlace
   InText : CutPlace
@@ -84,7 +84,7 @@ pub data IsCutCapture (octets : List ℕ) (limit : ℕ) : Type 0 where
   Text : HasCutText octets → IsCutCapture octets limit
   Record : HasBadRecord octets limit Truncated → IsCutCapture octets limit
 
--- the place at which a capture is cut
+-- where the octets of a capture that is cut end
 abbrev pub cut_place : {limit : ℕ} {octets : List ℕ} → IsCutCapture octets limit → CutPlace
 cut_place (Kind short) = InKind
 cut_place (Text cut) = InText

@@ -37,7 +37,7 @@ abbrev pub IsDevice : FileFault → Type 0
 IsDevice Device = ⊤
 IsDevice _ = ⊥
 
--- where each comes from
+-- where each fault comes from: want of memory, the device, or the content
 abbrev pub file_fault_origin : FileFault → Origin
 file_fault_origin NoMemory = OfMemory
 file_fault_origin Device = OfDevice
@@ -55,13 +55,13 @@ CountsFault f old new = CountsFaultBy file_fault_origin f old new
 abbrev pub CountsDevice : {V : Type 0} → ℕ → ℕ → Result V FileFault → Type 0
 CountsDevice old new result = CountsDeviceBy file_fault_origin old new result
 
--- the faults of a field
+-- the faults of a field of so many octets: the device fails, or the octets end before
 abbrev pub IsOfField : FileFault → Type 0
 IsOfField Device = ⊤
 IsOfField Truncated = ⊤
 IsOfField _ = ⊥
 
--- the faults of a file's front
+-- the faults of a file's front: of its name or version, that the octets end there, or the device's
 abbrev pub IsOfFront : FileFault → Type 0
 IsOfFront Device = ⊤
 IsOfFront BadName = ⊤

@@ -24,12 +24,12 @@ picture_name = codes "S20PIC"
 abbrev pub receiver_name : List ℕ
 receiver_name = codes "S20RCV"
 
--- the digits of a version
+-- the two digits of a version
 abbrev pub version_text : Version → List ℕ
 version_text One = codes "01"
 version_text Two = codes "02"
 
--- name and version
+-- what a file begins with: six octets of a name, and two of a version
 abbrev pub kind_text : List ℕ → Version → List ℕ
 kind_text name v = name ++ version_text v
 
@@ -70,7 +70,7 @@ kind_at name octets = field_at 8 octets >>= λ x. with_rest (kind_of name x.0) x
 unfoldable pub text_at : List ℕ → Result (List ℕ × List ℕ) FileFault
 text_at octets = field_at 2 octets >>= λ x. field_at (from_be_bytes w16 x.0) x.1
 
--- the text that a version has
+-- the text of a capture: version 01 has none, and version 02 one behind its length
 abbrev pub text_by : Version → List ℕ → Result (List ℕ × List ℕ) FileFault
 text_by One octets = Ok ([], octets)
 text_by Two octets = text_at octets

@@ -34,7 +34,7 @@ picture_head f = kind_text picture_name One ++ format_text f
 unfoldable pub picture_text : Values → List ℕ
 picture_text p = picture_head (fields_of p.format) ++ octets_in (bits_of p.format.depth) p.samples
 
--- The octets are the file of this picture.
+-- The octets are the file of this picture, each value of which fits its depth.
 pub record IsPictureFile (octets : List ℕ) (p : Values) : Type 0 where
   pub picture : IsPicture p
   pub whole : octets ≡ picture_text p

@@ -10,11 +10,11 @@ use Rattle.media_file.specs.declared.fault.FileFault.TheVariants.{Truncated, Bad
 use Rattle.media_file.specs.declared.record.RecordHead.{RecordHead}
 use Rattle.media_file.specs.Records.{Entry, entry_of}
 
--- the path of an octet
+-- the path that an octet says: 0 is A, 1 is B
 abbrev pub path_of : ℕ → Result Path FileFault
 path_of n = if n == 0 then Ok A else (if n == 1 then Ok B else Err BadField)
 
--- a head of this path
+-- a head of this path, with the moment in eight octets and the length in two
 abbrev pub head_by : Result Path FileFault → List ℕ → Result RecordHead FileFault
 head_by (Ok path) octets =
     Ok (record {
@@ -29,7 +29,7 @@ head_by (Err f) octets = Err f
 abbrev pub head_at : ℕ → List ℕ → Result RecordHead FileFault
 head_at first octets = head_by (path_of first) octets
 
--- the record of a head, and what is behind it
+-- the record of a head, whose octets have to be there, and what is behind it
 abbrev pub octets_at : Result RecordHead FileFault → List ℕ → Result (Entry × List ℕ) FileFault
 octets_at (Ok head) octets =
     if nat_lt (length octets) head.length then Err Truncated

@@ -16,12 +16,12 @@ pub record Entry : Type 0 where
 abbrev pub entry_of : RecordHead → List ℕ → Entry
 entry_of h buf = record { path = h.path; moment = h.moment; octets = take h.length buf }
 
--- what has a text
+-- what has a text: a moment of 64 bits, and at most 65,535 octets
 pub record Fits (e : Entry) : Type 0 where
   pub moment : e.moment < 2 ^ 64
   pub octets : length e.octets < 2 ^ 16
 
--- the octet of a path
+-- the octet that says a path
 abbrev pub path_octet : Path → ℕ
 path_octet A = 0
 path_octet B = 1
@@ -39,7 +39,7 @@ record_text e = path_octet e.path ∷ rest_text e
 abbrev pub records_text : List Entry → List ℕ
 records_text entries = flat_map record_text entries
 
--- each has a text
+-- each record has a text
 abbrev pub AllFit : List Entry → Type 0
 AllFit entries = AllByRecursion Fits entries
 

@@ -19,7 +19,7 @@ abbrev pub IfTold : Option (List ℕ) → (List ℕ → Type 0) → Type 0
 IfTold None P = ⊤
 IfTold (Some octets) P = P octets
 
--- the faults of a record
+-- the faults of a record: the device fails, the octets end before, or the path is none
 abbrev pub IsOfRecord : FileFault → Type 0
 IsOfRecord Device = ⊤
 IsOfRecord Truncated = ⊤

@@ -57,7 +57,7 @@ state_text k =
     kind_text receiver_name One ++
     (format_text k.format ++ (opening_text k ++ flat_map (held_text k.format) k.frames))
 
--- how many groups a raster has
+-- how many pgroups a raster has, by the fields of its format
 abbrev pub raster_groups : Fields → ℕ
 raster_groups f = f.height * (f.width / (pixel_group f.sampling f.depth).pixels)
 
@@ -73,7 +73,7 @@ abbrev pub SsrcFits : Option ℕ → Type 0
 SsrcFits None = ⊤
 SsrcFits (Some ssrc) = ssrc < 2 ^ 32
 
--- what has a text
+-- what has a text: a timestamp of 32 bits, and all groups of its raster
 pub record IsHeld (f : Fields) (h : Held) : Type 0 where
   pub timestamp : h.timestamp < 2 ^ 32
   pub count : length h.groups ≡ raster_groups f
@@ -90,7 +90,7 @@ unfoldable pub cut_cells : ℕ → ℕ → List Cell → List (List Cell)
 cut_cells size zero cells = []
 cut_cells size (suc n) cells = take size cells ∷ cut_cells size n (drop size cells)
 
--- the cells of groups, joined
+-- the cells of groups, one group behind the other
 abbrev pub joined_groups : List (List Cell) → List Cell
 joined_groups [] = []
 joined_groups (g ∷ gs) = g ++ joined_groups gs

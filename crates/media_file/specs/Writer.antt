@@ -24,7 +24,7 @@ entries_of OnlyA moment octets = entry A moment octets ∷ []
 entries_of OnlyB moment octets = entry B moment octets ∷ []
 entries_of Both moment octets = entry A moment octets ∷ entry B ((moment + 1) % 2 ^ 64) octets ∷ []
 
--- how many they are
+-- how many records a datagram has: one for each path
 abbrev pub width : Paths → ℕ
 width OnlyA = 1
 width OnlyB = 1
@@ -50,13 +50,13 @@ abbrev pub written_text : Paths → List ℕ → List (List ℕ) → List ℕ
 written_text paths text datagrams =
     front_text Two text ++ records_text (entries_from paths 0 datagrams)
 
--- the first of each two
+-- of each two records the octets of the first; nothing of a last one alone
 abbrev pub first_of_two : List Entry → List (List ℕ)
 first_of_two [] = []
 first_of_two (e ∷ []) = []
 first_of_two (e ∷ f ∷ es) = e.octets ∷ first_of_two es
 
--- the datagrams of records
+-- the datagrams that whole records are of: by both paths two records make one
 abbrev pub datagrams_by : Paths → List Entry → List (List ℕ)
 datagrams_by OnlyA entries = map (λ e. e.octets) entries
 datagrams_by OnlyB entries = map (λ e. e.octets) entries
@@ -74,7 +74,7 @@ pub record WriterPlace : Type 0 where
   pub moment : ℕ
   pub failed : Bool
 
--- behind a datagram
+-- where a writer stands behind one more datagram
 abbrev pub place_behind : WriterPlace → WriterPlace
 place_behind p =
     record {

@@ -195,6 +195,7 @@ impl<S: ByteSource> CaptureReader<S> {
     /// By where the reader stands, its source gave whole records since they began, and behind
     /// them nothing, or after a fault what is no record. A caller's proof learns it from here;
     /// nothing is done.
+    #[doc(hidden)]
     #[inline(always)]
     pub fn history(&self)
         ensures { HasGiven self.now.standing self.now.before (S.to_give self.now.source)

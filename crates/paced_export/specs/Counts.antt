@@ -18,7 +18,7 @@ is_of path ts e = is_path path e.path && timestamp_in e.octets == ts
 abbrev pub count_of : Path → ℕ → List Entry → ℕ
 count_of path ts entries = count_by (is_of path ts) entries
 
--- the timestamp of the first record
+-- the timestamp of the first record, from which on those of the others are counted
 abbrev pub first_timestamp : List Entry → Option ℕ
 first_timestamp [] = None
 first_timestamp (e ∷ entries) = Some (timestamp_in e.octets)
@@ -29,7 +29,7 @@ first_timestamp (e ∷ entries) = Some (timestamp_in e.octets)
 abbrev pub counted_in : BTreeMap ℕ ℕ → ℕ → ℕ
 counted_in m ts = unwrap_or (get nat_cmp m ts) 0
 
--- the count of a path and a timestamp
+-- how many records of a path and a timestamp are counted
 abbrev pub counted : {Al : Type 0} → FrameCounts Al → Path → ℕ → ℕ
 counted t A ts = counted_in t.a ts
 counted t B ts = counted_in t.b ts
@@ -39,7 +39,7 @@ pub record AddsOne (old new : BTreeMap ℕ ℕ) (ts : ℕ) : Type 0 where
   pub mine : counted_in new ts ≡ counted_in old ts + 1
   pub others : (q : ℕ) → q ≢ ts → counted_in new q ≡ counted_in old q
 
--- so of a path
+-- one more of this timestamp is counted of a path, and nothing else is changed
 abbrev pub AddsTo : {Al : Type 0} → FrameCounts Al → FrameCounts Al → Path → ℕ → Type 0
 AddsTo old new A ts = AddsOne old.a new.a ts × (new.b ≡ old.b) × (new.first ≡ old.first)
 AddsTo old new B ts = AddsOne old.b new.b ts × (new.a ≡ old.a) × (new.first ≡ old.first)

@@ -29,7 +29,7 @@ impl<A: Allocator + Copy> FrameCounts<A> {
         }
     }
 
-    /// How many records of a path have a timestamp.
+    /// How many records of a path have this timestamp; 0 where none was counted.
     pub(crate) fn count(&self, path: Path, timestamp: u32) -> u64
         ensures { result ≡ counted self.now path timestamp }
     {

@@ -3,7 +3,7 @@ use Rattle.std.specs.Prelude.{ℕ, ◌/◌, ◌%◌, ◌==◌, Bool, ◌||◌, L
 use Rattle.std.specs.Int.{bit_at}
 use Rattle.std.specs.List.{range_with_len}
 
--- the flag of a place
+-- the flag of place k: bit k mod 64 of word k / 64
 abbrev pub flag_at : List ℕ → ℕ → Bool
 flag_at words place = bit_at (slice_index words (place / 64)) (place % 64) == 1
 

@@ -12,11 +12,11 @@ pub record Numbers : Type 0 where
   pub first : ℕ
   pub noted : List Bool
 
--- how many places there are
+-- how many packet numbers a map has places for
 abbrev pub number_count : Numbers → ℕ
 number_count m = length m.noted
 
--- how many there may be
+-- how many places a map may have (own)
 pub record IsCount (count : ℕ) : Type 0 where
   pub some : 1 ≤ count
   pub most : count ≤ 1048576
@@ -85,7 +85,7 @@ runs_from start place (false ∷ flags) = runs_from start (place + 1) flags
 abbrev pub numbered_run : ℕ → (ℕ × ℕ) → (ℕ × ℕ)
 numbered_run first run = ((first + run.0) % 2 ^ 32, run.1)
 
--- the list that `missing_runs` answers
+-- the runs of numbers that never came, as `missing_runs` answers them: first number and count
 abbrev pub missing_runs_of : Numbers → List (ℕ × ℕ)
 missing_runs_of m = map (numbered_run m.first) (runs_from 0 0 m.noted)
 

@@ -8,7 +8,7 @@ use Rattle.st_format.specs.Position.{group_count, row_groups}
 use Rattle.payload_header.specs.Payload.{group_of, most_segments}
 use Rattle.packet_plan.specs.declared.run.PacketRun.{PacketRun}
 
--- how many octets a pgroup has
+-- how many octets a pgroup of the format takes (RFC 4175, 4.3)
 unfoldable pub group_octets : Format → ℕ
 group_octets f = (group_of f).octets
 
@@ -21,7 +21,7 @@ pub record IsRun (f : Format) (r : PacketRun) : Type 0 where
 abbrev pub numbers : Format → PacketRun → List ℕ
 numbers f r = range_with_len (r.row * row_groups f + r.first) r.groups
 
--- how many pgroups runs have
+-- how many pgroups runs have together
 abbrev pub run_groups : List PacketRun → ℕ
 run_groups [] = 0
 run_groups (r ∷ rs) = r.groups + run_groups rs
@@ -92,6 +92,6 @@ pub record RasterPlan : Type 0 where
   pub max_octets : ℕ
   pub packets : List (List PacketRun)
 
--- the runs of a packet, by its place
+-- the runs of the packet of this place in a plan; none where there is no such packet
 abbrev pub packet_at : RasterPlan → ℕ → List PacketRun
 packet_at plan i = slice_index_or plan.packets i []

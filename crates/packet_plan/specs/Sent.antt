@@ -18,7 +18,7 @@ use Rattle.packet_plan.specs.Plan.{numbers, IsRasterPlan}
 abbrev pub sample : Values → ℕ → ℕ
 sample p k = slice_index p.samples k
 
--- how many samples a pgroup has
+-- how many samples a pgroup of the format has (RFC 4175, 4.3)
 abbrev pub group_samples : Format → ℕ
 group_samples f = (group_of f).samples
 

@@ -32,7 +32,7 @@ abbrev pub taken_at : Opening → List ℕ → Result Taken Refusal
 taken_at o octets =
     datagram_walk o.format o.payload_type o.ssrc octets >>= λ d. Ok (kept_or_outside o.window d)
 
--- the last 64 of a list
+-- the last 64 of a list, or all where there are fewer
 abbrev pub last_64 : {X : Type 0} → List X → List X
 last_64 xs = drop (length xs - 64) xs
 

@@ -56,7 +56,7 @@ abbrev pub cell_if : Option Raster → Position → Cell
 cell_if None p = Missing
 cell_if (Some r) p = cell_at r p
 
--- the cell of a timestamp and a position
+-- the cell of a timestamp and a position: missing where the window hasn't the timestamp
 abbrev pub cell_in : State → ℕ → Position → Cell
 cell_in s ts p = cell_if (frame_at s.opening.window s.frames ts) p
 

@@ -8,7 +8,7 @@ use Rattle.path_receiver.specs.declared.play_fault.PlayFault.TheVariants.{Double
 use Rattle.path_receiver.specs.declared.play_fault.PlayFault.TheVariants.{BadPictures}
 use Rattle.path_receiver.specs.declared.play_fault.PlayFault.TheVariants.{BadReceivers}
 
--- the number of a fault
+-- the numbers of the faults, as `number` answers them (own)
 abbrev pub play_fault_number : PlayFault → ℕ
 play_fault_number NoMemory = 1
 play_fault_number (BadEvent place) = 2

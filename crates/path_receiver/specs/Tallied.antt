@@ -33,7 +33,7 @@ tally_after (Err e) t =
 
 -- ---- all answers
 
--- an answer is this refusal
+-- a datagram was refused for this reason
 abbrev pub is_refusal : Refusal → Result Taken Refusal → Bool
 is_refusal e (Ok taken) = false
 is_refusal e (Err f) = refusal_number f == refusal_number e

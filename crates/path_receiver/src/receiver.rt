@@ -351,7 +351,7 @@ impl<A: Allocator> Receiver<A> {
         mem::swap(&mut self.frames[place], frame);
     }
 
-    /// The frame of a timestamp, where the window has it.
+    /// The frame of a timestamp, in 90 kHz ticks; `None` where the window hasn't it.
     pub fn frame(&self, timestamp: u32) -> Option<&Frame<A>>
         ensures frame { option_copied result
             ≡ frame_at self.now.opening.window self.now.frames timestamp }

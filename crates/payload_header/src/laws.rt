@@ -24,7 +24,7 @@ pub fn read_or_refused()
         ⊎ ((fault : PayloadFault) × IsRefusedPayload octets f fault) }
 {}
 
-/// A payload isn't refused.
+/// What is a payload isn't refused: with the law before, octets are the one or the other.
 pub fn payload_not_refused()
     ensures { (f : Format) (octets : List ℕ) (extended : ℕ) (segments : List Segment)
         (fault : PayloadFault)

@@ -46,7 +46,7 @@ pub record IsHeader4 (header : List ℕ) : Type 0 where
   pub fixed : 20 ≤ header_octets header
   pub inside : header_octets header ≤ total_octets header
 
--- one that can't
+-- a header that can't be one: another version, fewer than five words, or more than the packet
 abbrev pub IsBadHeader4 : List ℕ → Type 0
 IsBadHeader4 header =
     (version_of header ≢ 4)
@@ -82,7 +82,7 @@ next_of header = slice_index header 6
 abbrev pub is_passed : ℕ → Bool
 is_passed n = n == 0 || n == 43 || n == 60
 
--- a fragment's header
+-- the number of a fragment's header among those of IPv6 (RFC 8200, 4.5)
 abbrev pub fragment_header : ℕ
 fragment_header = 44
 
@@ -117,7 +117,7 @@ pub record IsPacket6 (octets : List ℕ) (p : Packet) : Type 0 where
   pub destination : p.destination ≡ take 16 (drop 24 header)
   pub whole : octets ≡ header ++ (payload ++ behind)
 
--- by the version
+-- the octets are a packet of this version that carries this for UDP
 abbrev pub IsPacket : IpVersion → List ℕ → Packet → Type 0
 IsPacket V4 octets p = IsPacket4 octets p
 IsPacket V6 octets p = IsPacket6 octets p

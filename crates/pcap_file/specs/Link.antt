@@ -134,7 +134,7 @@ tag_octets (suc n) octets =
 abbrev pub type_place : ℕ → List ℕ → ℕ
 type_place count octets = count + tag_octets 2 (drop count octets)
 
--- where the packet begins
+-- how many octets stand before the packet
 abbrev pub packet_place : Link → List ℕ → ℕ
 packet_place Null octets = 4
 packet_place Ethernet octets = type_place 12 octets + 2

@@ -4,7 +4,7 @@ use Rattle.std.specs.Int.{Width, w16, w32, from_be_bytes, from_le_bytes}
 use Rattle.pcap_file.specs.declared.order.ByteOrder.{ByteOrder}
 use Rattle.pcap_file.specs.declared.order.ByteOrder.TheVariants.{Big, Little}
 
--- the number of octets
+-- the number that octets are, of this order and width
 abbrev pub number_by : ByteOrder → Width → List ℕ → ℕ
 number_by Big w octets = from_be_bytes w octets
 number_by Little w octets = from_le_bytes w octets

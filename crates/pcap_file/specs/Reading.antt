@@ -107,7 +107,7 @@ packet_6_at octets =
     if nat_lt (length octets) 40 then Err CutShort
     else packet_6_by (take 40 octets) (drop 40 octets)
 
--- by the version
+-- the packet of this version that octets begin with, or why there is none
 abbrev pub packet_at : IpVersion → List ℕ → Result Packet NoDatagram
 packet_at V4 octets = packet_4_at octets
 packet_at V6 octets = packet_6_at octets

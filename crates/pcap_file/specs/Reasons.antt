@@ -11,7 +11,7 @@ use Rattle.pcap_file.specs.Ip.{IsBadPacket, IsCutPacket, IsFragment, IsNotUdp, P
 use Rattle.pcap_file.specs.Udp.{IsBadLength}
 use Rattle.pcap_file.specs.Datagram.{HasPacket}
 
--- the numbers of the reasons
+-- the numbers of the reasons, as `number` answers them (own)
 abbrev pub reason_number : NoDatagram → ℕ
 reason_number CutShort = 1
 reason_number NotIp = 2

@@ -8,7 +8,7 @@ use Rattle.pcap_file.specs.declared.fault.RecordingFault.TheVariants.{TooManyInt
 use Rattle.pcap_file.specs.declared.fault.RecordingFault.TheVariants.{PacketTooLong, Packed}
 use Rattle.pcap_file.specs.declared.fault.RecordingFault.TheVariants.{TooManyBlocks}
 
--- the numbers of the faults
+-- the numbers of the faults, as `number` answers them (own)
 abbrev pub recording_fault_number : RecordingFault → ℕ
 recording_fault_number Device = 1
 recording_fault_number Truncated = 2

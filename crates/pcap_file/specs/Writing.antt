@@ -21,7 +21,7 @@ word_sum (x ∷ y ∷ rest) = 256 * x + y + word_sum rest
 abbrev pub folded : ℕ → ℕ
 folded sum = if sum == 0 then 0 else (sum - 1) % 65535 + 1
 
--- its complement
+-- the complement of that sum, which is a checksum. RFC 1071, 1
 abbrev pub complement_of : ℕ → ℕ
 complement_of sum = 65535 - folded sum
 
@@ -77,7 +77,7 @@ record_text time count =
     (to_be_bytes w32 (time / 1000000000) ++ to_be_bytes w32 (time % 1000000000))
     ++ (to_be_bytes w32 count ++ to_be_bytes w32 count)
 
--- the checksums that are sent
+-- the checksum of a header of IPv4, over the header with 0 in its place. RFC 791, 3.1
 abbrev pub ip_checksum : Envelope → ℕ → ℕ
 ip_checksum e total = complement_of (word_sum (ip_text e total 0))
 
@@ -96,14 +96,14 @@ heads_text e time payload =
     ++ (ip_text e (28 + length payload) (ip_checksum e (28 + length payload))
     ++ udp_text e (8 + length payload) (udp_checksum e payload)))
 
--- a frame
+-- a frame of Ethernet: its header, those of IPv4 and UDP, and the datagram's octets
 abbrev pub frame_text : Envelope → List ℕ → List ℕ
 frame_text e payload =
     ethernet_text e
     ++ (ip_text e (28 + length payload) (ip_checksum e (28 + length payload))
     ++ (udp_text e (8 + length payload) (udp_checksum e payload) ++ payload))
 
--- a record
+-- a record of pcap: its head of 16 octets, and the frame
 abbrev pub datagram_text : Envelope → ℕ → List ℕ → List ℕ
 datagram_text e time payload =
     record_text time (42 + length payload) ++ frame_text e payload
@@ -117,7 +117,7 @@ pub record EnvelopeFits (e : Envelope) : Type 0 where
   pub source_port : e.source_port < 2 ^ 16
   pub destination_port : e.destination_port < 2 ^ 16
 
--- the datagram
+-- the datagram that is read again of an envelope and octets
 abbrev pub datagram_of : Envelope → List ℕ → Datagram
 datagram_of e payload =
     record {

@@ -56,12 +56,12 @@ heads6_text e time payload =
     record_text time (62 + length payload)
     ++ (ethernet6_text e ++ (ip6_text e (8 + length payload) ++ udp6_text e payload))
 
--- a frame
+-- a frame of Ethernet: its header, those of IPv6 and UDP, and the datagram's octets
 abbrev pub frame6_text : Envelope6 → List ℕ → List ℕ
 frame6_text e payload =
     ethernet6_text e ++ (ip6_text e (8 + length payload) ++ (udp6_text e payload ++ payload))
 
--- a record
+-- a record of pcap: its head of 16 octets, and the frame
 abbrev pub datagram6_text : Envelope6 → ℕ → List ℕ → List ℕ
 datagram6_text e time payload =
     record_text time (62 + length payload) ++ frame6_text e payload

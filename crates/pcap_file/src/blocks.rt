@@ -55,7 +55,7 @@ const OFFSET: u16 = 14;
 /// An interface, as a section describes it.
 #[derive(Clone, Copy, Default)]
 pub struct Interface {
-    /// The number of the link layer.
+    /// The number of the link layer, in the registry of link-layer header types.
     pub link: u16,
     /// How many octets of a packet are kept at most; 0 for all.
     pub snap: u32,
@@ -146,7 +146,8 @@ fn option_of(order: ByteOrder, octets: &[u8], code: u16) -> Result<Option<&[u8]>
     Ok(None)
 }
 
-/// How many units a second has at a resolution.
+/// How many units a second has at a resolution: a power of 10, or of 2 where the top bit is set.
+/// None where that isn't below 2^64.
 fn per_second_of(resolution: u8) -> Option<u64>
     ensures { result ≡ per_second_of resolution }
 {

@@ -18,7 +18,7 @@ pub enum RecordingFault {
     /// The octets begin neither a file of pcap nor one of pcapng, or a section has no order.
     #[error("the octets begin no recording, or a section has no order")]
     BadMagic = 3,
-    /// Its version is not read.
+    /// Its version is not read: neither 2.4 of pcap, nor 1.0 or 1.2 of pcapng.
     #[error("its version is not read")]
     BadVersion = 4,
     /// The lengths of a block don't fit each other or what it holds, or are beyond all use.

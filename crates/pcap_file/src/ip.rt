@@ -17,7 +17,7 @@ use crate::numbers::number_16;
 /// The octets of a header of IPv4 without options.
 const HEADER_4: usize = 20;
 
-/// The octets of a header of IPv6.
+/// The octets of a header of IPv6 (RFC 8200, 3).
 const HEADER_6: usize = 40;
 
 /// The number of UDP among protocols.

@@ -16,7 +16,7 @@ ghost use Rattle.pcap_file.specs.declared.datagram.NoDatagram.{NoDatagram as Rea
 use crate::datagram::NoDatagram;
 use crate::numbers::number_16;
 
-/// A version of IP.
+/// A version of IP: 4 (RFC 791) or 6 (RFC 8200).
 #[derive(Clone, Copy)]
 pub enum IpVersion {
     V4,
@@ -86,7 +86,8 @@ fn version_of_type(number: u16) -> Option<IpVersion>
     None
 }
 
-/// The version of IP that a family of addresses is of.
+/// The version of IP that a family of addresses is of. IPv4's is 2; IPv6's is 24, 28 or 30, by the
+/// system that recorded.
 fn version_of_family(number: u32) -> Option<IpVersion>
     ensures { result ≡ version_of_family number }
 {
@@ -109,7 +110,7 @@ fn version_of_either(four: [u8; 4]) -> Option<IpVersion>
     }
 }
 
-/// The version that a packet says.
+/// The version that a packet says in its first four bits (RFC 791, 3.1; RFC 8200, 3).
 fn version_of_packet(packet: &[u8]) -> Option<IpVersion>
     ensures { result ≡ version_of_packet packet.now }
 {

@@ -36,7 +36,7 @@ pub struct PcapHead {
     pub nanoseconds: bool,
     /// How many octets of a packet the recorder kept at most. Nothing is made of it.
     pub snap: u32,
-    /// The number of the link layer.
+    /// The number of the link layer, in the registry of link-layer header types.
     pub link: u16,
 }
 
@@ -45,11 +45,11 @@ pub struct PcapHead {
 pub struct PacketHead {
     /// When it came: nanoseconds since 1970; `None` where the recording doesn't say.
     pub time: Option<u64>,
-    /// The number of the link layer.
+    /// The number of the link layer, in the registry of link-layer header types.
     pub link: u16,
     /// How many of its octets were kept.
     pub captured: u32,
-    /// How many it had.
+    /// How many it had, also those that were not kept.
     pub original: u32,
     /// The interface that it was taken at; `None` where the recording doesn't say its name, as no
     /// recording of the classic layout does, or says a text that is no name.

@@ -28,9 +28,9 @@ pub const MOST_PACKET: usize = 1_048_576;
 /// to come, and how many records or blocks may still come.
 #[derive(Drop)]
 pub enum Layout {
-    /// The classic layout.
+    /// The classic layout, pcap: its head, and how many records may still come.
     Pcap(PcapHead, u64),
-    /// Blocks.
+    /// Blocks, pcapng: the section that is read, and how many blocks may still come.
     Blocks(Section, u64),
 }
 
@@ -106,7 +106,7 @@ fn open_blocks<S: ByteSource>(
     }
 }
 
-/// The fault of octets that begin no recording.
+/// The fault of octets that begin no recording: `Packed` where gzip packed them.
 fn foreign(octets: &[u8]) -> RecordingFault
     requires { 2 ≤ length octets.now }
     ensures { result ≡ foreign_of octets.now }

@@ -29,13 +29,13 @@ pub const INTERFACES: usize = 64;
 /// A section of a recording, as far as it was read.
 #[derive(Drop)]
 pub struct Section {
-    /// The order of its numbers.
+    /// The order of the octets in its numbers.
     pub order: ByteOrder,
     /// The interfaces that it has described so far.
     pub interfaces: ArrayVec<Interface, 64>,
 }
 
-/// What a step finds.
+/// What is found by reading on, block by block.
 #[derive(Clone, Copy, Debug, PartialEq, Eq)]
 pub enum Step {
     /// The end of the recording.
@@ -47,7 +47,7 @@ pub enum Step {
 }
 
 impl Section {
-    /// The beginning of a section.
+    /// A section that has described no interface yet.
     pub fn new(order: ByteOrder) -> Section
         ensures { known result ≡ fresh order }
     {
@@ -88,7 +88,7 @@ fn packet_step(
     }
 }
 
-/// What the body of a block does.
+/// Takes the body of a block by its type: it describes an interface, has a packet, or is passed.
 fn enter(section: &mut Section, kind: u32, body: &[u8]) -> Result<Step, RecordingFault>
     ensures ok { IfOk result (λ s. enter_of (known section.old) kind body.now
         ≡ Ok (known section.new, step_seen s body.now)) }

@@ -13,7 +13,7 @@ use crate::datagram::{DatagramView, NoDatagram};
 use crate::ip::PacketView;
 use crate::numbers::number_16;
 
-/// The octets of the header.
+/// The octets of the header (RFC 768).
 const HEADER: usize = 8;
 
 /// What speaks against a header, where so many octets are there.

@@ -43,7 +43,7 @@ pub(crate) fn word_sum(octets: &[u8]) -> u64
     sum
 }
 
-/// The complement of a sum of ones' complements.
+/// The complement of a sum of ones' complements, in 16 bits (RFC 1071, 1).
 pub(crate) fn complement_of(sum: u64) -> u16
     ensures { result ≡ complement_of sum }
 {
@@ -95,7 +95,7 @@ fn ip_checksum(envelope: &Envelope, total: u16) -> u16
     complement_of(word_sum(&header))
 }
 
-/// Writes a header of UDP.
+/// Writes a header of UDP, its numbers most significant octet first (RFC 768).
 pub(crate) fn write_udp(
     buf: &mut [u8],
     source_port: u16,
@@ -120,7 +120,8 @@ fn pseudo_sum(envelope: &Envelope, count: u16) -> u64
     word_sum(&envelope.source) + word_sum(&envelope.destination) + 17 + count as u64
 }
 
-/// The checksum of a datagram.
+/// The checksum of a datagram, as UDP sends it: 65,535 in place of 0, which would say that there is
+/// none (RFC 768).
 fn udp_checksum(envelope: &Envelope, payload: &[u8]) -> u16
     requires { length payload.now ≤ 65507 }
     ensures { result ≡ udp_checksum envelope.now payload.now }
@@ -152,7 +153,7 @@ fn ethernet_of(address: [u8; 4]) -> [u8; 6]
     [1, 0, 0x5e, address[1] % 128, address[2], address[3]]
 }
 
-/// Writes a header of Ethernet.
+/// Writes a header of Ethernet, from the address 0, for a packet of IPv4.
 fn write_ethernet(buf: &mut [u8], envelope: &Envelope)
     requires { length buf.old ≡ 14 }
     ensures { buf.new ≡ ethernet_text envelope.now }

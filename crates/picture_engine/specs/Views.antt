@@ -55,7 +55,7 @@ IsFillOf (Some text) fill q = IsFill fill text.now (q ∷ [])
 abbrev pub HasFill : Option (Bor (List ℕ)) → Raster → Type 0
 HasFill text q = (fill : List ℕ) × IsFillOf text fill q
 
--- it has none
+-- a frame has no such values
 abbrev pub LacksFill : Option (Bor (List ℕ)) → Raster → Type 0
 LacksFill text q = (fill : List ℕ) → IsFillOf text fill q → ⊥
 

@@ -58,7 +58,7 @@ abbrev pub parameters_at : Bool → List ℕ → Result (⊤ × List ℕ) FormFa
 parameters_at false octets = Ok (tt, octets)
 parameters_at true octets = line_at 256 octets >>= λ x. Ok (tt, x.1)
 
--- the line of a frame
+-- the line of a frame: `FRAME`, parameters, which say nothing, and LF
 unfoldable pub frame_line_at : List ℕ → Result (⊤ × List ℕ) FormFault
 frame_line_at octets =
     field_at 6 octets >>= λ x. frame_mark x.0 >>= λ more. parameters_at more x.1

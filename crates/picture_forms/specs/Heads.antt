@@ -112,12 +112,12 @@ told_last letter found (word ∷ ws) = told_last letter (told letter found word)
 abbrev pub last_of : ℕ → List ℕ → Option (List ℕ)
 last_of letter text = told_last letter None (words text)
 
--- what has to be there
+-- what a head has to say, or it is `BadHeader`
 abbrev pub needed : {A : Type 0} → Option A → Result A FormFault
 needed None = Err BadHeader
 needed (Some x) = Ok x
 
--- the number of a text that has to be there
+-- the number that a text is, which has to be there
 abbrev pub number_at : Option (List ℕ) → Result ℕ FormFault
 number_at None = Err BadHeader
 number_at (Some text) = needed (number text)
@@ -138,7 +138,7 @@ abbrev pub scan_at : Option (List ℕ) → Result ⊤ FormFault
 scan_at None = Ok tt
 scan_at (Some text) = if bytes_eq text (codes "p") then Ok tt else Err UnsupportedForm
 
--- sampling and depth
+-- the sampling and the depth of a word: 4:2:2 or 4:4:4, and the bits where they are more than 8
 unfoldable pub colour_named : List ℕ → Result (Sampling × Depth) FormFault
 colour_named text =
     if bytes_eq text (codes "422") then Ok (Ycc422, D8) else

@@ -111,7 +111,7 @@ depth_word D10 = codes "p10\n"
 depth_word D12 = codes "p12\n"
 depth_word D16 = codes "p16\n"
 
--- a word and a number
+-- a word, and a number in decimal digits
 abbrev pub numbered_word : List ℕ → ℕ → List ℕ
 numbered_word word number = word ++ decimal number
 

@@ -11,7 +11,7 @@ sample_text One v = v ∷ []
 sample_text Little v = v % 256 ∷ v / 256 ∷ []
 sample_text Big v = v / 256 ∷ v % 256 ∷ []
 
--- how many they are
+-- how many octets a sample takes
 abbrev pub sample_size : Spelling → ℕ
 sample_size One = 1
 sample_size Little = 2
@@ -32,7 +32,7 @@ unfoldable pub every_text : Spelling → List ℕ → ℕ → ℕ → ℕ → �
 every_text s samples first step start n =
     flat_map (λ k. sample_text s (every samples first step k)) (range_with_len start n)
 
--- that many stand in the list
+-- a component begins within a step, and all steps of that many samples are in the list
 pub record Inside (samples : List ℕ) (first step count : ℕ) : Type 0 where
   pub low : first < step
   pub within : step * count ≤ length samples

@@ -16,7 +16,7 @@ use Rattle.picture_forms.specs.Faults.{form_fault_origin}
 abbrev pub field_at : ℕ → List ℕ → Result (List ℕ × List ℕ) FormFault
 field_at n octets = field_by Truncated n octets
 
--- the end of a line
+-- LF, by which a line ends
 abbrev pub line_feed : ℕ
 line_feed = 10
 

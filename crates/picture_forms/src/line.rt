@@ -26,7 +26,7 @@ impl Model for Line {
 }
 
 impl Line {
-    /// No text.
+    /// A line in which nothing is put yet.
     pub(crate) fn new() -> Line
         ensures { result ≡ [] }
     {
@@ -36,14 +36,14 @@ impl Line {
         }
     }
 
-    /// The text.
+    /// What was put together so far.
     pub(crate) fn text(&self) -> &[u8]
         ensures { result.now ≡ self.now }
     {
         &self.room[..self.filled]
     }
 
-    /// Adds a word.
+    /// Adds a word, for which its callers show that there is room.
     pub(crate) fn add(&mut self, word: &[u8])
         requires { length self.old + length word.now ≤ ROOM }
         ensures text { self.new ≡ self.old ++ word.now }

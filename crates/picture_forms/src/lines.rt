@@ -7,7 +7,7 @@ use crate::fault::FormFault;
 use crate::plane_reading::read_field;
 use st_format::ByteSource;
 
-/// Reads an octet.
+/// Reads an octet; `Truncated` where the source is at its end, and `Device`.
 pub(crate) fn read_octet<S: ByteSource>(source: &mut S) -> Result<u8, FormFault>
     ensures given { IfOk result (λ o. Gives (S.to_give source.old) (S.to_give source.new)
         (S.gave source.old) (S.gave source.new) (o ∷ [])) }

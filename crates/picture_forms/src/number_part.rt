@@ -27,7 +27,7 @@ pub(crate) struct NumberPart {
 /// What an octet makes of a part.
 #[derive(Clone, Copy)]
 pub(crate) enum NumberStep {
-    /// It goes on.
+    /// The number isn't ended: it goes on, or has yet to begin.
     More(NumberPart),
     /// The number ended.
     Done(u32),
@@ -79,7 +79,7 @@ fn white_step_of(stage: Stage, value: u32) -> NumberStep
     }
 }
 
-/// The same of a digit of this value.
+/// The same of a digit of this value, before which white space has to stand once.
 fn digit_step_of(stage: Stage, value: u32, digit: u32) -> NumberStep
     requires { digit < 10 }
     ensures { result ≡ digit_step stage value digit }

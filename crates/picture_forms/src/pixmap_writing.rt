@@ -93,7 +93,7 @@ fn write_parts<K: ByteSink>(
     write_pixels(sink, format, samples)
 }
 
-/// The head of a pixmap.
+/// The head of a pixmap: `P6`, the size in pixels, and the greatest value of a sample.
 fn head_text(format: &Format) -> Line
     ensures { result ≡ pixmap_head format.now }
 {

@@ -66,7 +66,7 @@ pub fn spell(
     }
 }
 
-/// An octet for each sample.
+/// An octet for each sample, in a loop of its own for each stride of a component.
 fn spell_one(samples: &[u16], stride: Stride, start: usize, count: usize, octets: &mut [u8])
     requires inside { Inside samples.now stride.first stride.step (start + count) }
     requires fit { All (λ v. v < 256) samples.now }

@@ -5,7 +5,7 @@ ghost use Rattle.picture_forms.specs.Writing.{Writes, WritesPart};
 
 use st_format::{ByteSink, DeviceFault, write_whole};
 
-/// Writes all of `octets`.
+/// Writes all of `octets`, and less only where the device fails.
 pub(crate) fn write_all<K: ByteSink>(sink: &mut K, octets: &[u8]) -> Result<(), DeviceFault>
     ensures ok { OnOk result (Writes (K.held sink.old) (K.held sink.new)
         (K.took sink.old) (K.took sink.new) octets.now) }

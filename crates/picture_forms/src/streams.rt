@@ -21,14 +21,14 @@ use st_format::{ByteSource, Format, Picture};
 use std::alloc::Allocator;
 use std::marker::Model;
 
-/// Where a reader stands.
+/// Where a reader stands in its stream.
 #[derive(Clone, Copy)]
 pub enum Standing {
     /// At the front of a frame or at the end, which one isn't known.
     Reads,
-    /// At the end.
+    /// At the end, at which it stays.
     Ended,
-    /// At its fault.
+    /// At this fault, at which it stays.
     Failed(FormFault),
 }
 

@@ -71,7 +71,7 @@ fn read_head<S: ByteSource>(source: &mut S) -> Result<Format, FormFault>
     format_of_head(&line[..n])
 }
 
-/// Reads the name of a stream.
+/// Reads the nine octets by which a stream begins: `YUV4MPEG2`, or it is `BadMagic`.
 fn read_name<S: ByteSource>(source: &mut S) -> Result<(), FormFault>
     ensures read { OnOk result (Reads name_at
         (S.to_give source.old) (S.to_give source.new)

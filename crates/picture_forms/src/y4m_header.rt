@@ -57,7 +57,7 @@ fn told<'a>(word: &'a [u8], letter: u8, found: Option<&'a [u8]>) -> Option<&'a [
     }
 }
 
-/// A number that has to be there.
+/// A number that has to be there, or it is `BadHeader`.
 fn number_in(text: Option<&[u8]>) -> Result<u32, FormFault>
     ensures value { result ≡ number_at (option_copied text.entry) }
     ensures named { IfErr result IsShown }
@@ -102,7 +102,7 @@ fn scan_in(text: Option<&[u8]>) -> Result<(), FormFault>
     }
 }
 
-/// Sampling and depth.
+/// Sampling and depth. A stream that says none has 4:2:0, which isn't read.
 fn colour_in(text: Option<&[u8]>) -> Result<(Sampling, Depth), FormFault>
     ensures value { result ≡ colour_at (option_copied text.entry) }
     ensures ycc { IfOk result (λ c. IsYcc c.0) }
@@ -114,7 +114,7 @@ fn colour_in(text: Option<&[u8]>) -> Result<(Sampling, Depth), FormFault>
     }
 }
 
-/// Sampling and depth of a word.
+/// Sampling and depth that a word names; any other is `UnsupportedForm`.
 #[tactic(auto, unfolding(crate::specs::Heads::colour_named))]
 fn colour_named(text: &[u8]) -> Result<(Sampling, Depth), FormFault>
     ensures value { result ≡ colour_named text.now }

@@ -68,7 +68,7 @@ fn read_chroma<S: ByteSource>(
     read_component(source, format, samples, 2)
 }
 
-/// Reads the plane of a component.
+/// Reads the plane of a component, 0 for Y, 1 for Cb and 2 for Cr, to its places in the raster.
 fn read_component<S: ByteSource>(
     source: &mut S,
     format: &Format,

@@ -43,7 +43,7 @@ pub fn write_y4m_head<K: ByteSink>(sink: &mut K, format: &Format) -> Result<(), 
     Ok(())
 }
 
-/// The line of a stream.
+/// The first line of a stream: progressive, of square pixels.
 fn head_line(format: &Format) -> Line
     requires { IsYcc format.now.sampling }
     ensures { result ≡ y4m_head format.now }
@@ -59,7 +59,7 @@ fn head_line(format: &Format) -> Line
     line
 }
 
-/// The word for a sampling.
+/// The word for a sampling; none for RGB, which no stream has.
 fn sampling_word_of(sampling: Sampling) -> &'static [u8]
     ensures text { result.now ≡ sampling_word sampling }
     ensures short { length result.now ≤ 5 }
@@ -163,7 +163,7 @@ fn write_frame<K: ByteSink>(
     write_planes(sink, format, samples)
 }
 
-/// The planes.
+/// The planes of Y, Cb and Cr, one behind the other.
 fn write_planes<K: ByteSink>(
     sink: &mut K,
     format: &Format,
@@ -207,7 +207,7 @@ fn write_chroma<K: ByteSink>(
     write_component(sink, format, samples, 2)
 }
 
-/// The plane of a component.
+/// The plane of a component: 0 for Y, 1 for Cb and 2 for Cr.
 fn write_component<K: ByteSink>(
     sink: &mut K,
     format: &Format,
@@ -261,7 +261,7 @@ pub fn stride_of(sampling: Sampling, component: u8) -> Stride
     }
 }
 
-/// How many samples a plane has.
+/// How many samples a component has: of Cb and Cr in 4:2:2 one for each two pixels.
 pub fn plane_count_of(format: &Format, component: u8) -> usize
     requires { component < 3 }
     ensures value { result ≡ plane_count format.now component }

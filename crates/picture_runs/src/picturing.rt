@@ -55,7 +55,6 @@ impl<'a> PictureCommand<'a> {
     }
 }
 
-/// What `picture` is asked for, beside its files.
 fn asked<'a>(words: &PictureWords<'a>) -> PictureAsked<'a>
     ensures { IsAskedBy words.now result }
 {
@@ -66,7 +65,7 @@ fn asked<'a>(words: &PictureWords<'a>) -> PictureAsked<'a>
     }
 }
 
-/// How the frame is shown.
+/// How the frame is shown: where it is marked, a fill says nothing.
 fn view<'a>(words: &PictureWords<'a>) -> View<'a>
     ensures { IsViewAsked words.now result }
 {
@@ -76,7 +75,6 @@ fn view<'a>(words: &PictureWords<'a>) -> View<'a>
     View::Settled(octets(words.fill))
 }
 
-/// The octets of a text, where there is one.
 fn octets(text: Option<&str>) -> Option<&[u8]>
     ensures { option_copied result ≡ option_copied text.entry }
 {

@@ -76,7 +76,7 @@ AreLentAt fs ts rs =
 abbrev pub FitsLent : List ℕ → List (Bor Raster) → Type 0
 FitsLent fill fs = AllByRecursion (λ f. AllByRecursion (FitsDepth f.now.format) fill) fs
 
--- a frame with a fill
+-- a frame whose samples without a value take those of a fill
 abbrev pub filled_input : {A : Type 0} → List ℕ → Bor Raster → JobInput A
 filled_input fill f = record { frame = f; base = Fill fill }
 

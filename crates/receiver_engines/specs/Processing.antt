@@ -83,7 +83,7 @@ SendsFiles told states hold job_text ts fill_text size stamp old new count =
 abbrev pub PrintsSent : ℕ → List ℕ → List ℕ → Type 0
 PrintsSent count old new = new ≡ old ++ (line_text (Sent count) ++ 10 ∷ [])
 
--- a fault of a sending
+-- the fault by which a run ends that sends a job's picture: the job's, the plan's, or a device's
 abbrev pub of_send_job : SendJobFault → Fault
 of_send_job (sending.Job e) = of_job e
 of_send_job sending.BadPacketSize = of_plan plan.BadPacketSize

@@ -16,11 +16,11 @@ use Rattle.st_format.specs.Reading.{◌>>=◌}
 use Rattle.media_file.specs.Groups.{Shape, are_zeroed, cells_by, mixed_by, shape_of}
 use Rattle.media_file.specs.StateFile.{cut_cells}
 
--- the pgroups of a format
+-- the shape of a format's pgroups: their octets and samples, and the bits of a sample
 abbrev pub shape_in : Format → Shape
 shape_in f = shape_of f.sampling f.depth
 
--- the groups of a row
+-- the cells of a row, pgroup by pgroup
 abbrev pub row_cut : Raster → ℕ → List (List Cell)
 row_cut r row =
     cut_cells (shape_in r.format).samples (row_groups r.format)
@@ -36,7 +36,7 @@ known_text Gone octets = 0 ∷ []
 known_text Whole octets = 1 ∷ octets
 known_text (Mixed mask) octets = 2 ∷ (to_be_bytes w16 mask ++ octets)
 
--- the cells of a group of this state
+-- the cells that a group's state and its octets say
 abbrev pub cells_known : Shape → GroupState → List ℕ → List Cell
 cells_known s Gone octets = replicate s.samples Missing
 cells_known s Whole octets = map Value (values_in s.bits octets)

@@ -15,7 +15,7 @@ use Rattle.media_file.specs.StateFile.{Held, IsKeptReceiver, Kept, SsrcFits, cut
 use Rattle.media_file.specs.StateFile.{format_text}
 use Rattle.media_file.specs.StateFile.{raster_groups, held_of, held_text, opening_text, state_text}
 
--- what is kept of frames, one for each timestamp
+-- what is kept of frames: each raster's groups, with the timestamp of its place in the window
 abbrev pub kept_frames : Fields → List ℕ → List Raster → List Held
 kept_frames f [] rs = []
 kept_frames f (t ∷ w) [] = []
@@ -70,7 +70,7 @@ kept_front_text k = kind_text receiver_name One ++ (format_text k.format ++ open
 abbrev pub kept_frames_text : Kept → List ℕ
 kept_frames_text k = flat_map (held_text k.format) k.frames
 
--- a timestamp and its frame
+-- the text of a frame in a receiver's file: its timestamp, and its groups
 abbrev pub kept_frame_text : ℕ → Raster → List ℕ
 kept_frame_text timestamp r =
     held_text (fields_of r.format) (held_of (fields_of r.format) timestamp r.cells)

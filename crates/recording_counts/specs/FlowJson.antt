@@ -10,7 +10,7 @@ use Rattle.recording_counts.specs.declared.rtp_streams.Streams.{Streams}
 use Rattle.recording_counts.specs.declared.times.Times.{Times}
 use Rattle.recording_counts.specs.FlowLines.{hundredths, hundredths_text, moment_text}
 
--- the object of a stream
+-- a stream as an object of JSON; its timestamps are in ticks, as they came
 abbrev pub stream_json : RtpStream → List ℕ
 stream_json s =
     codes "{\"payload_type\":" ++ (decimal s.payload_type

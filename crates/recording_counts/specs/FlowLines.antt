@@ -25,7 +25,7 @@ two_digits n = wide 2 n
 abbrev pub rtcp_text : ℕ → List ℕ
 rtcp_text n = if n == 0 then [] else (codes ", RTCP " ++ decimal n)
 
--- a line of a stream
+-- the line of a stream, behind the end of the line before
 abbrev pub stream_text : RtpStream → List ℕ
 stream_text s =
     codes "\n  payload type " ++ (decimal s.payload_type
@@ -34,7 +34,7 @@ stream_text s =
     ++ (codes ", timestamps " ++ (decimal s.first
     ++ (codes " to " ++ decimal s.last))))))))
 
--- that there are others
+-- a line that there are more streams than are kept, where there are
 abbrev pub others_text : Bool → List ℕ
 others_text others = if others then codes "\n  and others" else []
 
@@ -75,7 +75,7 @@ span_text octets (Some first) (Some last) =
 abbrev pub times_text : Times → ℕ → List ℕ
 times_text t octets = span_text octets t.first t.last
 
--- what is told of a flow
+-- the lines of a flow: what it counts, its streams, and its times and rate
 abbrev pub count_text : FlowCount → List ℕ
 count_text c =
     codes "flow " ++ (socket_text c.destination

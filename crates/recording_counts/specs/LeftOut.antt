@@ -41,7 +41,7 @@ left_out_of omissions =
       other_flow = times OtherFlow omissions;
     }
 
--- the sum of all counts
+-- how many packets were left out, whatever the reason
 abbrev pub sum_of : LeftOut → ℕ
 sum_of l =
     l.cut_short + l.not_ip + l.bad_ip_header + l.not_udp + l.fragment + l.bad_udp_length

@@ -51,6 +51,6 @@ count_of ns =
       numbers = from_list ns;
     }
 
--- one more, where it is so
+-- a count with one more where it is so, up to 2^64 - 1
 abbrev pub one_more : ℕ → Bool → ℕ
 one_more count more = if more then capped (count + 1) else count

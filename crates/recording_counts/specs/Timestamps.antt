@@ -23,7 +23,7 @@ abbrev pub timestamp_cmp : TimestampKey → TimestampKey → Ordering
 timestamp_cmp k l =
     ordering_then (key_cmp k.stream l.stream) (nat_cmp k.timestamp l.timestamp)
 
--- what is counted of the packets of a timestamp
+-- what came of a timestamp's packets: how many by each path, and whether one has the marker
 abbrev pub timestamp_of : TimestampKey → List Packet → TimestampCount
 timestamp_of k own =
     record {

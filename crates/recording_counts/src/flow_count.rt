@@ -15,13 +15,13 @@ use std::net::SocketAddr;
 pub struct FlowCount {
     /// Where they were sent to.
     pub destination: SocketAddr,
-    /// How many they are.
+    /// How many datagrams they are.
     pub datagrams: u64,
     /// How many octets they have, without the headers of UDP and below.
     pub octets: u64,
-    /// What they read as RTP.
+    /// How many of them read as RTP, and what those say.
     pub rtp: RtpCount,
-    /// When they came.
+    /// The least and the greatest of their times.
     pub times: Times,
 }
 

@@ -117,7 +117,7 @@ fn add_other<const N: usize>(text: &mut ArrayString<N>, stream: RtpStream)
     add_object(text, stream);
 }
 
-/// Adds the object of a stream.
+/// Adds the object of a stream: at most 177 octets.
 fn add_object<const N: usize>(text: &mut ArrayString<N>, stream: RtpStream)
     requires { array_string_len text.old + 177 ≤ N }
     ensures text { text.new.bytes ≡ text.old.bytes ++ stream_json stream }

@@ -91,7 +91,7 @@ fn add_others<const N: usize>(text: &mut ArrayString<N>, others: bool)
     }
 }
 
-/// Adds a line for each stream.
+/// Adds a line for each stream: at most 154 octets each.
 fn add_each<const N: usize>(text: &mut ArrayString<N>, streams: &[RtpStream])
     requires { array_string_len text.old + 154 * length streams.now ≤ N }
     ensures text { text.new.bytes ≡ text.old.bytes ++ flat_map stream_text streams.now }
@@ -103,7 +103,7 @@ fn add_each<const N: usize>(text: &mut ArrayString<N>, streams: &[RtpStream])
     }
 }
 
-/// Adds the line of a stream.
+/// Adds the line of a stream, behind the end of the line before: at most 154 octets.
 fn add_stream<const N: usize>(text: &mut ArrayString<N>, stream: RtpStream)
     requires { array_string_len text.old + 154 ≤ N }
     ensures text { text.new.bytes ≡ text.old.bytes ++ stream_text stream }

@@ -42,7 +42,7 @@ impl<A: Allocator> Model for FlowTable<A> {
 }
 
 impl<A: Allocator + Copy> FlowTable<A> {
-    /// A table of no datagrams.
+    /// A table of no datagrams, which takes no memory.
     pub fn new(alloc: A) -> FlowTable<A>
         ensures { result ≡ flow_counts [] }
     {

@@ -43,7 +43,7 @@ const FRAGMENT: Omission = Omission::NoDatagram(NoDatagram::Fragment);
 const BAD_UDP_LENGTH: Omission = Omission::NoDatagram(NoDatagram::BadUdpLength);
 
 impl LeftOut {
-    /// Of no packets.
+    /// The counts of no packets.
     pub fn new() -> LeftOut
         ensures { result ≡ left_out_of [] }
     {
@@ -81,7 +81,7 @@ impl LeftOut {
         };
     }
 
-    /// Adds what others count.
+    /// Adds the counts of others. A sum stays at 2^64 - 1 once it is there.
     pub fn add(&mut self, others: &LeftOut)
         ensures { (some : List Reason) (more : List Reason) → self.old ≡ left_out_of some
             → others.now ≡ left_out_of more → self.new ≡ left_out_of (some ++ more) }

@@ -44,7 +44,7 @@ impl<A: Allocator> Model for NumberSet<A> {
 }
 
 impl<A: Allocator> NumberSet<A> {
-    /// Of no numbers.
+    /// A set of no numbers, which takes no memory.
     pub fn new(alloc: A) -> NumberSet<A>
         ensures { result ≡ set.empty }
     {

@@ -43,7 +43,6 @@ fn add_wide<const N: usize>(text: &mut ArrayString<N>, digits: usize, number: u6
     add(text, shown);
 }
 
-/// Adds so many zeros.
 fn add_zeros<const N: usize>(text: &mut ArrayString<N>, count: usize)
     requires { array_string_len text.old + count ≤ N }
     ensures text { text.new.bytes ≡ text.old.bytes ++ replicate count 48 }

@@ -13,7 +13,7 @@ pub struct Packet {
     pub payload_type: u8,
     /// The synchronization source.
     pub ssrc: u32,
-    /// The sequence number.
+    /// The sequence number, which rises by one from packet to packet, modulo 2^16.
     pub sequence: u16,
     /// The extended number, the upper 16 bits of the packet's number, where its payload has one
     /// (RFC 4175, 4.2).
@@ -33,7 +33,7 @@ pub struct StreamKey {
     pub ssrc: u32,
 }
 
-/// By what a timestamp is told from others.
+/// By what a timestamp is told from others: those of other streams may be the same.
 #[derive(Clone, Copy, Debug, PartialEq, Eq, PartialOrd, Ord)]
 pub struct TimestampKey {
     pub stream: StreamKey,
@@ -41,7 +41,7 @@ pub struct TimestampKey {
 }
 
 impl Packet {
-    /// The stream that it is of.
+    /// The stream that it is of, by its payload type and its source.
     pub fn stream(&self) -> StreamKey
         ensures { result ≡ key_of self.now }
     {
@@ -51,7 +51,7 @@ impl Packet {
         }
     }
 
-    /// Its timestamp, in its stream.
+    /// Its timestamp, in ticks of a 90 kHz clock for video, with the stream that it is of.
     pub fn timestamp_key(&self) -> TimestampKey
         ensures { result ≡ timestamp_key_of self.now }
     {
@@ -62,7 +62,6 @@ impl Packet {
     }
 }
 
-/// Whether a path is A.
 pub(crate) fn is_a(path: Path) -> bool
     ensures { result ≡ is_a path }
 {

@@ -7,14 +7,14 @@ ghost use Rattle.recording_counts.specs.PathCounts.{came, came_after, count_of, 
 use crate::number_set::NumberSet;
 use std::alloc::{AllocError, Allocator};
 
-/// How a packet came.
+/// How a packet came, by the numbers of those before it.
 #[derive(Clone, Copy, Debug, PartialEq, Eq)]
 pub enum Came {
     /// For the first time, and it is higher than the others so far.
     New,
     /// For the first time, behind a higher one.
     Late,
-    /// Once more.
+    /// Its number had come before.
     Repeated,
 }
 
@@ -24,15 +24,15 @@ pub enum Came {
 pub struct PathCount<A: Allocator> {
     /// How many packets came.
     pub datagrams: u64,
-    /// How many different ones.
+    /// How many came for the first time.
     pub different: u64,
     /// How many came for the first time, but behind a higher one.
     pub late: u64,
-    /// The lowest of their numbers.
+    /// The lowest of their numbers; `None` where no packet came.
     pub lowest: Option<u64>,
-    /// The highest of their numbers.
+    /// The highest of their numbers; `None` where no packet came.
     pub highest: Option<u64>,
-    /// Their numbers.
+    /// The numbers that came, each once.
     pub numbers: NumberSet<A>,
 }
 
@@ -75,7 +75,7 @@ impl<A: Allocator + Clone> PathCount<A> {
 }
 
 impl Came {
-    /// Whether it came late.
+    /// Whether it came late. One that came once more didn't, whatever its number.
     pub fn is_late(self) -> bool
         ensures { result ≡ is_late self }
     {
@@ -105,7 +105,7 @@ fn how(new: bool, highest: Option<u64>, number: u64) -> Came
     }
 }
 
-/// A count, or one more, where it is so.
+/// A count, or one more of it, up to 2^64 - 1.
 pub(crate) fn one_more(count: u64, more: bool) -> u64
     ensures { result ≡ one_more count more }
 {

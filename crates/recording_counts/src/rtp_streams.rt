@@ -11,14 +11,14 @@ use crate::rtp_stream::RtpStream;
 use arrayvec::ArrayVec;
 use rtp_header::RtpView;
 
-/// How many streams of a flow are kept.
+/// How many streams of a flow are kept at most (own).
 pub const MOST_STREAMS: usize = 16;
 
 /// Streams in the order of their first coming, the first 16 of them.
 #[derive(Drop)]
 pub struct Streams {
     pub kept: ArrayVec<RtpStream, MOST_STREAMS>,
-    /// Whether there were others.
+    /// Whether a packet came of a stream that isn't kept.
     pub others: bool,
 }
 
@@ -64,7 +64,7 @@ impl Streams {
     }
 }
 
-/// The place of the stream of a payload type and a source.
+/// The place of the stream of a payload type and a source, where it is kept.
 fn place_of(streams: &[RtpStream], payload_type: u8, ssrc: u32) -> Option<usize>
     ensures place { result ≡ place_of is_same
         (record { payload_type = payload_type; ssrc = ssrc }) (map stream_key_of streams.now) }

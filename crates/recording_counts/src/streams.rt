@@ -39,7 +39,7 @@ impl<A: Allocator> Model for StreamTable<A> {
 }
 
 impl<A: Allocator + Copy> StreamTable<A> {
-    /// A table of no packets.
+    /// A table of no packets, which takes no memory.
     pub fn new(alloc: A) -> StreamTable<A>
         ensures { result ≡ streams_of [] }
     {

@@ -37,7 +37,7 @@ impl<A: Allocator> Model for TimestampTable<A> {
 }
 
 impl<A: Allocator + Copy> TimestampTable<A> {
-    /// A table of no packets.
+    /// A table of no packets, which takes no memory.
     pub fn new(alloc: A) -> TimestampTable<A>
         ensures { result ≡ timestamps_of [] }
     {

@@ -19,7 +19,7 @@ use Rattle.run_outcome.specs.LowerFaults.{reading_fault}
 
 -- ---- one file
 
--- its source
+-- the source of a file; none while it is opened
 abbrev pub source_of : {A S : Type 0} → ImportFile A S → Option S
 source_of (Closed s) = Some s
 source_of (Open r) = Some r.source
@@ -116,7 +116,7 @@ IsReady Taken = ⊥
 abbrev pub AllReady : {A S : Type 0} → List (ImportFile A S) → Type 0
 AllReady files = AllByRecursion IsReady files
 
--- it is at this fault
+-- the reader of a file came to this fault, at which it stays
 abbrev pub IsAt : {A S : Type 0} → ReadingFault → ImportFile A S → Type 0
 IsAt f (Closed s) = ⊥
 IsAt f (Open r) = r.standing ≡ Failed f

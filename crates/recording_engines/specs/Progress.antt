@@ -22,7 +22,7 @@ use Rattle.recording_reader.specs.declared.fault.ReadingFault.{ReadingFault}
 abbrev pub count_of : Path → List Entry → ℕ
 count_of path entries = count_by (λ e. is_path path e.path) entries
 
--- one more of a path
+-- one record more of this path is counted, and none of the other
 abbrev pub CountsPath : Path → Written → Written → Type 0
 CountsPath A w w' = (w'.a ≡ w.a + 1) × (w'.b ≡ w.b)
 CountsPath B w w' = (w'.a ≡ w.a) × (w'.b ≡ w.b + 1)

@@ -69,7 +69,7 @@ omissions_in [] octets = []
 omissions_in (f ∷ fs) [] = []
 omissions_in (f ∷ fs) (o ∷ os) = omissions_of_file f o ++ omissions_in fs os
 
--- and how many they are
+-- how many packets of files are left out
 abbrev pub left_out_in : List (Option Flows) → List (List ℕ) → ℕ
 left_out_in each octets = length (omissions_in each octets)
 

@@ -48,7 +48,7 @@ impl<A: Allocator, S: ByteSource> ImportFile<A, S> {
         }
     }
 
-    /// The record that comes next, where one does.
+    /// The record that its reader has at hand, where it has one; none before it is opened.
     pub(crate) fn next(&self) -> Option<RecordView<'_>>
         ensures seen { record_seen result ≡ next_of self.now }
         ensures few { IfSome result (λ r. length r.octets.now ≤ 65535) }

@@ -152,7 +152,7 @@ fn join_all<A: Allocator, S: ByteSource, K: ByteSink>(
     })
 }
 
-/// The flow of a path by its word, where there is one.
+/// The flow that a word says, where one is given; `ImportFlow` where it says none.
 fn flow_of(word: Option<&[u8]>) -> Result<Option<Flow>, Fault>
     ensures asked { IfOk result (λ f. IsAsked (option_copied word.entry) f) }
     ensures refusal { IfErr result (λ f. OfRefusal f (IsWordRefusal (option_copied word.entry))) }

@@ -41,7 +41,7 @@ pub fn ways_each<A: Allocator + Copy>(
     }
 }
 
-/// Flows that are there.
+/// The ways of files that are taken by these flows, none of them refused.
 fn taken<A: Allocator>(
     alloc: A,
     each: &[Flows],

@@ -59,7 +59,7 @@ datagrams_of records = came_of (map due_of_entry records)
 abbrev pub has_path : Path → List Entry → Bool
 has_path path records = list_any (λ e. is_path path e.path) records
 
--- the datagrams of a file
+-- the datagrams of a file, each with its path, up to its end or its first fault
 abbrev pub datagrams_of_file : Option Flows → List ℕ → List (Path × List ℕ)
 datagrams_of_file flows octets = datagrams_of (records_of_file flows octets)
 
@@ -103,7 +103,7 @@ abbrev pub HasWrongPart : List ℕ → FileFault → Type 0
 HasWrongPart octets f = (front_at octets ≡ Err f)
     ⊎ ((x : List ℕ × List ℕ) × (front_at octets ≡ Ok x) × HasWrongRecord x.1 f)
 
--- the first fault of a file
+-- the first fault of a file: a capture's, or a recording's by what it begins with
 abbrev pub IsFileFault : ReadingFault → List ℕ → Type 0
 IsFileFault (Capture f) octets = (is_recording octets ≡ false) × HasWrongPart octets f
 IsFileFault (Recording f) octets =

@@ -307,6 +307,7 @@ impl<A: Allocator, S: ByteSource> DatagramReader<A, S> {
     /// By where the reader stands, what it gave is what the octets have that its source gave since
     /// it was opened, whatever is behind them. A caller's proof learns it from here; nothing is
     /// done.
+    #[doc(hidden)]
     #[inline(always)]
     pub fn history(&self)
         ensures known { HasGivenFile S.gave S.ended self.now }

@@ -13,14 +13,14 @@ use pcap_file::Layout;
 use recording_counts::LeftOut;
 use st_format::ByteSource;
 
-/// Where a reader stands.
+/// Where a reader stands in its file.
 #[derive(Clone, Copy)]
 pub enum Standing {
     /// Between records or at the end, which one isn't known.
     Reads,
-    /// At the end.
+    /// At the end, at which it stays.
     Ended,
-    /// At its fault.
+    /// At this fault, at which it stays.
     Failed(ReadingFault),
 }
 

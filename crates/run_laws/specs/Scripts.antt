@@ -19,7 +19,7 @@ texts_of lines = map (λ (line : ℕ × List ℕ). line.1) lines
 abbrev pub first_lines : List ℕ → List (List ℕ)
 first_lines script = take 2 (texts_of (numbered_lines 0 script))
 
--- the lines behind them
+-- the lines behind the two that open a receiver
 abbrev pub lines_behind : List ℕ → List (List ℕ)
 lines_behind script = drop 2 (texts_of (numbered_lines 0 script))
 

@@ -46,7 +46,7 @@ abbrev pub StatusBlames : ℕ → List Failures → Type 0
 StatusBlames status devices =
     (status ≡ 3 → OneFailed devices) × (status ≢ 3 → NoneFailed devices)
 
--- the line of a fault, and the status
+-- the line that tells a fault, and the exit status that goes with it
 abbrev pub IsLineOf : Fault → Status → List ℕ → Type 0
 IsLineOf (Refused r) status line = IsRefusalLine (refusal_text r) status line
 IsLineOf Device status line = (status ≡ ended.Device) × (line ≡ device_line)
@@ -66,19 +66,19 @@ IfRefused Memory P = ⊤
 
 -- ---- what a run came to
 
--- its end
+-- a run came to its end, without a fault
 abbrev pub EndsDone : {V : Type 0} → Result V Fault → Type 0
 EndsDone (Ok v) = ⊤
 EndsDone (Err f) = ⊥
 
--- a refusal
+-- a run ended by a refusal
 abbrev pub EndsRefused : {V : Type 0} → Result V Fault → Type 0
 EndsRefused (Ok v) = ⊥
 EndsRefused (Err (Refused r)) = ⊤
 EndsRefused (Err Device) = ⊥
 EndsRefused (Err Memory) = ⊥
 
--- a device's fault
+-- a run ended since a device failed
 abbrev pub EndsFailed : {V : Type 0} → Result V Fault → Type 0
 EndsFailed (Ok v) = ⊥
 EndsFailed (Err (Refused r)) = ⊥

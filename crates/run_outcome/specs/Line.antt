@@ -8,7 +8,7 @@ use Rattle.run_outcome.specs.Telling.{numbered_name}
 use Rattle.run_outcome.specs.declared.line.Line.{Line}
 use Rattle.run_outcome.specs.declared.line.Line.TheVariants as line
 
--- the text of a line (own)
+-- what a line says, in ASCII, numbers in decimal digits (own)
 abbrev pub line_text : Line → List ℕ
 line_text (line.Kept number) = codes "kept " ++ decimal number
 line_text line.Outside = codes "outside"

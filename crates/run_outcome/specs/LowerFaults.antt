@@ -73,7 +73,7 @@ abbrev pub of_plan : PlanFault → Fault
 of_plan plan.NoMemory = Memory
 of_plan refusal = Refused (Plan refusal)
 
--- of a job
+-- of a job without a picture: memory was wanted, or it is refused
 abbrev pub of_job : JobFault → Fault
 of_job job.NoMemory = Memory
 of_job refusal = Refused (Job refusal)
@@ -84,15 +84,15 @@ file_fault file.Device refusal = Device
 file_fault file.NoMemory refusal = Memory
 file_fault fault refusal = Refused refusal
 
--- of a capture
+-- of a capture; its refusal, where the fault is of the content
 abbrev pub capture_fault : FileFault → Fault
 capture_fault fault = file_fault fault (Capture fault)
 
--- of a picture's file
+-- of a picture's file; its refusal, where the fault is of the content
 abbrev pub picture_fault : FileFault → Fault
 picture_fault fault = file_fault fault (Picture fault)
 
--- of a receiver's file
+-- of a receiver's file; its refusal, where the fault is of the content
 abbrev pub state_fault : FileFault → Fault
 state_fault fault = file_fault fault (State fault)
 

@@ -4,7 +4,7 @@ use Rattle.std.specs.Str.Parse.{digits_value}
 use Rattle.st_format.specs.Words.{IsNumber}
 use Rattle.st_format.specs.Text.{parted}
 
--- a number of this value
+-- decimal digits of this value
 pub record IsNumberOf (text : List ℕ) (n : ℕ) : Type 0 where
   pub is : IsNumber text
   pub value : n ≡ digits_value 10 text

@@ -133,7 +133,7 @@ fn add_counts(text: &mut ArrayString<LINE>, word: &str, timestamp: u32, counts: 
     add_number(text, " contested ", counts.contested);
 }
 
-/// Adds the line of a frame that a receiver handed out.
+/// Adds `out`, the number of a receiver, and the timestamp and samples of its frame.
 fn add_handed_out(text: &mut ArrayString<LINE>, receiver: u8, timestamp: u32, counts: Counts)
     requires { array_string_len text.old ≡ 0 }
     ensures text { text.new.bytes ≡ text.old.bytes
@@ -165,7 +165,7 @@ fn add_recorded(text: &mut ArrayString<LINE>, a: u64, b: u64, left_out: u64)
     add_number(text, " left out ", left_out);
 }
 
-/// Adds the line of what was exported.
+/// Adds how many datagrams were exported, and how many were left out.
 fn add_exported(text: &mut ArrayString<LINE>, count: u64, left_out: u64)
     requires { array_string_len text.old ≡ 0 }
     ensures text { text.new.bytes ≡ text.old.bytes ++ line_text (Exported count left_out) }

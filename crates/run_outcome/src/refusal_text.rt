@@ -23,7 +23,7 @@ pub(crate) fn line_of(refusal: Refusal) -> ArrayString<LINE>
     text
 }
 
-/// What stands in the line of a refusal.
+/// What stands in the line of a refusal, without `st2110: ` and the end.
 pub(crate) fn text_of(refusal: Refusal) -> ArrayString<LINE>
     ensures { result.bytes ≡ refusal_text refusal }
 {

@@ -106,7 +106,7 @@ pub enum LineFault {
     Numbers(SeqMapFault),
     /// The number of a line `max` is refused.
     Plan(PlanFault),
-    /// The schedule is not played.
+    /// It is the line by which a schedule is not played.
     Play(PlayFault),
 }
 

@@ -57,7 +57,6 @@ impl Refusal {
     }
 }
 
-/// What was wanted of a capture.
 fn of_capture(fault: FileFault) -> &'static str
     ensures { result.now ≡ capture_wanted fault }
 {

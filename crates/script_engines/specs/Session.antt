@@ -67,7 +67,7 @@ pub record IsSamplePlace (s : State) (timestamp : ℕ) (p : Position) : Type 0 w
   pub inside : IsMember timestamp s.opening.window
   pub position : IsPosition p s.opening.format
 
--- the answer to a question for a cell
+-- what a question for a sample is answered, by its cell
 abbrev pub cell_answer : Cell → Line
 cell_answer cell.Missing = Missing
 cell_answer (cell.Value v) = Value v

@@ -27,7 +27,7 @@ use Rattle.script_engines.specs.Forms.{IsOpenLine, IsTraceLine, IsWindowText}
 use Rattle.script_engines.specs.Script.{IsReadFrom, line_behind, numbered_lines}
 use Rattle.script_engines.specs.Session.{Follows, IsAtFault}
 
--- the line of an answer, where there is one
+-- the line of an answer, and LF; nothing where there is none
 abbrev pub answer_text : Option Line → List ℕ
 answer_text None = []
 answer_text (Some answer) = line_text answer ++ 10 ∷ []

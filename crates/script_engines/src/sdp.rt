@@ -48,7 +48,7 @@ where
     Ok(())
 }
 
-/// The canonical line of a text, with its LF.
+/// The canonical fmtp line of an SDP text, with its LF; or why the text describes no video.
 fn canonical_line<A: Allocator + Copy>(alloc: A, text: &[u8]) -> Result<Vec<u8, A>, Fault>
     ensures device { Accounts result [] }
     ensures canonical { IfOk result (λ line. IsCanonicalOf text.now line.items) }

@@ -42,7 +42,7 @@ abbrev pub IsNoSecond : Option (Bor (List ℕ)) → Type 0
 IsNoSecond None = ⊥
 IsNoSecond (Some text) = IsNoLeg text.now
 
--- words say a stream
+-- words say a stream: its format, its payload type, and where it is sent to by one path or two
 abbrev pub SaysStream : WriteWords → AnnouncedStream → Type 0
 SaysStream w s =
     IsFormatOf s.format (read_format w.format.now) × SaysLeg w.a.now s.a × SaysSecond w.b s.b

@@ -111,7 +111,7 @@ IsFlowOf lines s f =
     × IsAddressOf (connection_of lines s) f.address × IsSourceOf lines s f.address f.source
     × (f.interface ≡ None)
 
--- the fault of a section
+-- why it isn't known where a section is sent to: of its first line, or else of its address
 abbrev pub IsFlowFault : List (List ℕ) → Section → FlowsFault → Type 0
 IsFlowFault lines s BadMediaLine =
     (port payload_type : ℕ) → IsMediaLine s.media port payload_type → ⊥

@@ -71,7 +71,7 @@ fn read_connection(line: &[u8]) -> Option<IpAddr>
     }
 }
 
-/// Where a section is sent to, and where from.
+/// Where a section is sent to, and where from: the port alone, where no address is said for it.
 fn flow_of<'a>(text: &'a [u8], section: VideoSection<'a>) -> Result<Flow, FlowsFault>
     ensures flow { (f : Place) → (IsFlowOf (lines text.now) (section_at section.entry) f
         ↔ (result ≡ Ok f)) }

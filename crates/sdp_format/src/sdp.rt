@@ -14,7 +14,7 @@ pub enum Range {
     Narrow,
     /// All values but those that are kept for timing references.
     FullProtect,
-    /// All values.
+    /// All values, from 0 to the greatest of the depth.
     Full,
 }
 

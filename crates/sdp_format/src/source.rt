@@ -71,7 +71,7 @@ fn first_sources(left: Option<&[u8]>, address: IpAddr) -> Option<&[u8]>
     None
 }
 
-/// The sources that count for a section.
+/// The sources that count for a section: its own, or else those of the session.
 fn sources_of<'a>(text: &'a [u8], section: VideoSection<'a>, address: IpAddr) -> Option<&'a [u8]>
     ensures { IsFirstFilter ((section_at section.entry).lines ++ section_lines (lines text.now))
         address (option_copied result) }

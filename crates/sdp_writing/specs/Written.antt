@@ -65,12 +65,12 @@ sdp_lines payload_type parameters a (Some b) =
     session_lines ++ codes "a=group:DUP A B" ∷ (leg_lines payload_type parameters a (codes "A")
     ++ leg_lines payload_type parameters b (codes "B"))
 
--- the legs as a list
+-- the legs, that of path A first
 abbrev pub legs : Flow → Option Flow → List Flow
 legs a None = a ∷ []
 legs a (Some b) = a ∷ b ∷ []
 
--- the ports of the legs
+-- the ports of the legs, that of path A first
 abbrev pub ports : Flow → Option Flow → List ℕ
 ports a None = a.port ∷ []
 ports a (Some b) = a.port ∷ b.port ∷ []

@@ -30,7 +30,7 @@ fn lifetime(first: u8) -> &'static str
     }
 }
 
-/// The four octets of an address, and that they are octets.
+/// An address's octets. A caller's proof learns here that they are octets.
 fn octets_of(address: Ipv4Addr) -> [u8; 4]
     ensures octets { result ≡ ipv4_octets address }
     ensures address { IsIpv4Addr address }
@@ -38,7 +38,7 @@ fn octets_of(address: Ipv4Addr) -> [u8; 4]
     address.octets()
 }
 
-/// The eight segments of an address, and that each has 16 bits.
+/// An address's segments. A caller's proof learns here that each has 16 bits.
 fn segments_of(address: Ipv6Addr) -> [u16; 8]
     ensures segments { result ≡ ipv6_segments address }
     ensures address { IsIpv6Addr address }

@@ -21,7 +21,7 @@ fn ports_of(a: Flow, b: Option<Flow>) -> ArrayVec<u16, 2>
     ports
 }
 
-/// The usual colorimetry.
+/// The usual colorimetry, `BT709` (SMPTE ST 2110-20, SDP).
 fn bt709() -> ArrayVec<u8, 32>
     ensures { result.items ≡ codes "BT709" }
 {

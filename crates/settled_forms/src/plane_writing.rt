@@ -45,7 +45,7 @@ fn write_frame<K: ByteSink>(sink: &mut K, octets: &[u8]) -> Result<(), DeviceFau
     write_all(sink, octets)
 }
 
-/// Writes all of `octets`.
+/// Writes all of `octets`, and less only where the device fails.
 fn write_all<K: ByteSink>(sink: &mut K, octets: &[u8]) -> Result<(), DeviceFault>
     ensures ok { OnOk result (Writes (K.held sink.old) (K.held sink.new)
         (K.took sink.old) (K.took sink.new) octets.now) }

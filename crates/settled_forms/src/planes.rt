@@ -174,7 +174,7 @@ fn put_groups(
     spell(spelling, samples, stride, 0, share * count, part);
 }
 
-/// How many octets a plane takes.
+/// How many octets the plane of a component takes: one or two for each sample, by the depth.
 fn plane_size(format: &Format, component: u8) -> usize
     requires { component < 3 }
     ensures { result ≡ octets_for format.now (plane_count format.now component) }

@@ -37,7 +37,7 @@ use Rattle.run_outcome.specs.LowerFaults.{reading_fault}
 abbrev pub standings : {A S : Type 0} → List (Side A S) → List Standing
 standings sides = map standing_of sides
 
--- how each was begun
+-- how each file was opened, where it was: by its flows, behind what was given, and with its text
 abbrev pub begun_each : {A S : Type 0} → List (Side A S) → List (Option Begun)
 begun_each sides = map (λ s. begun_at s.file) sides
 
@@ -57,11 +57,11 @@ AllUnfailed sides = AllByRecursion IsUnfailed sides
 abbrev pub AllRead : {A S : Type 0} → List (Side A S) → Type 0
 AllRead sides = AllByRecursion (λ s. IsReadBy s.going) sides
 
--- each is at its end
+-- nothing more comes of any file, and none came to a fault
 abbrev pub AllOver : {A S : Type 0} → List (Side A S) → Type 0
 AllOver sides = AllByRecursion (λ s. (standing_of s).ahead ≡ Over None) sides
 
--- one is at this fault
+-- one of the files came to this fault
 abbrev pub OneSideAt : {A S : Type 0} → ReadingFault → List (Side A S) → Type 0
 OneSideAt f [] = ⊥
 OneSideAt f (s ∷ ss) = IsAt f s.file ⊎ OneSideAt f ss

@@ -40,7 +40,7 @@ impl Going {
         }
     }
 
-    /// Whether it is read.
+    /// Whether it is known when a datagram goes, or that none comes.
     pub(crate) fn is_read(self) -> bool
         ensures { IsTrue result ↔ IsReadBy self }
     {

@@ -90,7 +90,7 @@ impl<A: Allocator, S: ByteSource> Side<A, S> {
         Ok(())
     }
 
-    /// The datagram that it has at hand.
+    /// The datagram that its reader has at hand, where it has one; none before it is opened.
     fn at_hand(&self) -> Option<RecordView<'_>>
         ensures seen { record_seen result
             ≡ next_of self.now.file }

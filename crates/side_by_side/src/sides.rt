@@ -97,6 +97,7 @@ impl<A: Allocator, S: ByteSource> SideBySide<A, S> {
     /// What is known of the octets of each file, by where its reader stands; that a recording is
     /// read by flows; and where each is at its end, that all of its records were given. A caller's
     /// proof learns it from here; nothing is done.
+    #[doc(hidden)]
     #[inline(always)]
     pub fn history(&self)
         ensures known { AllByRecursion (λ s. IsKnown S.gave S.ended s.file) self.now.sides }
@@ -114,7 +115,7 @@ impl<A: Allocator, S: ByteSource> SideBySide<A, S> {
         self.fault
     }
 
-    /// The files, as they are.
+    /// The files, each as far as it was read.
     pub fn sides(&self) -> &[Side<A, S>]
         ensures { result.now ≡ self.now.sides }
     {

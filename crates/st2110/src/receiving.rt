@@ -11,7 +11,7 @@ use recording_runs::FlowsCommand;
 use std::alloc::AllocError;
 use std::fmt;
 
-/// How many refusals are named.
+/// How many refusals are named in the line, those that came most often.
 const NAMED: usize = 3;
 
 /// Takes the datagrams of captures and recordings into one receiver, and answers the exit status.

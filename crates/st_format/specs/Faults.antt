@@ -13,18 +13,18 @@ format_fault_number BadWidth = 1
 format_fault_number BadHeight = 2
 format_fault_number BadRate = 3
 
--- of formats that there aren't
+-- the names of a format's faults, as `name` answers them (own)
 abbrev pub format_fault_name : FormatFault → List ℕ
 format_fault_name BadWidth = codes "BadWidth"
 format_fault_name BadHeight = codes "BadHeight"
 format_fault_name BadRate = codes "BadRate"
 
--- the numbers that refusals of a picture have
+-- the numbers that refusals of a picture have, behind those of its format
 abbrev pub picture_fault_number : PictureFault → ℕ
 picture_fault_number NoMemory = 4
 picture_fault_number ValueTooLarge = 5
 
--- of refusals of a picture
+-- the names of a picture's faults, as `name` answers them (own)
 abbrev pub picture_fault_name : PictureFault → List ℕ
 picture_fault_name NoMemory = codes "NoMemory"
 picture_fault_name ValueTooLarge = codes "ValueTooLarge"

@@ -77,7 +77,7 @@ same_sampling Ycc444 Ycc444 = true
 same_sampling Rgb Rgb = true
 same_sampling a b = false
 
--- of depths
+-- whether two depths are the same, as a test
 abbrev pub same_depth : Depth → Depth → Bool
 same_depth D8 D8 = true
 same_depth D10 D10 = true
@@ -85,7 +85,7 @@ same_depth D12 D12 = true
 same_depth D16 D16 = true
 same_depth a b = false
 
--- of all fields
+-- whether all fields of two formats are the same, as a test
 abbrev pub same_fields : Fields → Fields → Bool
 same_fields f g =
     same_sampling f.sampling g.sampling && same_depth f.depth g.depth && f.width == g.width

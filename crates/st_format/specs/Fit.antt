@@ -13,7 +13,7 @@ CellFits f Missing = ⊤
 CellFits f (Value v) = FitsDepth f v
 CellFits f Contested = ⊤
 
--- each value of a raster fits
+-- each value that a raster's cells have fits its depth
 abbrev pub ValuesFit : Raster → Type 0
 ValuesFit r = AllByRecursion (CellFits r.format) r.cells
 

@@ -8,7 +8,7 @@ use Rattle.st_format.specs.declared.format_text.FormatTextFault.TheVariants.{Not
 use Rattle.st_format.specs.declared.format_text.FormatTextFault.TheVariants.{Refused}
 use Rattle.st_format.specs.Faults.{format_fault_name, format_fault_number}
 
--- of words
+-- the numbers of words' faults
 abbrev pub word_fault_number : WordFault → ℕ
 word_fault_number UnknownSampling = 1
 word_fault_number UnknownDepth = 2

@@ -20,7 +20,7 @@ pub record IsPicture (p : Values) : Type 0 where
   pub whole : length p.samples ≡ sample_count p.format
   pub fit : AllByRecursion (FitsDepth p.format) p.samples
 
--- the value at a position
+-- the value at a position, by its number in raster order
 abbrev pub value_at : Values → Position → ℕ
 value_at v p = slice_index v.samples (number_of v.format p)
 

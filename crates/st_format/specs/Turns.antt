@@ -55,7 +55,7 @@ IsWithin (Datagram path count) = count < 65536
 IsWithin Quiet = ⊤
 IsWithin End = ⊤
 
--- the turn is the end
+-- a turn says that the source came to its end
 abbrev pub IsEnd : Turn → Type 0
 IsEnd (Datagram path count) = ⊥
 IsEnd Quiet = ⊥

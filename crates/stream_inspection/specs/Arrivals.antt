@@ -28,7 +28,7 @@ pub record Arrival : Type 0 where
 abbrev pub arrival : Packet → ℕ → Arrival
 arrival p moment = record { packet = p; moment = moment }
 
--- the packets of arrivals
+-- the packets of arrivals, without their moments
 abbrev pub packets : List Arrival → List Packet
 packets arrivals = map (λ a. a.packet) arrivals
 
@@ -38,7 +38,7 @@ extended_in is_video payload =
     if is_video && nat_le 2 (length payload)
     then Some (256 * slice_index payload 0 + slice_index payload 1) else None
 
--- the packet with a header
+-- what is counted of the packet with a header: it has an extended number by the payload type alone
 abbrev pub packet_of : Target → Path → Rtp → Packet
 packet_of t path rtp =
     record {

@@ -55,7 +55,7 @@ reason_json e =
     codes "\"number\":" ++ (decimal (refusal_number e)
     ++ (codes ",\"name\":\"" ++ (refusal_name e ++ codes "\"")))
 
--- the objects
+-- the object of a stream on one path
 abbrev pub path_json : PathRow → List ℕ
 path_json r =
     codes "{\"kind\":\"path\"," ++ (key_json r.key

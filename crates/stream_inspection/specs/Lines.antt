@@ -6,7 +6,7 @@ use Rattle.stream_inspection.specs.declared.rows.Row.{Row}
 use Rattle.stream_inspection.specs.declared.text.Form.{Form}
 use Rattle.stream_inspection.specs.declared.text.Form.TheVariants.{Columns, Json}
 
--- a row with its end
+-- a row as columns or as an object, and LF
 abbrev pub row_line : Form → Row → List ℕ
 row_line Columns row = column_text row ++ 10 ∷ []
 row_line Json row = json_text row ++ 10 ∷ []

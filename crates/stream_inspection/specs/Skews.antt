@@ -55,7 +55,7 @@ abbrev pub probe_of : List (Arrival × ℕ) → Option Probe
 probe_of [] = None
 probe_of (a ∷ own) = Some (probe_with a.1 (a ∷ own))
 
--- the arrivals of a stream
+-- the arrivals of a stream, by payload type and source, in the order in which they came
 abbrev pub arrivals_in_stream : StreamKey → List Arrival → List Arrival
 arrivals_in_stream k arrivals = of_key is_same (λ a. key_of a.packet) k arrivals
 
@@ -91,7 +91,7 @@ skew_by arrivals k = skew_in (probe_of (own_by told_as k arrivals))
 abbrev pub skews_in : List Arrival → List TimestampCount → List ℕ
 skews_in arrivals counts = flat_map (λ c. option_to_list (skew_by arrivals c.key)) counts
 
--- numbers in order
+-- the same numbers, each as often, from the least to the greatest
 pub record IsOrderOf (sorted numbers : List ℕ) : Type 0 where
   pub same : IsPermutation numbers sorted
   pub ordered : IsSorted nat_cmp sorted

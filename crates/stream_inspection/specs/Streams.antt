@@ -91,7 +91,7 @@ wrong_text r =
 abbrev pub wrong_lines : Form → PathRow → List ℕ
 wrong_lines form r = if is_wrong r then heading_lines form (wrong_text r) else []
 
--- the lines of a stream
+-- the lines of a stream: a heading, both paths, what is wrong there in words, and both together
 abbrev pub stream_lines : {A : Type 0} → Form → StreamCount A → List ℕ
 stream_lines form c =
     heading_lines form (heading_text c.key)

@@ -46,7 +46,7 @@ fn add_columns(text: &mut ArrayString<LINE>, row: Row)
     }
 }
 
-/// Adds the row of a path.
+/// Adds of a path: datagrams, lowest and highest number, and how many were lost, repeated and late.
 fn add_path(text: &mut ArrayString<LINE>, row: PathRow)
     requires { array_string_len text.old ≡ 0 }
     ensures text { text.new.bytes ≡ text.old.bytes ++ path_column row }
@@ -63,7 +63,7 @@ fn add_path(text: &mut ArrayString<LINE>, row: PathRow)
     add_wide(text, Some(row.late));
 }
 
-/// Adds the row of both paths.
+/// Adds in words what each path alone would lose, and both together.
 fn add_together(text: &mut ArrayString<LINE>, row: TogetherRow)
     requires { array_string_len text.old ≡ 0 }
     ensures text { text.new.bytes ≡ text.old.bytes ++ together_column row }
@@ -74,7 +74,7 @@ fn add_together(text: &mut ArrayString<LINE>, row: TogetherRow)
     add_number(text, ", both together ", row.lost_by_both);
 }
 
-/// Adds the row of a timestamp.
+/// Adds of a timestamp: its source, itself, datagrams by A and by B, marker, ticks and skew.
 fn add_timestamp(text: &mut ArrayString<LINE>, row: TimestampRow)
     requires { array_string_len text.old ≡ 0 }
     ensures text { text.new.bytes ≡ text.old.bytes ++ timestamp_column row }
@@ -89,7 +89,7 @@ fn add_timestamp(text: &mut ArrayString<LINE>, row: TimestampRow)
     add_skew(text, row.skew);
 }
 
-/// Adds the row of the skews.
+/// Adds in words the least, the middle and the greatest skew.
 fn add_skews(text: &mut ArrayString<LINE>, row: SkewRow)
     requires { array_string_len text.old ≡ 0 }
     ensures text { text.new.bytes ≡ text.old.bytes ++ skew_column row }
@@ -105,7 +105,7 @@ fn add_skews(text: &mut ArrayString<LINE>, row: SkewRow)
     add(text, " timestamps");
 }
 
-/// Adds the row of a refusal.
+/// Adds the number and the name of a refusal, and how many datagrams it has.
 fn add_refused(text: &mut ArrayString<LINE>, refusal: Refusal, count: u64)
     requires { array_string_len text.old ≡ 0 }
     ensures text { text.new.bytes ≡ text.old.bytes ++ column_text (Refused refusal count) }

@@ -18,7 +18,7 @@ use std::alloc::{AllocError, Allocator};
 /// What is counted of the datagrams of files.
 #[derive(Drop)]
 pub struct Inspection<A: Allocator> {
-    /// The streams of RTP.
+    /// What came of each stream of RTP, whatever its payload type.
     pub streams: StreamTables<A>,
     /// The timestamps of the packets with the payload type.
     pub timestamps: TimestampTable<A>,
@@ -91,7 +91,7 @@ impl<A: Allocator + Copy> Inspection<A> {
         }
     }
 
-    /// Notes one more packet.
+    /// Notes one more packet; its timestamp and its moment only if it has the payload type.
     fn note_packet(
         &mut self,
         target: &Target,

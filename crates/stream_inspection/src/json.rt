@@ -84,7 +84,7 @@ fn add_wrong(text: &mut ArrayString<LINE>, row: PathRow)
     add_number(text, ",\"late\":", row.late);
 }
 
-/// Adds the row of a path.
+/// Adds an object of the kind `path`.
 fn add_path(text: &mut ArrayString<LINE>, row: PathRow)
     requires { array_string_len text.old ≡ 0 }
     ensures text { text.new.bytes ≡ text.old.bytes ++ path_json row }
@@ -112,7 +112,7 @@ fn add_lost(text: &mut ArrayString<LINE>, row: TogetherRow)
     add_number(text, ",\"lost_by_both\":", row.lost_by_both);
 }
 
-/// Adds the row of both paths.
+/// Adds an object of the kind `together`.
 fn add_together(text: &mut ArrayString<LINE>, row: TogetherRow)
     requires { array_string_len text.old ≡ 0 }
     ensures text { text.new.bytes ≡ text.old.bytes ++ together_json row }
@@ -137,7 +137,7 @@ fn add_came(text: &mut ArrayString<LINE>, row: TimestampRow)
     add_number(text, ",\"b\":", row.by_b);
 }
 
-/// Adds the row of a timestamp.
+/// Adds an object of the kind `timestamp`.
 fn add_timestamp(text: &mut ArrayString<LINE>, row: TimestampRow)
     requires { array_string_len text.old ≡ 0 }
     ensures text { text.new.bytes ≡ text.old.bytes ++ timestamp_json row }
@@ -154,7 +154,7 @@ fn add_timestamp(text: &mut ArrayString<LINE>, row: TimestampRow)
     add(text, "}");
 }
 
-/// Adds the row of the skews.
+/// Adds an object of the kind `skew`.
 fn add_skews(text: &mut ArrayString<LINE>, row: SkewRow)
     requires { array_string_len text.old ≡ 0 }
     ensures text { text.new.bytes ≡ text.old.bytes ++ skew_json row }
@@ -179,7 +179,7 @@ fn add_reason(text: &mut ArrayString<LINE>, refusal: Refusal)
     add(text, "\"");
 }
 
-/// Adds the row of a refusal.
+/// Adds an object of the kind `refused`.
 fn add_refused(text: &mut ArrayString<LINE>, refusal: Refusal, count: u64)
     requires { array_string_len text.old ≡ 0 }
     ensures text { text.new.bytes ≡ text.old.bytes ++ json_text (Refused refusal count) }

@@ -49,7 +49,7 @@ fn answer(target: &Target, header: &RtpView<'_>) -> Result<Taken, Refusal>
     Ok(Taken::Kept(65536 * u32::from(payload.extended) + u32::from(header.sequence)))
 }
 
-/// The packet with this header.
+/// The packet with this header. It has an extended number only if it has the payload type.
 fn packet(target: &Target, path: Path, header: &RtpView<'_>) -> Packet
     ensures { result ≡ packet_of target.now path (seen_rtp header.now) }
 {

@@ -38,7 +38,7 @@ impl Numbering {
         }
     }
 
-    /// The number of the next packet.
+    /// The number of a packet that comes next, by 32 bits and by 16.
     pub(crate) fn next(&self, packet: &Packet) -> Number
         ensures long { result.long ≡ number_after self.now.long packet.now }
         ensures short { result.short ≡ number_after self.now.short (without_high packet.now) }

@@ -51,7 +51,7 @@ fn probe_after(probe: Option<Probe>, packet: &Packet, number: u64, moment: u64) 
     }
 }
 
-/// The skew that a probe tells, where there is one.
+/// The skew that a probe tells, where there is a probe and it knows both moments.
 pub(crate) fn skew_in(probe: Option<Probe>) -> Option<u128>
     ensures { result ≡ skew_in probe }
 {

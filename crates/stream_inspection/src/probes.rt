@@ -51,7 +51,7 @@ impl<A: Allocator + Copy> ProbeTable<A> {
         Ok(())
     }
 
-    /// What is known of the numbers of a stream.
+    /// What is known of the numbers of a stream, of which no packet may have come.
     fn numbering(&self, stream: &StreamKey) -> Numbering
         ensures { result ≡ numbering_in (get key_cmp self.now.numberings stream.now) }
     {
@@ -61,7 +61,7 @@ impl<A: Allocator + Copy> ProbeTable<A> {
         }
     }
 
-    /// The probes of a timestamp.
+    /// The probes of a timestamp; neither is there where no packet of it came.
     fn probes(&self, key: &TimestampKey) -> Probes
         ensures { result ≡ probes_in (get timestamp_cmp self.now.probes key.now) }
     {

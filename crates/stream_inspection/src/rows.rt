@@ -66,7 +66,7 @@ pub struct SkewRow {
     pub greatest: Option<u128>,
 }
 
-/// A row.
+/// What is told in one line: the rows of streams, and what is counted beside them.
 #[derive(Clone, Copy)]
 pub enum Row {
     Path(PathRow),

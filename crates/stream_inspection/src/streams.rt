@@ -34,7 +34,7 @@ fn packet_number(number: Option<u64>) -> Option<u64>
     }
 }
 
-/// How many numbers there are from the lowest to the highest.
+/// How many numbers there are from the lowest to the highest, both counted; 0 where none came.
 fn span(lowest: Option<u64>, highest: Option<u64>) -> u64
     ensures { result ≡ span lowest highest }
 {
@@ -55,7 +55,7 @@ fn lower(a: Option<u64>, b: Option<u64>) -> Option<u64>
     }
 }
 
-/// What is told of a stream on one path.
+/// What is told of a stream on one path. Lost is what never came of the numbers between.
 fn path_row<A: Allocator>(key: StreamKey, path: Path, count: &PathCount<A>) -> PathRow
     ensures { result ≡ path_row key path count.now }
 {
@@ -88,7 +88,6 @@ fn together_row<A: Allocator>(count: &StreamCount<A>) -> TogetherRow
     }
 }
 
-/// Puts what is told of a stream on one path.
 fn put_path<A: Allocator, B: Allocator>(
     text: &mut Vec<u8, A>,
     form: Form,
@@ -120,7 +119,7 @@ fn put_wrong<A: Allocator, B: Allocator>(
     Ok(())
 }
 
-/// Puts what is told of a stream.
+/// Puts a stream's heading, a row of each path, in words what is wrong there, and a row of both.
 fn put_stream<A: Allocator, B: Allocator>(
     text: &mut Vec<u8, A>,
     form: Form,
@@ -136,7 +135,7 @@ fn put_stream<A: Allocator, B: Allocator>(
     put_row(text, form, Row::Together(together_row(count)))
 }
 
-/// Puts what is told of streams.
+/// Puts what is told of each stream, by packet numbers of 32 bits or of 16.
 pub(crate) fn put_streams<A: Allocator, B: Allocator + Copy>(
     text: &mut Vec<u8, A>,
     form: Form,

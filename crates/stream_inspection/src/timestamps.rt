@@ -46,7 +46,7 @@ impl<A: Allocator + Copy> Lasts<A> {
         }
     }
 
-    /// Takes one more timestamp.
+    /// Takes a timestamp as the last of its stream.
     fn add(&mut self, count: &TimestampCount) -> Result<(), AllocError>
         ensures { OnOk result ((front : List Count) → AreLasts self.old front
             → AreLasts self.new (front ++ count.now ∷ [])) }
@@ -74,7 +74,7 @@ pub(crate) fn put_timestamps<A: Allocator + Copy>(
     put_all(alloc, text, form, counts, probes)
 }
 
-/// Puts the rows of timestamps.
+/// Puts the rows of timestamps, each after those that its ticks are counted from.
 fn put_all<A: Allocator + Copy>(
     alloc: A,
     text: &mut Vec<u8, A>,
@@ -110,7 +110,7 @@ fn put_next<A: Allocator + Copy>(
     lasts.add(count)
 }
 
-/// Puts the row of a timestamp.
+/// Puts the row of a timestamp, with its ticks and its skew where these are known.
 fn put_one<A: Allocator + Copy>(
     text: &mut Vec<u8, A>,
     form: Form,

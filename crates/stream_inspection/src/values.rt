@@ -38,7 +38,6 @@ fn add_padded(text: &mut ArrayString<LINE>, number: u64)
     add(text, digits);
 }
 
-/// Adds so many spaces.
 fn add_spaces(text: &mut ArrayString<LINE>, count: usize)
     requires { array_string_len text.old + count ≤ LINE }
     ensures text { text.new.bytes ≡ text.old.bytes ++ replicate count 32 }
@@ -129,7 +128,6 @@ pub(crate) fn truth_word(truth: bool) -> &'static str
     if truth { "true" } else { "false" }
 }
 
-/// The name of a path.
 pub(crate) fn path_word(path: Path) -> &'static str
     ensures text { result.now ≡ path_text path }
     ensures short { length result.now ≤ 1 }

@@ -20,7 +20,7 @@ pub fn add_number<const N: usize>(text: &mut ArrayString<N>, word: &str, number:
     add(text, digits.format(number));
 }
 
-/// Adds a word to a text that has the room.
+/// Adds a word to a text. The room is asked for, so no word is cut or refused.
 pub fn add<const N: usize>(text: &mut ArrayString<N>, word: &str)
     requires { array_string_len text.old + length word.now ≤ N }
     ensures text { text.new.bytes ≡ text.old.bytes ++ word.now }

@@ -20,10 +20,10 @@ use sdp_format::read_located;
 use st_format::ByteSource;
 use std::alloc::{AllocError, Allocator};
 
-/// What is sought.
+/// How many of the first timestamps are sought, and of which source.
 #[derive(Clone, Copy)]
 pub struct Sought {
-    /// How many timestamps.
+    /// How many different timestamps.
     pub count: u32,
     /// The one source whose datagrams are looked at, where one is asked for.
     pub ssrc: Option<u32>,
@@ -83,7 +83,7 @@ impl<A: Allocator> Finder<A> {
         self.window.len() >= self.sought.count as usize
     }
 
-    /// Takes a timestamp that comes.
+    /// Takes a timestamp, where it is new and more are sought.
     fn add(&mut self, timestamp: u32) -> Result<(), AllocError>
         ensures sought { self.new.sought ≡ self.old.sought }
         ensures payload_type { self.new.payload_type ≡ self.old.payload_type }

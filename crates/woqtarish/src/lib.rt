@@ -154,7 +154,7 @@ pub mod flows {
     };
 }
 
-/// A receiver's report as text.
+/// What a receiver's frames lack, as text: runs of missing pgroups, and contested samples.
 pub mod report {
     pub use frame_report::{ReportFault, write_report};
 }

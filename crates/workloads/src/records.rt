@@ -58,7 +58,7 @@ impl Records {
         Ok(())
     }
 
-    /// The capture.
+    /// The octets of the capture, with all records that were put.
     pub fn into_octets(self) -> Vec<u8> {
         self.octets
     }

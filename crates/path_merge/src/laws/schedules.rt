@@ -49,7 +49,7 @@ pub fn one_event_more()
         IsFrameOf frame stay s (events ++ event ∷ []) }
 {}
 
-/// A stay has one frame.
+/// A stay has one frame at most.
 pub fn one_frame()
     ensures { (s : Scene) (events : List AnEvent) (stay : Stay) (q p : Raster) →
         IsFrameOf q stay s events → IsFrameOf p stay s events → q ≡ p }
