@@ -72,6 +72,17 @@ pub struct FrameFault {
     pub timestamp: u32,
 }
 
+impl FrameFault {
+    ghost use Rattle.following.specs.Names.{frame_fault_name};
+
+    /// Its bare name.
+    pub fn name(self) -> &'static str
+        ensures { result.now ≡ frame_fault_name }
+    {
+        "FrameFault"
+    }
+}
+
 /// Why following a source ended.
 #[derive(Clone, Copy, Debug, PartialEq, Eq, Error)]
 pub enum StreamFault {
@@ -81,4 +92,18 @@ pub enum StreamFault {
     /// The sink failed. The frame that it did not take is in the caller's frame.
     #[error("{0}")]
     Sink(FrameFault),
+}
+
+impl StreamFault {
+    ghost use Rattle.following.specs.Names.{stream_fault_name};
+
+    /// Its bare name, without what the source's or the sink's fault says.
+    pub fn name(self) -> &'static str
+        ensures { result.now ≡ stream_fault_name self }
+    {
+        match self {
+            StreamFault::Source(_) => "Source",
+            StreamFault::Sink(_) => "Sink",
+        }
+    }
 }

@@ -15,6 +15,17 @@ use thiserror::Error;
 #[error("a sink of frames failed, and did not take the frame")]
 pub struct FrameSinkFault;
 
+impl FrameSinkFault {
+    ghost use Rattle.following.specs.Names.{frame_sink_fault_name};
+
+    /// Its bare name.
+    pub fn name(self) -> &'static str
+        ensures { result.now ≡ frame_sink_fault_name }
+    {
+        "FrameSinkFault"
+    }
+}
+
 /// Takes frames, each whole or not at all.
 pub trait FrameSink {
     ghost use Rattle.following.specs.Following.{Handed};

@@ -1,6 +1,7 @@
 pub mod Records
 pub mod Found
 pub mod Kinds
+pub mod Names
 pub mod Files
 pub mod Opening
 pub mod Capturing

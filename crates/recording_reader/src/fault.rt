@@ -23,6 +23,20 @@ pub enum ReadingFault {
     Recording(RecordingFault),
 }
 
+impl ReadingFault {
+    ghost use Rattle.recording_reader.specs.Names.{reading_fault_name};
+
+    /// Its bare name, without what the capture's or the recording's fault says.
+    pub fn name(self) -> &'static str
+        ensures { result.now ≡ reading_fault_name self }
+    {
+        match self {
+            ReadingFault::Capture(_) => "Capture",
+            ReadingFault::Recording(_) => "Recording",
+        }
+    }
+}
+
 impl From<FileFault> for ReadingFault {
     ghost from_gives = { λ fault reading. reading ≡ Capture fault };
 
@@ -51,6 +65,21 @@ pub enum FileOpeningFault {
     /// The file's first fault, or the device's, before all records.
     #[error("{0}")]
     Reading(ReadingFault),
+}
+
+impl FileOpeningFault {
+    ghost use Rattle.recording_reader.specs.Names.{file_opening_fault_name};
+
+    /// Its bare name, without what the fault of the reading says.
+    pub fn name(self) -> &'static str
+        ensures { result.now ≡ file_opening_fault_name self }
+    {
+        match self {
+            FileOpeningFault::NoFlows => "NoFlows",
+            FileOpeningFault::NoMemory => "NoMemory",
+            FileOpeningFault::Reading(_) => "Reading",
+        }
+    }
 }
 
 impl From<AllocError> for FileOpeningFault {
