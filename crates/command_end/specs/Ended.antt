@@ -18,6 +18,7 @@ pub record TellsEnd (outcome : Result (Unit {0}) Fault) (whole : Bool) (status :
   pub finished : EndsDone outcome → whole ≡ true → status ≡ 0
   pub silent : status ≡ 0 → took' ≡ took
   pub told : status ≡ 1 → TellsOutcome outcome took took'
+  pub written : status ≡ 1 → whole ≡ true
   pub failure : status ≡ 3 → EndsFailed outcome ⊎ (whole ≡ false) ⊎ Failed failed failed'
   pub memory : status ≡ 4 → took' ≡ took ++ memory_line
   pub wanted : status ≡ 4 → (outcome ≡ Err Memory) ⊎ (outcome ≡ Err Device)
@@ -26,8 +27,8 @@ pub record TellsEnd (outcome : Result (Unit {0}) Fault) (whole : Bool) (status :
 -- A command came to an end from when it was new: `Does`, `IsRefused`, `Owes` and `Leaves` are what
 -- it does, which refusals speak against it, which devices failed, and what it has written for good
 -- where it ends by a fault, each from when it was new. At 0 all was done and written out, no device
--- failed and nothing was told; at 1 a refusal was told that speaks against it; at 3 a device
--- failed; at 4 the run wanted memory, or a device that it uses did.
+-- failed and nothing was told; at 1 a refusal was told that speaks against it, and what it wrote is
+-- written out; at 3 a device failed; at 4 the run wanted memory, or a device that it uses did.
 pub record EndsBy {C : Type 0} (IsNew : C → Type 0) (Does : C → C → Type 0)
     (IsRefused : C → C → Refusal → Type 0) (Owes : C → C → Result (Unit {0}) Fault → Type 0)
     (Leaves : C → C → Type 0) (status : ℕ) (whole : Bool) (command : C) (told : List ℕ)
@@ -39,6 +40,7 @@ pub record EndsBy {C : Type 0} (IsNew : C → Type 0) (Does : C → C → Type 0
       → Does new command × Owes new command (Ok tt) × (whole ≡ true) × (told ≡ [])
   pub refused : status ≡ 1
       → TellsRefusal (λ r. IsRefused new command r × Owes new command (Err (Refused r))) [] told
+  pub written : status ≡ 1 → whole ≡ true
   pub failure : status ≡ 3
       → Owes new command (Err Device) ⊎ (whole ≡ false) ⊎ Failed 0 failed
   pub memory : status ≡ 4 → told ≡ memory_line

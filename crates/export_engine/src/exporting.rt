@@ -4,6 +4,7 @@ ghost use Rattle.std.specs.Option.{option_copied};
 ghost use Rattle.st_format.specs.History.{IsRead};
 ghost use Rattle.run_outcome.specs.Fault.{Accounts, IfRefused, counts};
 ghost use Rattle.run_outcome.specs.Refusing.{OfRefusal};
+ghost use Rattle.run_outcome.specs.declared.fault.Fault.TheVariants.{Refused};
 ghost use Rattle.run_outcome.specs.declared.refusal.Refusal.TheVariants.{ExportFlow};
 ghost use Rattle.export_engine.specs.Packets.{AreEnvelopes};
 ghost use Rattle.export_engine.specs.declared.places.Envelopes.{Envelopes};
@@ -87,6 +88,8 @@ pub fn check_flows(wanted: Exporting<'_>) -> Result<(), Fault>
         × AreEnvelopes wanted.entry.a.now (option_copied wanted.entry.b) es) }
     ensures refusal { IfErr result (λ f. OfRefusal f (λ r. (r ≡ ExportFlow) × ((es : Envelopes)
         → AreEnvelopes wanted.entry.a.now (option_copied wanted.entry.b) es → ⊥))) }
+    // No memory is asked for.
+    ensures only { IfErr result (λ f. f ≡ Refused ExportFlow) }
     ensures failures { Accounts result [] }
 {
     match Envelopes::read(&wanted) {
