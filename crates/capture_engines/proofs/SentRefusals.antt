@@ -1,39 +1,20 @@
 -- Which refusal of a picture ends a run of `send`.
 use Rattle.std.proofs.Common.{◌≡◌, ℕ, suc, ◌+◌, ◌<◌, List, [], ◌∷◌, drop, take, refl}
-use Rattle.std.proofs.Common.{◌++◌, Option, Some, append-nil, inl, inr, ap, sym, subst, ◌∙◌, arith}
+use Rattle.std.proofs.Common.{inl, inr, ap, sym, subst, ◌∙◌, arith}
 use Rattle.std.specs.List.{AllByRecursion, zip}
 use Rattle.st_format.specs.declared.format.Format.{Format}
-use Rattle.st_format.specs.History.{since}
-use Rattle.st_format.proofs.Histories.{since_is}
 use Rattle.packet_plan.specs.Plan.{IsSize}
 use Rattle.packet_plan.specs.declared.plan.PlanFault.{PlanFault}
 use Rattle.packet_plan.specs.declared.plan.PlanFault.TheVariants.{NoMemory, BadPacketSize}
 use Rattle.run_outcome.specs.LowerFaults.{of_plan}
-use Rattle.run_outcome.specs.Moments.{WasRead}
 use Rattle.run_outcome.specs.Pictures.{IsPictureRefusal, IsPlanFault, SaysPictureOf}
 use Rattle.run_outcome.specs.Refusing.{OfRefusal}
-use Rattle.run_outcome.specs.TextRefusals.{IsCaptureText, SaysText}
 use Rattle.run_outcome.specs.declared.refusal.Refusal.{Refusal}
 use Rattle.run_outcome.specs.declared.refusal.Refusal.TheVariants as why
 use Rattle.capture_engines.specs.Sent.{FirstIs, FirstSays, IsLaterPictureRefusal}
-use Rattle.capture_engines.specs.Sent.{IsPicturesRefusal, IsRestRefusal, SaysOther, SaysTextOfRun}
+use Rattle.capture_engines.specs.Sent.{IsPicturesRefusal, IsRestRefusal, SaysOther}
 use Rattle.capture_engines.proofs.OneOf.{first_again, no_first, zip_drop, zip_take}
 use Rattle.capture_engines.proofs.OneOf.{all_behind_first, one_behind_first}
-
--- ---- the text
-
--- a text that was read whole is one that a capture may have
-pub text_says : {S : Type 0} (gave : S → List ℕ) (ended : S → Type 0) (old new : Option S)
-    (text : List ℕ) → SaysText gave ended old new text
-    → SaysTextOfRun (WasRead gave ended) old new
-text_says {S} gave ended old new text says was now given later octets read =
-    let is : SaysText gave ended (Some was) (Some now) text =
-    subst (λ (o : Option S). SaysText gave ended (Some was) o text) later
-    (subst (λ (o : Option S). SaysText gave ended o new text) given says) in
-    let whole : octets ≡ text =
-    read.parts ∙ ap (λ (l : List ℕ). since (gave was) (gave now) ++ l) (read.all is.1)
-    ∙ append-nil (since (gave was) (gave now)) ∙ since_is (gave was) (gave now) text is.0 in
-    subst IsCaptureText (sym whole) is.2
 
 -- ---- the first picture
 

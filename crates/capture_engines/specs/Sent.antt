@@ -3,7 +3,7 @@
 use Rattle.std.specs.Prelude.{◌≡◌, ℕ, ◌<◌, ◌≤◌, ◌⊎◌, List, [], ◌∷◌, Option, Some}
 use Rattle.st_format.specs.declared.format.Format.{Format}
 use Rattle.packet_plan.specs.Plan.{IsSize}
-use Rattle.run_outcome.specs.TextRefusals.{IsTextOfRun, SaysCaptureText}
+use Rattle.run_outcome.specs.TextRefusals.{IsTextOfRun, SaysTextOfRun}
 use Rattle.run_outcome.specs.declared.refusal.Refusal.{Refusal}
 use Rattle.run_outcome.specs.declared.refusal.Refusal.TheVariants as refusal
 use Rattle.run_outcome.specs.Pictures.{IsPictureRefusal, SaysPictureOf, IsPlanFault}
@@ -72,11 +72,6 @@ abbrev pub IsSaidRefusal : {S : Type 0} → ℕ → Option S → Option S → (S
     → Refusal → Type 0
 IsSaidRefusal count old new told refusal.SendPictures = 10000 < count
 IsSaidRefusal count old new told r = (count ≤ 10000) × IsTextOfRun told old new r
-
--- what was read of the SDP's source, where one is given, is a text that a capture may have
-abbrev pub SaysTextOfRun : {S : Type 0} → (S × S → List ℕ → Type 0) → Option S → Option S → Type 0
-SaysTextOfRun {S} told old new =
-    (was now : S) → old ≡ Some was → new ≡ Some now → SaysCaptureText (told (was, now))
 
 -- The refusal of `send`: one of those; or the pictures are few and nothing is wrong with the text,
 -- and it is that of the pictures.

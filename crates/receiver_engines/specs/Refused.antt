@@ -19,7 +19,7 @@ use Rattle.receiver_engines.specs.declared.processing.Processing.{Processing}
 use Rattle.receiver_engines.specs.Inputs.{AreFramesAt, IsFill, IsHeldFor, raster_formats}
 use Rattle.receiver_engines.specs.JobText.{IsJobText}
 use Rattle.receiver_engines.specs.Reading.{SayReceivers, SaysHeld}
-use Rattle.run_outcome.specs.TextRefusals.{IsTextOfRun}
+use Rattle.run_outcome.specs.TextRefusals.{IsTextOfRun, SaysTextOfRun}
 
 -- ---- what the job is given
 
@@ -124,8 +124,16 @@ IsRunRefusal told states hold w (refusal.Picture f) =
     SaysJob w × AreReceivers told states × IsHeldRefusal told hold (refusal.Picture f)
 IsRunRefusal told states hold w r = IsRefusalOfRead told states hold w r
 
--- so of a run with a text, which is read behind the job's: of those, and of the run
+-- the refusal of the job's text
+abbrev pub IsJobTextRefusal : Processing → Refusal → Type 0
+IsJobTextRefusal w r =
+    (r ≡ refusal.ProcessJob) × ((job : Job) → IsJobText w.job.now job → ⊥)
+
+-- The refusal of a run with a text: of the job's text; or the words say a job, and it is of the
+-- text, or that is one, and it is of the run behind it.
 abbrev pub IsSaidRunRefusal : {S : Type 0} → (S × S → List ℕ → Type 0) → Option S → Option S
     → List (S × S) → Option (S × S) → Processing → Refusal → Type 0
 IsSaidRunRefusal told old new states hold w r =
-    (SaysJob w × IsTextOfRun told old new r) ⊎ IsRunRefusal told states hold w r
+    IsJobTextRefusal w r
+    ⊎ (SaysJob w × (IsTextOfRun told old new r
+    ⊎ (SaysTextOfRun told old new × IsRunRefusal told states hold w r)))

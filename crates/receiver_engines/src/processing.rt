@@ -8,6 +8,7 @@ ghost use Rattle.run_outcome.specs.Refusing.{OfRefusal};
 ghost use Rattle.key_mix.specs.Sending.{HasBase, IsSendFault, IsSendable, IsSentJob, input_formats};
 ghost use Rattle.key_mix.specs.Sending.{settled_inputs};
 ghost use Rattle.key_mix.specs.declared.Job.{Job};
+ghost use Rattle.run_outcome.specs.declared.fault.Fault.TheVariants.{Refused};
 ghost use Rattle.run_outcome.specs.declared.refusal.Refusal.TheVariants.{ProcessJob};
 ghost use Rattle.run_outcome.specs.TextRefusals.{SaysText};
 ghost use Rattle.receiver_engines.specs.JobText.{IsJobText};
@@ -106,6 +107,8 @@ pub fn check_job(text: &[u8]) -> Result<(), Fault>
     ensures job { OnOk result ((job : Job) × IsJobText text.now job) }
     ensures refusal { IfErr result (λ f. OfRefusal f
         (λ r. (r ≡ ProcessJob) × ((job : Job) → IsJobText text.now job → ⊥))) }
+    // No memory is asked for.
+    ensures only { IfErr result (λ f. f ≡ Refused ProcessJob) }
     ensures failures { Accounts result [] }
 {
     match read_job(text) {
@@ -148,6 +151,7 @@ where
         wanted.entry.stamp (K.took sink.old) (K.took sink.new)) }
     ensures refused { IfErr result (λ f. IfRefused f (sink.new ≡ sink.old)) }
     ensures quiet { IfErr result (λ f. IfRefused f (output.new ≡ output.old)) }
+    // Of the words and files the refusal is the first.
     ensures refusal { IfErr result (λ f. OfRefusal f
         (IsSaidRunRefusal (WasRead S.gave S.ended) sdp.old sdp.new (zip states.old states.new)
         (pair hold.old hold.new) wanted.entry)) }

@@ -334,7 +334,9 @@ pub process_not : {S : Type 0} (gave : S → List ℕ) (ended : S → Type 0) (w
     → ((s : S × S) → hold ≡ Some s → AreOctets (read_of gave s))
     → IsSaidRunRefusal (WasRead gave ended) sdp later states hold wanted r → ⊥
 process_not gave ended wanted sdp later states hold text old new count r says run bytes held_bytes
-    (inl wrong) = text_not gave ended sdp later text r says wrong.1
+    (inl wrong) = wrong.1 run.job run.job_is
 process_not gave ended wanted sdp later states hold text old new count r says run bytes held_bytes
-    (inr wrong) = run_not gave ended wanted states hold text old new count run bytes held_bytes r
-    wrong
+    (inr (job, inl wrong)) = text_not gave ended sdp later text r says wrong
+process_not gave ended wanted sdp later states hold text old new count r says run bytes held_bytes
+    (inr (job, inr wrong)) = run_not gave ended wanted states hold text old new count run bytes
+    held_bytes r wrong.1

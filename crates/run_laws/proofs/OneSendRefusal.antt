@@ -12,11 +12,12 @@ use Rattle.sdp_format.specs.declared.place.Located.{Located}
 use Rattle.run_outcome.specs.Moments.{WasRead}
 use Rattle.run_outcome.specs.Pictures.{IsPictureRefusal, IsPlanFault, SaysPictureOf}
 use Rattle.run_outcome.specs.TextRefusals.{HasTextFault, IsSdpRefusal, IsTextOfRun, IsTextRefusal}
+use Rattle.run_outcome.specs.TextRefusals.{SaysTextOfRun}
 use Rattle.run_outcome.specs.declared.refusal.Refusal.{Refusal}
 use Rattle.run_outcome.specs.declared.refusal.Refusal.TheVariants as why
 use Rattle.capture_engines.specs.Sent.{IsFirstPictureRefusal, IsLaterPictureRefusal}
 use Rattle.capture_engines.specs.Sent.{IsPicturesRefusal, IsRestRefusal, IsSaidRefusal}
-use Rattle.capture_engines.specs.Sent.{IsSendRefusal, SaysOther, SaysTextOfRun}
+use Rattle.capture_engines.specs.Sent.{IsSendRefusal, SaysOther}
 use Rattle.run_laws.specs.Received.{read_of}
 use Rattle.run_laws.specs.Told.{AreOfOneFault}
 use Rattle.run_laws.proofs.NoProcessRefusals.{not_text}

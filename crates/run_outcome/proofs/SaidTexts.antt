@@ -1,8 +1,9 @@
 -- The text of a capture, where one is given.
 use Rattle.std.proofs.Common.{◌≡◌, List, ℕ, [], Option, Some, None, sym, refl, ◌∙◌, subst}
-use Rattle.std.proofs.Common.{append-nil}
+use Rattle.std.proofs.Common.{append-nil, ap, ◌++◌}
 use Rattle.run_outcome.specs.Text.{GivesText}
-use Rattle.run_outcome.specs.TextRefusals.{SaysCaptureText, SaysText}
+use Rattle.run_outcome.specs.Moments.{WasRead}
+use Rattle.run_outcome.specs.TextRefusals.{IsCaptureText, SaysCaptureText, SaysText, SaysTextOfRun}
 use Rattle.st_format.specs.History.{IsRead, since}
 use Rattle.st_format.proofs.Histories.{since_is}
 
@@ -29,3 +30,16 @@ said_some {S} gave ended sdp source now text some gives says =
         all = λ over. refl;
       }),
     )
+
+-- a text that was read whole is one that a capture may have
+pub text_says : {S : Type 0} (gave : S → List ℕ) (ended : S → Type 0) (old new : Option S)
+    (text : List ℕ) → SaysText gave ended old new text
+    → SaysTextOfRun (WasRead gave ended) old new
+text_says {S} gave ended old new text says was now given later octets read =
+    let is : SaysText gave ended (Some was) (Some now) text =
+    subst (λ (o : Option S). SaysText gave ended (Some was) o text) later
+    (subst (λ (o : Option S). SaysText gave ended o new text) given says) in
+    let whole : octets ≡ text =
+    read.parts ∙ ap (λ (l : List ℕ). since (gave was) (gave now) ++ l) (read.all is.1)
+    ∙ append-nil (since (gave was) (gave now)) ∙ since_is (gave was) (gave now) text is.0 in
+    subst IsCaptureText (sym whole) is.2

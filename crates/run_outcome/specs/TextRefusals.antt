@@ -22,6 +22,11 @@ abbrev pub HasTextFault : (List ℕ → Type 0) → SdpFault → Type 0
 HasTextFault told f =
     (octets : List ℕ) → told octets → IsTextFault (video_sections (lines octets)) f
 
+-- the refusal of a text that was read whole and opens something: its fault
+abbrev pub IsDescriptionRefusal : List ℕ → Refusal → Type 0
+IsDescriptionRefusal text (refusal.Sdp at) = IsTextFault (video_sections (lines text)) at.fault
+IsDescriptionRefusal text r = ⊥
+
 -- the refusal of an SDP text
 abbrev pub IsSdpRefusal : (List ℕ → Type 0) → Refusal → Type 0
 IsSdpRefusal told (refusal.Sdp at) = HasTextFault told at.fault
@@ -59,3 +64,8 @@ abbrev pub IsTextOfRun : {S : Type 0} → (S × S → List ℕ → Type 0) → O
     → Type 0
 IsTextOfRun {S} told old new r = (was : S) × (now : S) × (old ≡ Some was) × (new ≡ Some now)
     × IsTextRefusal refusal.SendSdp (told (was, now)) r
+
+-- what was read of the text's source, where one is given, is a text that a capture may have
+abbrev pub SaysTextOfRun : {S : Type 0} → (S × S → List ℕ → Type 0) → Option S → Option S → Type 0
+SaysTextOfRun {S} told old new =
+    (was now : S) → old ≡ Some was → new ≡ Some now → SaysCaptureText (told (was, now))

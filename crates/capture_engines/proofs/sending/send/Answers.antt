@@ -2,8 +2,8 @@ use Rattle.std.proofs.Common.{List, inr, subst, sym, ℕ}
 use Rattle.std.proofs.lemmas.Result.{err_from_is_err_and}
 use Rattle.run_outcome.proofs.Printed.{on_ok}
 use Rattle.run_outcome.proofs.Refusals.{of_refusal_map}
+use Rattle.run_outcome.proofs.SaidTexts.{text_says}
 use Rattle.run_outcome.specs.TextRefusals.{SaysText}
-use Rattle.capture_engines.proofs.SentRefusals.{text_says}
 use Rattle.capture_engines.proofs.sending.send.Goals as goal
 
 pub returns-clause-sent : goal.returns-clause-sent

@@ -3,11 +3,11 @@ use Rattle.std.proofs.lemmas.Result.{err_from_is_err_and}
 use Rattle.std.specs.List.{zip}
 use Rattle.run_outcome.specs.Moments.{WasRead}
 use Rattle.run_outcome.proofs.Refusals.{of_refusal_map}
+use Rattle.run_outcome.proofs.SaidTexts.{text_says}
 use Rattle.capture_engines.specs.Sent.{IsPicturesRefusal}
 use Rattle.run_outcome.proofs.Printed.{on_ok}
 use Rattle.run_outcome.specs.TextRefusals.{IsCaptureText, SaysText}
 use Rattle.capture_engines.specs.Typed.{IsTypedBy}
-use Rattle.capture_engines.proofs.SentRefusals.{text_says}
 use Rattle.capture_engines.proofs.TypedTexts.{text_given}
 use Rattle.capture_engines.proofs.typed.send_typed.Goals as goal
 

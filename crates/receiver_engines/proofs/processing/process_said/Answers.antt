@@ -4,6 +4,7 @@ use Rattle.run_outcome.specs.Moments.{WasRead, pair}
 use Rattle.std.specs.List.{zip}
 use Rattle.run_outcome.proofs.Printed.{on_ok}
 use Rattle.run_outcome.proofs.Refusals.{of_refusal_map}
+use Rattle.run_outcome.proofs.SaidTexts.{text_says}
 use Rattle.run_outcome.specs.TextRefusals.{SaysText}
 use Rattle.key_mix.specs.declared.Job.TheVariants.{Key}
 use Rattle.receiver_engines.proofs.Late.{on_err}
@@ -67,12 +68,19 @@ returns-in_err-sent-clause-part g c =
     c.from_residual-in_err-sent.ensures.1 in
     rw (p.1) (c.deref.result.now, c.in_err-sent.ensures.part)
 
+pub returns-in_err-check_job-clause-refusal : goal.returns-in_err-check_job-clause-refusal
+returns-in_err-check_job-clause-refusal g c =
+    let p = err_from_is_err_and c.from_residual.result c.from_residual.ensures.1 in
+    rw (p.1, p.2)
+    (of_refusal_map c.in_err-check_job.field-0.0 (λ r is. inl is)
+    c.in_err-check_job.ensures.refusal)
+
 pub returns-in_err-said-clause-refusal : goal.returns-in_err-said-clause-refusal
 returns-in_err-said-clause-refusal g c =
     let p = err_from_is_err_and c.from_residual-in_err-said.result
     c.from_residual-in_err-said.ensures.1 in
     rw (p.1, p.2)
-    (of_refusal_map c.in_err-said.field-0.0 (λ r is. inl (c.in_ok-check_job.ensures.job, is))
+    (of_refusal_map c.in_err-said.field-0.0 (λ r is. inr (c.in_ok-check_job.ensures.job, inl is))
     c.in_err-said.ensures.refusal)
 
 pub returns-in_err-sent-clause-refusal : goal.returns-in_err-sent-clause-refusal
@@ -80,4 +88,9 @@ returns-in_err-sent-clause-refusal g c =
     let p = err_from_is_err_and c.from_residual-in_err-sent.result
     c.from_residual-in_err-sent.ensures.1 in
     rw (p.1, p.2)
-    (of_refusal_map c.in_err-sent.field-0.0 (λ r is. inr is) c.in_err-sent.ensures.refusal)
+    (of_refusal_map c.in_err-sent.field-0.0
+    (λ r is. inr (c.in_ok-check_job.ensures.job, inr (
+      text_says g.S.ByteSource.gave g.S.ByteSource.ended c.args.sdp.now c.read_if_given.new.sdp _
+          c.in_ok-said.ensures.says,
+      is,
+    ))) c.in_err-sent.ensures.refusal)

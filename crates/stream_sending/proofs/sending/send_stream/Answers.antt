@@ -3,9 +3,9 @@ use Rattle.std.proofs.lemmas.Result.{err_from_is_err_and}
 use Rattle.st_format.specs.History.{IsRead}
 use Rattle.run_outcome.proofs.Printed.{on_ok}
 use Rattle.run_outcome.proofs.Refusals.{of_refusal_map}
+use Rattle.run_outcome.proofs.SaidTexts.{text_says}
 use Rattle.run_outcome.specs.TextRefusals.{IsCaptureText, SaysText}
 use Rattle.capture_engines.proofs.Sendings.{on_any}
-use Rattle.capture_engines.proofs.SentRefusals.{text_says}
 use Rattle.capture_engines.proofs.TypedTexts.{text_given}
 use Rattle.stream_sending.specs.Sent.{IsFramesRefusal, IsSentBy}
 use Rattle.stream_sending.proofs.sending.send_stream.Goals as goal
