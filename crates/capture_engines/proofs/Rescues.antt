@@ -1,9 +1,9 @@
 -- Files that are taken up to a fault.
 use Rattle.std.proofs.Common.{◌≡◌, ℕ, zero, suc, inl, inr, List, [], ◌∷◌, ◌++◌, Option}
 use Rattle.std.proofs.Common.{None, Some, refl, sym, ap, subst, ◌∙◌, append-nil, drop, length}
-use Rattle.std.proofs.Common.{take, Bool}
+use Rattle.std.proofs.Common.{take, Bool, false}
 use Rattle.std.specs.List.{zip}
-use Rattle.std.specs.Prelude.{IfErr, MatchOption, OnOk, Result, Ok, Err, ⊤}
+use Rattle.std.specs.Prelude.{IfErr, IsTrue, MatchOption, OnErr, OnOk, Result, Ok, Err, ⊤}
 use Rattle.flow.specs.declared.flows.Flows.{Flows}
 use Rattle.media_file.specs.StateFile.{state_text}
 use Rattle.receiver_file.specs.Saved.{kept_of}
@@ -60,6 +60,39 @@ rescued_if (Ok v) o fault P Q x Is then p q is same = tt
 rescued_if (Err e) None fault P Q x Is then p q is same = tt
 rescued_if (Err e) (Some y) fault P Q x Is then p q is same =
     subst (λ (f : Fault). Is f y) (err_is (Err e) fault e same refl) (then p q y is)
+
+-- ---- what is written where a run fails
+
+-- nothing was answered
+pub none_part : {X : Type 0} (new old : Option X) (P : Type 0) → new ≡ old → old ≡ None → P
+    → MatchOption new P (λ _. ⊤)
+none_part {X} new old P same none p =
+    subst (λ (o : Option X). MatchOption o P (λ _. ⊤)) (sym (same ∙ none)) p
+
+-- it was
+pub some_part : {X : Type 0} (new : Option X) (x : X) (P : Type 0) → new ≡ Some x
+    → MatchOption new P (λ _. ⊤)
+some_part {X} new x P is = subst (λ (o : Option X). MatchOption o P (λ _. ⊤)) (sym is) tt
+
+pub failed_part : {V E X : Type 0} (r : Result V E) (new old : Option X) (P : Type 0)
+    → OnErr r (new ≡ old) → old ≡ None → OnErr r P → OnErr r (MatchOption new P (λ _. ⊤))
+failed_part (Ok v) new old P same none p = tt
+failed_part (Err e) new old P same none p = none_part new old P same none p
+
+pub whenever : {V E : Type 0} (r : Result V E) (P : Type 0) → P → OnErr r P
+whenever (Ok v) P p = tt
+whenever (Err e) P p = p
+
+never : IsTrue false → ⊥
+never e = absurd cc
+
+-- where only a whole file is saved, nothing is answered
+pub unsound_part : {V E X : Type 0} (r : Result V E) (o : Option X) (P : Type 0)
+    (Is : E → X → Type 0) → OnErr r (MatchOption o P (λ _. ⊤))
+    → IfErr r (λ f. MatchOption o ⊤ (λ x. IsTrue false × Is f x)) → OnErr r P
+unsound_part (Ok v) o P Is p q = tt
+unsound_part (Err e) None P Is p q = p
+unsound_part (Err e) (Some x) P Is p q = absurd (never q.0)
 
 -- a fault that came behind others, where it is a refusal the first
 pub part_refused : {V : Type 0} (r : Result V Fault) (fault : Fault) (P : Refusal → Type 0)

@@ -1,6 +1,6 @@
 //! The engine of `receive`.
 ghost use Rattle.std.specs.Prelude.{◌≡◌, ◌≢◌, ◌≤◌, ◌<◌, ◌+◌, ◌∷◌, ℕ, List, []};
-ghost use Rattle.std.specs.Prelude.{◌⊎◌, ⊤, IfErr, IfOk, OnOk};
+ghost use Rattle.std.specs.Prelude.{◌⊎◌, ⊤, IfErr, IfOk, OnErr, OnOk};
 ghost use Rattle.std.specs.Prelude.{MatchOption, Option, None, Some, drop, length, sum_by, take};
 ghost use Rattle.std.specs.List.{zip};
 ghost use Rattle.std.specs.Option.{option_copied, option_map};
@@ -21,6 +21,7 @@ ghost use Rattle.capture_engines.specs.Sent.{FirstIs};
 ghost use Rattle.capture_engines.specs.Taking.{HoldsBy, IsSaid, IsShortText, Receives};
 ghost use Rattle.capture_engines.specs.Taking.{Stands, TakesFile, TakesFiles, TakesRecords};
 ghost use Rattle.run_outcome.specs.Sources.{IsSourceText};
+ghost use Rattle.run_outcome.specs.States.{SavesPart};
 ghost use Rattle.run_outcome.specs.TextRefusals.{GivesAbove};
 ghost use Rattle.run_outcome.specs.Timestamps.{AreTimestamps};
 ghost use Rattle.run_outcome.specs.declared.refusal.Refusal.TheVariants.{ReceiveSdp};
@@ -109,6 +110,8 @@ where
         (pair sdp.old sdp.new) (WasRead S.gave S.ended) (zip captures.old captures.new)
         wanted.entry.tells_refusals
         (O.took output.old) (O.took output.new) (K.took state.old) (K.took state.new)) }
+    // Where it fails, the receiver isn't all written.
+    ensures part { OnErr result (SavesPart (K.took state.old) (K.took state.new)) }
     ensures refused { IfErr result (λ f. IfRefused f (state.new ≡ state.old)) }
     // A refusal comes before anything is printed.
     ensures quiet { IfErr result (λ f. IfRefused f (output.new ≡ output.old)) }

@@ -15,6 +15,7 @@ ghost use Rattle.receiver_file.specs.Saved.{IsWritable, kept_of};
 ghost use Rattle.run_outcome.specs.Fault.{Accounts, Blames, Failures, IfRefused, counts};
 ghost use Rattle.run_outcome.specs.Moments.{WasRead};
 ghost use Rattle.run_outcome.specs.Refusing.{OfRefusal};
+ghost use Rattle.run_outcome.specs.States.{SavesPart};
 ghost use Rattle.run_outcome.specs.declared.fault.Fault.TheVariants.{Device};
 
 use crate::intake::Intake;
@@ -85,6 +86,9 @@ where
         (option_copied sdp.entry) ways.now S.gave S.ended f (zip files.old files.new)
         wanted.entry.tells_refusals
         (O.took output.old) (O.took output.new) (K.took state.old) (K.took state.new) r)) }
+    // Where nothing is answered and it fails, a receiver isn't all written.
+    ensures part { OnErr result (MatchOption reception.new
+        (SavesPart (K.took state.old) (K.took state.new)) (λ _. ⊤)) }
     ensures refused { IfErr result (λ f. IfRefused f (IsFalse is_sound
         → state.new ≡ state.old)) }
     ensures quiet { IfErr result (λ f. IfRefused f (IsFalse is_sound
@@ -126,6 +130,7 @@ fn put_out<A: Allocator, K: ByteSink, O: ByteSink>(
     ensures counted { OnOk result (reception.new
         ≡ Some (record { delivered = intake.delivered; tally = intake.tally })) }
     ensures none { OnErr result (reception.new ≡ reception.old) }
+    ensures part { OnErr result (SavesPart (K.took state.old) (K.took state.new)) }
     ensures refused { IfErr result (λ f. IfRefused f (state.new ≡ state.old)) }
     ensures quiet { IfErr result (λ f. IfRefused f (output.new ≡ output.old)) }
     ensures unrefused { IfErr result (λ f. IfRefused f ⊥) }
@@ -160,6 +165,8 @@ fn put_part<A: Allocator, K: ByteSink, O: ByteSink>(
         intake.receiver) }
     ensures whole { MatchOption reception.new ⊤
         (λ _. K.took state.new ≡ K.took state.old ++ state_text (kept_of intake.receiver)) }
+    ensures part { MatchOption reception.new
+        (SavesPart (K.took state.old) (K.took state.new)) (λ _. ⊤) }
     ensures counted { MatchOption reception.new ⊤
         (λ r. r ≡ record { delivered = intake.delivered; tally = intake.tally }) }
     ensures refused { IfErr result (λ f. IfRefused f (f ≡ fault)) }

@@ -1,10 +1,9 @@
 -- What `merge` writes. The octets that were read are told by a predicate: it holds of any that
 -- begin with those, and of no other where the source has ended.
-use Rattle.std.specs.Prelude.{◌≡◌, ℕ, List, [], ◌++◌, ◌⊎◌}
+use Rattle.std.specs.Prelude.{◌≡◌, ℕ, List, [], ◌++◌}
 use Rattle.media_file.specs.StateFile.{state_text}
 use Rattle.path_receiver.specs.Frames.{Holds, State, joined_frames}
 use Rattle.run_outcome.specs.Frames.{frame_lines}
-use Rattle.st_format.specs.Device.{GrowsPart}
 use Rattle.receiver_file.specs.Saved.{IsReceiverFile, IsWritable, kept_of}
 
 -- what was read can be the file of this receiver, which can be written
@@ -69,8 +68,3 @@ pub record PrintsMerged (left right : List ℕ → Type 0) (old new : List ℕ) 
   pub second_is : SaysReceiver right second
   pub alike : first.opening ≡ second.opening
   pub printed : new ≡ old ++ frame_lines (merged_state first second)
-
--- a sink took nothing, or a first part of the file of a receiver, and not all
-abbrev pub SavesPart : List ℕ → List ℕ → Type 0
-SavesPart old new =
-    (new ≡ old) ⊎ ((receiver : State) × GrowsPart old new (state_text (kept_of receiver)))

@@ -3,7 +3,7 @@ ghost use Rattle.std.specs.Prelude.{◌≡◌, ◌∷◌, [], IfErr, IfOk, OnErr
 ghost use Rattle.st_format.specs.History.{IsRead};
 ghost use Rattle.run_outcome.specs.Fault.{Accounts, IfRefused, counts};
 ghost use Rattle.receiver_engines.specs.Merging.{JoinsFirst, MergesFiles, PrintsMerged, Saves};
-ghost use Rattle.receiver_engines.specs.Merging.{SavesPart};
+ghost use Rattle.run_outcome.specs.States.{SavesPart};
 ghost use Rattle.receiver_engines.specs.MergeRefused.{IsMergeRefusal};
 ghost use Rattle.run_outcome.specs.Refusing.{OfRefusal};
 

@@ -10,7 +10,8 @@ ghost use Rattle.receiver_engines.specs.MergeAllRefused.{IsJoinRefusal, IsMergeA
 ghost use Rattle.receiver_engines.specs.MergeAllRefused.{StopsMerge};
 ghost use Rattle.receiver_engines.specs.MergedAll.{JoinsAll, JoinsEach, JoinsOne, MergesAll};
 ghost use Rattle.receiver_engines.specs.MergedAll.{PrintsAll};
-ghost use Rattle.receiver_engines.specs.Merging.{Saves, SavesPart};
+ghost use Rattle.receiver_engines.specs.Merging.{Saves};
+ghost use Rattle.run_outcome.specs.States.{SavesPart};
 
 use crate::states::read_receiver;
 use path_receiver::Receiver;

@@ -1,6 +1,7 @@
 pub mod Status
 pub mod Timestamps
 pub mod Sources
+pub mod States
 pub mod Telling
 pub mod RefusalText
 pub mod Wanted

@@ -4,6 +4,7 @@ ghost use Rattle.st_format.specs.Device.{GrowsPart};
 ghost use Rattle.media_file.specs.StateFile.{state_text};
 ghost use Rattle.receiver_file.specs.Saved.{IsWritable, kept_of};
 ghost use Rattle.run_outcome.specs.Fault.{Accounts, IfRefused, counts};
+ghost use Rattle.run_outcome.specs.declared.fault.Fault.TheVariants.{Device};
 
 use crate::fault::{Fault, of_state};
 use path_receiver::Receiver;
@@ -27,6 +28,8 @@ pub fn save_state<A: Allocator, K: ByteSink>(
     ensures writable { IsWritable receiver.now }
     ensures refused { IfErr result (λ f. IfRefused f (state.new ≡ state.old)) }
     ensures unrefused { IfErr result (λ f. IfRefused f ⊥) }
+    // No memory is asked for.
+    ensures device { IfErr result (λ f. f ≡ Device) }
     ensures failures { Accounts result (counts (K.failures state.old) (K.failures state.new) ∷ []) }
 {
     match save_receiver(state, receiver) {

@@ -7,6 +7,7 @@ ghost use Rattle.run_outcome.specs.Moments.{WasRead, pair};
 ghost use Rattle.st_format.specs.History.{IsRead};
 ghost use Rattle.run_outcome.specs.Fault.{StatusBlames, counts, failures_in};
 ghost use Rattle.run_outcome.specs.Refusing.{TellsRefusal};
+ghost use Rattle.run_outcome.specs.States.{SavesPart};
 ghost use Rattle.capture_engines.specs.Sent.{IsSendRefusal};
 ghost use Rattle.capture_engines.specs.Sending.{SendsAll};
 ghost use Rattle.run_outcome.specs.Telling.{memory_line};
@@ -124,6 +125,8 @@ where
         (pair sdp.old sdp.new) (WasRead S.gave S.ended) (zip captures.old captures.new)
         wanted.entry.tells_refusals
         (O.took output.old) (O.took output.new) (K.took state.old) (K.took state.new) }
+    // Unless the status is 0, the receiver isn't all written.
+    ensures part { result ≢ 0 → SavesPart (K.took state.old) (K.took state.new) }
     ensures refused { result ≡ 1 → state.new ≡ state.old }
     ensures quiet { result ≡ 1 → output.new ≡ output.old }
     // At status 1 a refusal of the words or the files was told by its line.

@@ -1,4 +1,4 @@
-use Rattle.std.proofs.Common.{inl}
+use Rattle.std.proofs.Common.{inl, refl}
 use Rattle.std.proofs.lemmas.Result.{err_from_is_err_and}
 use Rattle.std.specs.List.{zip}
 use Rattle.run_outcome.specs.Moments.{WasRead, pair}
@@ -6,6 +6,7 @@ use Rattle.run_outcome.proofs.Printed.{on_ok}
 use Rattle.run_outcome.proofs.Refusals.{if_err_map, of_refusal_map}
 use Rattle.capture_engines.proofs.Accounting.{accounts_front}
 use Rattle.capture_engines.proofs.FirstRefused.{of_both}
+use Rattle.capture_engines.proofs.Rescues.{unsound_part}
 use Rattle.capture_engines.proofs.Said.{long_refused, said_receives, said_refused}
 use Rattle.capture_engines.proofs.receiving.receive.Goals as goal
 
@@ -52,3 +53,19 @@ pub returns-clause-failures : goal.returns-clause-failures
 returns-clause-failures g c =
     accounts_front c.receive_files.result _ _ _ _ c.in_ok-said.ensures.failures
     c.receive_files.ensures.failures
+
+pub returns-in_err-check_words-clause-part : goal.returns-in_err-check_words-clause-part
+returns-in_err-check_words-clause-part g c =
+    let p = err_from_is_err_and c.from_residual.result c.from_residual.ensures.1 in
+    rw (p.1) (inl refl)
+
+pub returns-in_err-said-clause-part : goal.returns-in_err-said-clause-part
+returns-in_err-said-clause-part g c =
+    let p = err_from_is_err_and c.from_residual-in_err-said.result
+    c.from_residual-in_err-said.ensures.1 in
+    rw (p.1) (inl refl)
+
+pub returns-clause-part : goal.returns-clause-part
+returns-clause-part g c =
+    unsound_part c.receive_files.result c.receive_files.new.reception _ _
+    c.receive_files.ensures.part c.receive_files.ensures.rescued

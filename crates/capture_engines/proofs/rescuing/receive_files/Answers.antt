@@ -7,8 +7,8 @@ use Rattle.run_outcome.proofs.Refusals.{of_refusal_map}
 use Rattle.capture_engines.specs.Counted.{CountsReceived}
 use Rattle.capture_engines.proofs.InOrder.{receives}
 use Rattle.capture_engines.proofs.FirstRefused.{files_said}
-use Rattle.capture_engines.proofs.Rescues.{counted_if, counts, on_ok_both, on_ok_each}
-use Rattle.capture_engines.proofs.Rescues.{part_refused, rescued_if, rescues}
+use Rattle.capture_engines.proofs.Rescues.{counted_if, counts, failed_part, none_part, on_ok_both}
+use Rattle.capture_engines.proofs.Rescues.{on_ok_each, part_refused, rescued_if, rescues, whenever}
 use Rattle.capture_engines.proofs.rescuing.receive_files.Goals as goal
 
 pub returns-in-Whole-clause-saved : goal.returns-in-Whole-clause-saved
@@ -123,3 +123,32 @@ returns-in_err-begun-clause-refusal g c =
       inl is,
     ))
     c.in_err-begun.ensures.refusal)
+
+pub returns-in_err-opening-clause-part : goal.returns-in_err-opening-clause-part
+returns-in_err-opening-clause-part g c =
+    let p = err_from_is_err_and c.from_residual.result c.from_residual.ensures.1 in
+    rw (p.1) (none_part c.args.reception.now c.args.reception.now _ refl c.requires (inl refl))
+
+pub returns-in_err-begun-clause-part : goal.returns-in_err-begun-clause-part
+returns-in_err-begun-clause-part g c =
+    let p = err_from_is_err_and c.from_residual-in_err-begun.result
+    c.from_residual-in_err-begun.ensures.1 in
+    rw (p.1) (none_part c.args.reception.now c.args.reception.now _ refl c.requires (inl refl))
+
+pub returns-in_err-intake-clause-part : goal.returns-in_err-intake-clause-part
+returns-in_err-intake-clause-part g c =
+    let p = err_from_is_err_and c.from_residual-in_err-intake.result
+    c.from_residual-in_err-intake.ensures.1 in
+    rw (p.1) (none_part c.args.reception.now c.args.reception.now _ refl c.requires (inl refl))
+
+pub returns-in-Whole-clause-part : goal.returns-in-Whole-clause-part
+returns-in-Whole-clause-part g c =
+    failed_part c.put_out.result c.put_out.new.reception c.args.reception.now _
+    c.put_out.ensures.none c.requires c.put_out.ensures.part
+
+pub returns-in-Part-clause-part : goal.returns-in-Part-clause-part
+returns-in-Part-clause-part g c = whenever c.put_part.result _ c.put_part.ensures.part
+
+pub returns-clause-part : goal.returns-clause-part
+returns-clause-part g c =
+    none_part c.args.reception.now c.args.reception.now _ refl c.requires (inl refl)

@@ -1,6 +1,7 @@
 use Rattle.std.proofs.Common.{◌≡◌, ◌++◌, inr}
 use Rattle.media_file.specs.StateFile.{state_text}
-use Rattle.receiver_engines.specs.Merging.{MergesFiles, PrintsMerged, Saves, SavesPart}
+use Rattle.receiver_engines.specs.Merging.{MergesFiles, PrintsMerged, Saves}
+use Rattle.run_outcome.specs.States.{SavesPart}
 use Rattle.receiver_file.specs.Saved.{kept_of}
 use Rattle.run_outcome.proofs.Printed.{on_err, on_ok}
 use Rattle.st_format.specs.Device.{GrowsPart}

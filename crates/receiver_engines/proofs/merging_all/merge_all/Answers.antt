@@ -2,7 +2,8 @@ use Rattle.std.proofs.Common.{◌≡◌, ◌++◌, inr}
 use Rattle.std.specs.List.{zip}
 use Rattle.media_file.specs.StateFile.{state_text}
 use Rattle.receiver_engines.specs.MergedAll.{MergesAll, PrintsAll}
-use Rattle.receiver_engines.specs.Merging.{Saves, SavesPart}
+use Rattle.receiver_engines.specs.Merging.{Saves}
+use Rattle.run_outcome.specs.States.{SavesPart}
 use Rattle.receiver_file.specs.Saved.{kept_of}
 use Rattle.run_outcome.proofs.Printed.{on_err, on_ok}
 use Rattle.run_outcome.specs.Moments.{WasRead}

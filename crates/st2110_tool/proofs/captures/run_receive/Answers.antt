@@ -6,6 +6,7 @@ use Rattle.std.specs.List.{zip}
 use Rattle.run_outcome.specs.Fault.{Failures, counts, failures_in}
 use Rattle.run_outcome.proofs.Ended.{blamed, on_done, on_refused}
 use Rattle.run_outcome.proofs.Refusals.{outcome_told}
+use Rattle.st2110_tool.proofs.Unfinished.{unfinished}
 use Rattle.st2110_tool.proofs.captures.run_receive.Goals as goal
 
 pub returns-clause-failures : goal.returns-clause-failures
@@ -53,3 +54,8 @@ returns-clause-told g c =
     (zip c.args.captures.now run.new.captures) in
     λ one. outcome_told Is run.result (g.F.ByteSink.took c.args.faults.now)
     (g.F.ByteSink.took c.end.new.faults) (c.end.ensures.told one) run.ensures.refusal
+
+pub returns-clause-part : goal.returns-clause-part
+returns-clause-part g c =
+    let run = c.receive-outcome in
+    λ not. unfinished run.result _ c.end.result c.end.ensures.finished not run.ensures.part
