@@ -33,9 +33,10 @@ use Rattle.packet_plan.specs.declared.run.PacketRun.{PacketRun}
 use Rattle.packet_plan.specs.declared.stamp.Stamp.{Stamp}
 use Rattle.capture_engines.specs.Sent.{FirstIs}
 use Rattle.run_outcome.specs.Pictures.{SaysPicture}
-use Rattle.capture_engines.specs.Sending.{HasSent, SayPictures, SendsFirstAndRest, SendsMore}
+use Rattle.capture_engines.specs.Sending.{ArePlanned, HasSent, IsPlanOf, SayPictures}
+use Rattle.capture_engines.specs.Sending.{SendsFirstAndRest, SendsMore}
 use Rattle.capture_engines.specs.Sending.{SendsNext, SendsPictures, SendsRest, SendsTo}
-use Rattle.capture_engines.specs.Sending.{run_sender}
+use Rattle.capture_engines.specs.Sending.{number_behind, run_sender}
 use Rattle.capture_engines.proofs.OneOf.{first_again}
 use Rattle.capture_engines.specs.Writing.{WritesPicture}
 use Rattle.capture_engines.specs.declared.sender.Sender.{Sender as Sends}
@@ -116,52 +117,51 @@ fails_picture held took failures names p stamp plan count old new stands puts =
 -- ---- datagrams of pictures
 
 -- one picture more
-sends_more : (s : Sender) (k first next : ℕ) (ps : List Values) (ds : List (List ℕ)) (p : Values)
-    (size : ℕ) (packets : List (List PacketRun)) (mine : List (List ℕ))
-    → SendsTo s k ps first ds next → p.format ≡ s.format
-    → IsSentPicture mine p (stamp_of s (k + length ps) next) size packets
-    → SendsTo s k (ps ++ p ∷ []) first (ds ++ mine) ((next + length packets) % 2 ^ 32)
-sends_more s k first next [] ds p size packets mine to format sent =
+sends_more : (plan : RasterPlan) (s : Sender) (k first next : ℕ) (ps : List Values)
+    (ds : List (List ℕ)) (p : Values) (mine : List (List ℕ))
+    → SendsTo plan s k ps first ds next → p.format ≡ s.format
+    → IsSentPicture mine p (stamp_of s (k + length ps) next) plan.max_octets plan.packets
+    → SendsTo plan s k (ps ++ p ∷ []) first (ds ++ mine) (number_behind next plan)
+sends_more plan s k first next [] ds p mine to format sent =
     let at : k + zero ≡ k = omega arith in
     record {
-      size = size;
-      packets = packets;
       mine = mine;
       others = [];
       format = format;
-      picture = subst (λ (n : ℕ). IsSentPicture mine p (stamp_of s k n) size packets) to.1
-          (subst (λ (i : ℕ). IsSentPicture mine p (stamp_of s i next) size packets) at sent);
-      rest = (refl, ap (λ (n : ℕ). (n + length packets) % 2 ^ 32) to.1);
+      picture = subst (λ (n : ℕ). IsSentPicture mine p (stamp_of s k n) plan.max_octets
+          plan.packets) to.1
+          (subst (λ (i : ℕ). IsSentPicture mine p (stamp_of s i next) plan.max_octets
+          plan.packets) at sent);
+      rest = (refl, ap (λ (n : ℕ). number_behind n plan) to.1);
       whole = ap (λ (l : List (List ℕ)). l ++ mine) to.0 ∙ sym (append-nil mine);
     }
-sends_more s k first next (q ∷ qs) ds p size packets mine to format sent =
+sends_more plan s k first next (q ∷ qs) ds p mine to format sent =
     let at : k + suc (length qs) ≡ (k + 1) + length qs = omega arith in
     record {
-      size = to.size;
-      packets = to.packets;
       mine = to.mine;
       others = to.others ++ mine;
       format = to.format;
       picture = to.picture;
-      rest = sends_more s (k + 1) ((first + length to.packets) % 2 ^ 32) next qs to.others p size
-          packets mine to.rest format
-          (subst (λ (i : ℕ). IsSentPicture mine p (stamp_of s i next) size packets) at sent);
+      rest = sends_more plan s (k + 1) (number_behind first plan) next qs to.others p mine to.rest
+          format
+          (subst (λ (i : ℕ). IsSentPicture mine p (stamp_of s i next) plan.max_octets
+          plan.packets) at sent);
       whole = ap (λ (l : List (List ℕ)). l ++ mine) to.whole
           ∙ append_assoc to.mine to.others mine;
     }
 
 -- whatever number is next, they are sent
-pub sends_from : (s : Sender) (k first next : ℕ) (ps : List Values) (ds : List (List ℕ))
-    → SendsTo s k ps first ds next → SendsFrom s k ps first ds
-sends_from s k first next [] ds to = to.0
-sends_from s k first next (p ∷ ps) ds to = record {
-  size = to.size;
-  packets = to.packets;
+pub sends_from : (plan : RasterPlan) (s : Sender) (k first next : ℕ) (ps : List Values)
+    (ds : List (List ℕ)) → SendsTo plan s k ps first ds next → SendsFrom s k ps first ds
+sends_from plan s k first next [] ds to = to.0
+sends_from plan s k first next (p ∷ ps) ds to = record {
+  size = plan.max_octets;
+  packets = plan.packets;
   mine = to.mine;
   others = to.others;
   format = to.format;
   picture = to.picture;
-  rest = sends_from s (k + 1) ((first + length to.packets) % 2 ^ 32) next ps to.others to.rest;
+  rest = sends_from plan s (k + 1) (number_behind first plan) next ps to.others to.rest;
   whole = to.whole;
 }
 
@@ -172,12 +172,13 @@ pub none_sent : {A K : Type 0} {G : Ghosts K} (took : K → List ℕ) (wanted : 
     (text start : List ℕ) (s : Sends A K G) → s.wanted ≡ wanted → s.next ≡ wanted.first
     → s.writer.place.paths ≡ wanted.paths → s.writer.place.moment ≡ 0
     → s.sent ≡ 0 → took s.writer.sink ≡ start ++ front_text Two text
-    → HasSent took wanted text start [] s
-none_sent took wanted text start s is next paths moment none front = record {
+    → IsPlanOf wanted.max_octets s.plan → HasSent took wanted text start [] s
+none_sent took wanted text start s is next paths moment none front plan = record {
   datagrams = [];
   wanted_is = is;
   paths = paths;
   moment = moment;
+  plan = plan;
   sent = (refl, next);
   count = none;
   taken = front ∙ ap (λ (l : List ℕ). start ++ l) (sym (append-nil (front_text Two text)));
@@ -206,8 +207,6 @@ pub has_more : {A K : Type 0} {G : Ghosts K} (took : K → List ℕ) (wanted : S
 has_more took wanted text start ps p k old new count has sends =
     let w : WritesPicture took p (stamp_of (run_sender old.plan.format old.wanted) k old.next)
     old.plan old.writer new.writer = sends.written in
-    let same : old.plan.format ≡ new.plan.format =
-    ap (λ (x : RasterPlan). x.format) (sym sends.plan) in
     let by : Sender = run_sender old.plan.format wanted in
     let at : k ≡ 0 + length ps = omega arith in
     let picture : IsSentPicture w.datagrams p (stamp_of by (0 + length ps) old.next)
@@ -223,13 +222,14 @@ has_more took wanted text start ps p k old new count has sends =
       paths = w.written.paths ∙ has.paths;
       moment = moment_both wanted.paths old.writer.place.paths 0 old.writer.place.moment
           new.writer.place.moment has.datagrams w.datagrams has.paths has.moment w.written.moment;
+      plan = subst (λ (x : RasterPlan). IsPlanOf wanted.max_octets x) (sym sends.plan) has.plan;
       sent =
-          subst (λ (f : Format). SendsTo (run_sender f wanted) 0 (ps ++ p ∷ []) wanted.first
-          (has.datagrams ++ w.datagrams) new.next) same
-          (subst (λ (n : ℕ). SendsTo by 0 (ps ++ p ∷ []) wanted.first
+          subst (λ (x : RasterPlan). SendsTo x (run_sender x.format wanted) 0 (ps ++ p ∷ [])
+          wanted.first (has.datagrams ++ w.datagrams) new.next) (sym sends.plan)
+          (subst (λ (n : ℕ). SendsTo old.plan by 0 (ps ++ p ∷ []) wanted.first
           (has.datagrams ++ w.datagrams) n) (sym sends.next)
-          (sends_more by 0 wanted.first old.next ps has.datagrams p old.plan.max_octets
-          old.plan.packets w.datagrams has.sent sends.format picture));
+          (sends_more old.plan by 0 wanted.first old.next ps has.datagrams p w.datagrams has.sent
+          sends.format picture));
       count = count_more old.sent (length old.plan.packets) new.sent has.datagrams w.datagrams
           has.count (all_sent p (stamp_of (run_sender old.plan.format old.wanted) k old.next) 0
           w.datagrams old.plan.packets w.sent.sent) sends.count;
@@ -262,17 +262,33 @@ pub first_sent : {A K : Type 0} {G : Ghosts K} (took : K → List ℕ) (wanted :
     → opened.place ≡ record
     { paths = wanted.paths; text_len = length text; moment = 0; failed = false }
     → took opened.sink ≡ start ++ front_text Two text → old.writer ≡ opened
-    → old.wanted ≡ wanted → old.next ≡ wanted.first → old.sent ≡ 0 → SendsNext took p 0 old new
+    → old.wanted ≡ wanted → old.next ≡ wanted.first → old.sent ≡ 0
+    → IsPlanOf wanted.max_octets old.plan → SendsNext took p 0 old new
     → HasSent took wanted text start (p ∷ []) new
 first_sent {A} {K} {G} took wanted text start p opened old new place front writer is next none
-    sends =
+    plan sends =
     has_more took wanted text start [] p 0 old new refl
     (none_sent took wanted text start old is next
     (ap (λ (w : Writer K). w.place.paths) writer ∙ ap (λ (q : WriterPlace). q.paths) place)
     (ap (λ (w : Writer K). w.place.moment) writer ∙ ap (λ (q : WriterPlace). q.moment) place)
     none
     (subst (λ (w : Writer K). took w.sink ≡ start ++ front_text Two text) (sym writer)
-    front)) sends
+    front) plan) sends
+
+-- what was sent is planned
+pub has_planned : {A K : Type 0} {G : Ghosts K} (took : K → List ℕ) (wanted : Sending)
+    (text start : List ℕ) (ps : List Values) (f : Format) (s : Sends A K G)
+    (has : HasSent took wanted text start ps s) → f ≡ s.plan.format
+    → ArePlanned wanted f ps has.datagrams
+has_planned took wanted text start ps f s has same = record {
+  plan = s.plan;
+  plan_is = has.plan;
+  format_is = sym same;
+  next = s.next;
+  sent =
+      subst (λ (x : Format). SendsTo s.plan (run_sender x wanted) 0 ps wanted.first has.datagrams
+      s.next) (sym same) has.sent;
+}
 
 -- ---- pictures behind the first
 
@@ -429,9 +445,10 @@ first_and_rest_sent {S} {A} {K} {G} told took wanted text p sources later start 
           sent =
               subst (λ (x : Format). SendsFrom (run_sender x wanted) 0 ps wanted.first
               has.datagrams) (sym format)
-              (sends_from (run_sender last.plan.format wanted) 0 wanted.first last.next ps
-              has.datagrams has.sent);
+              (sends_from last.plan (run_sender last.plan.format wanted) 0 wanted.first last.next
+              ps has.datagrams has.sent);
         };
+        planned = has_planned took wanted text start ps p.format last has format;
         taken = same ∙ has.taken;
         count_is = counts ∙ has.count;
       };

@@ -7,8 +7,9 @@ use Rattle.st_format.specs.declared.device.ByteSink.{Ghosts}
 use Rattle.st_format.specs.declared.format.Format.{Format}
 use Rattle.st_format.specs.Device.{capped}
 use Rattle.media_file.specs.Writer.{moment_after, written_text}
-use Rattle.packet_plan.specs.Plan.{IsSize, RasterPlan}
-use Rattle.packet_plan.specs.Sender.{IsNext, IsSenderList, Sender, stamp_of}
+use Rattle.packet_plan.specs.Plan.{IsFullPlan, IsSize, RasterPlan}
+use Rattle.packet_plan.specs.Sender.{IsSenderList, Sender, stamp_of}
+use Rattle.packet_plan.specs.Sent.{IsSentPicture}
 use Rattle.run_outcome.specs.Line.{line_text}
 use Rattle.run_outcome.specs.Pictures.{SaysPicture}
 use Rattle.run_outcome.specs.TextRefusals.{SaysText}
@@ -26,6 +27,11 @@ run_sender format wanted =
       payload_type = wanted.payload_type;
       ssrc = wanted.ssrc;
     }
+
+-- a plan of packets of at most so many octets, as full as can be
+pub record IsPlanOf (most : ℕ) (plan : RasterPlan) : Type 0 where
+  pub size : plan.max_octets ≡ most
+  pub full : IsFullPlan plan.packets plan.format plan.max_octets
 
 -- ---- one picture
 
@@ -46,11 +52,23 @@ pub record SendsNext {A K : Type 0} {G : Ghosts K} (took : K → List ℕ) (p : 
 
 -- ---- pictures, one after the other
 
--- the datagrams of pictures from the k-th on, and the number of the packet behind them
-abbrev pub SendsTo : Sender → ℕ → List Values → ℕ → List (List ℕ) → ℕ → Type 0
-SendsTo s k [] first datagrams next = (datagrams ≡ []) × (next ≡ first)
-SendsTo s k (p ∷ ps) first datagrams next =
-    IsNext s k first p (λ number others. SendsTo s (k + 1) ps number others next) datagrams
+-- the datagrams of picture k by this plan, and then others, whose numbers run on
+pub record IsPlannedNext (plan : RasterPlan) (s : Sender) (k first : ℕ) (p : Values)
+    (later : ℕ → List (List ℕ) → Type 0) (datagrams : List (List ℕ)) : Type 0 where
+  pub mine : List (List ℕ)
+  pub others : List (List ℕ)
+  pub format : p.format ≡ s.format
+  pub picture : IsSentPicture mine p (stamp_of s k first) plan.max_octets plan.packets
+  pub rest : later (number_behind first plan) others
+  pub whole : datagrams ≡ mine ++ others
+
+-- the datagrams of pictures from the k-th on, all by this plan, and the number of the packet behind
+-- them
+abbrev pub SendsTo : RasterPlan → Sender → ℕ → List Values → ℕ → List (List ℕ) → ℕ → Type 0
+SendsTo plan s k [] first datagrams next = (datagrams ≡ []) × (next ≡ first)
+SendsTo plan s k (p ∷ ps) first datagrams next =
+    IsPlannedNext plan s k first p (λ number others. SendsTo plan s (k + 1) ps number others next)
+    datagrams
 
 -- A sender put these pictures into a capture with this text, which it began in a sink that had
 -- taken this.
@@ -61,7 +79,9 @@ pub record HasSent {A K : Type 0} {G : Ghosts K} (took : K → List ℕ) (wanted
   pub wanted_is : s.wanted ≡ wanted
   pub paths : s.writer.place.paths ≡ wanted.paths
   pub moment : s.writer.place.moment ≡ moment_after wanted.paths 0 datagrams
-  pub sent : SendsTo (run_sender s.plan.format wanted) 0 pictures wanted.first datagrams s.next
+  pub plan : IsPlanOf wanted.max_octets s.plan
+  pub sent : SendsTo s.plan (run_sender s.plan.format wanted) 0 pictures wanted.first datagrams
+      s.next
   pub count : s.sent ≡ capped (length datagrams)
   pub taken : took s.writer.sink ≡ start ++ written_text wanted.paths text datagrams
 
@@ -98,14 +118,25 @@ pub record SendsEach {S A K : Type 0} {G : Ghosts K} (told : S × S → List ℕ
   pub sent : SendsNext took first 0 old between
   pub rest : SendsRest told took sources later between new
 
+-- The datagrams are those of pictures of a format, of the k-th as frame k, all by one plan, of
+-- packets of the size that is asked for, the packets' numbers running on.
+pub record ArePlanned (wanted : Sending) (format : Format) (pictures : List Values)
+    (datagrams : List (List ℕ)) : Type 0 where
+  pub plan : RasterPlan
+  pub plan_is : IsPlanOf wanted.max_octets plan
+  pub format_is : plan.format ≡ format
+  pub next : ℕ
+  pub sent : SendsTo plan (run_sender format wanted) 0 pictures wanted.first datagrams next
+
 -- A sink took the capture of a text and of the datagrams of pictures, which are so many: of the
--- k-th as frame k, all by raster plans, the packets' numbers running on. The size of packets that
+-- k-th as frame k, all by one raster plan, the packets' numbers running on. The size of packets that
 -- is asked for is one that plans are made for.
 pub record TakesCapture (wanted : Sending) (text : List ℕ) (format : Format)
     (pictures : List Values) (old new : List ℕ) (count : ℕ) : Type 0 where
   pub limits : IsSize wanted.max_octets format
   pub datagrams : List (List ℕ)
   pub sent : IsSenderList datagrams (run_sender format wanted) wanted.first pictures
+  pub planned : ArePlanned wanted format pictures datagrams
   pub taken : new ≡ old ++ written_text wanted.paths text datagrams
   pub count_is : count ≡ capped (length datagrams)
 

@@ -13,7 +13,7 @@ ghost use Rattle.capture_engines.specs.Sent.{FirstIs, FirstSays, IsSaidRefusal, 
 ghost use Rattle.capture_engines.specs.Sent.{IsRestRefusal, IsSendRefusal};
 ghost use Rattle.run_outcome.specs.Pictures.{IsPictureRefusal, SaysPicture};
 ghost use Rattle.run_outcome.specs.TextRefusals.{SaysText};
-ghost use Rattle.capture_engines.specs.Sending.{SendsAll, SendsEach, SendsFirstAndRest};
+ghost use Rattle.capture_engines.specs.Sending.{IsPlanOf, SendsAll, SendsEach, SendsFirstAndRest};
 ghost use Rattle.capture_engines.specs.Sending.{SendsPictures, SendsRest};
 
 use crate::sender::{Sender, Sending};
@@ -161,6 +161,7 @@ fn send_first_and_rest<A: Allocator, S: ByteSource, K: ByteSink>(
     requires payload_type { wanted.payload_type ≤ 127 }
     requires alike { picture.format ≡ plan.format }
     requires limits { IsSize wanted.max_octets plan.format }
+    requires planned { IsPlanOf wanted.max_octets plan }
     requires empty { IsAtEnd (K.held sink.old) }
     requires room { length buf.old ≡ 65535 }
     ensures front { take 1 pictures.new ≡ take 1 pictures.old }
@@ -222,6 +223,7 @@ fn read_first<A: Allocator + Copy, S: ByteSource>(
     ensures behind { drop 1 pictures.new ≡ drop 1 pictures.old }
     ensures alike { IfOk result (λ first. first.0.format ≡ first.1.format) }
     ensures limits { IfOk result (λ first. IsSize max_octets first.1.format) }
+    ensures planned { IfOk result (λ first. IsPlanOf max_octets first.1) }
     ensures shows { IfOk result
         (λ first. FirstIs (λ s. SaysPicture (WasRead S.gave S.ended s) first.0)
         (zip pictures.old pictures.new)) }

@@ -10,10 +10,10 @@ use Rattle.media_file.specs.Writer.{Writer, WriterPlace}
 use Rattle.media_file.specs.declared.front.Version.TheVariants.{Two}
 use Rattle.packet_plan.specs.Plan.{IsSize}
 use Rattle.packet_plan.specs.Sender.{SendsFrom}
-use Rattle.capture_engines.specs.Sending.{HasSent, SendsMore, SendsNext, run_sender}
+use Rattle.capture_engines.specs.Sending.{HasSent, IsPlanOf, SendsMore, SendsNext, run_sender}
 use Rattle.capture_engines.specs.declared.sender.Sender.{Sender as Sends}
 use Rattle.capture_engines.specs.declared.sender.Sending.{Sending}
-use Rattle.capture_engines.proofs.Sendings.{has_more, none_sent, sends_from}
+use Rattle.capture_engines.proofs.Sendings.{has_more, has_planned, none_sent, sends_from}
 use Rattle.stream_sending.specs.Reading.{GaveFrames, GaveNext}
 use Rattle.stream_sending.specs.Sent.{TakesStream}
 use Rattle.stream_sending.proofs.FramesRead.{gave_more, gave_none}
@@ -92,16 +92,17 @@ pub stream_sent : {A K : Type 0} {G : Ghosts K} (took : K → List ℕ) (wanted 
     → old.wanted ≡ wanted → old.next ≡ wanted.first → old.sent ≡ 0
     → SendsMore took 0 (first ∷ rest) old last → first.format ≡ f
     → last_took ≡ took last.writer.sink → count ≡ last.sent → IsSize wanted.max_octets f
+    → IsPlanOf wanted.max_octets old.plan
     → TakesStream wanted text f (first ∷ rest) start last_took count
 stream_sent {A} {K} {G} took wanted text f first rest start last_took count opened old last place
-    front writer is next none sends same at counts limits =
+    front writer is next none sends same at counts limits planned =
     let begun : HasSent took wanted text start [] old =
     none_sent took wanted text start old is next
     (ap (λ (w : Writer K). w.place.paths) writer ∙ ap (λ (q : WriterPlace). q.paths) place)
     (ap (λ (w : Writer K). w.place.moment) writer ∙ ap (λ (q : WriterPlace). q.moment) place)
     none
     (subst (λ (w : Writer K). took w.sink ≡ start ++ front_text Two text) (sym writer)
-    front) in
+    front) planned in
     let has : HasSent took wanted text start (first ∷ rest) last =
     sends.sent wanted text start [] refl begun in
     let by : first.format ≡ last.plan.format = has.sent.format in
@@ -111,8 +112,9 @@ stream_sent {A} {K} {G} took wanted text f first rest start last_took count open
       sent =
           subst (λ (x : Format). SendsFrom (run_sender x wanted) 0 (first ∷ rest) wanted.first
           has.datagrams) (sym by ∙ same)
-          (sends_from (run_sender last.plan.format wanted) 0 wanted.first last.next
+          (sends_from last.plan (run_sender last.plan.format wanted) 0 wanted.first last.next
           (first ∷ rest) has.datagrams has.sent);
+      planned = has_planned took wanted text start (first ∷ rest) f last has (sym same ∙ by);
       taken = at ∙ has.taken;
       count_is = counts ∙ has.count;
     }

@@ -12,7 +12,8 @@ use Rattle.picture_forms.specs.Streams.{IsOf}
 use Rattle.picture_forms.proofs.FrameAgain.{frame_again}
 use Rattle.picture_forms.proofs.HeadAgain.{head_again}
 use Rattle.picture_forms.proofs.HeadIs.{head_found}
-use Rattle.capture_engines.specs.Sending.{SayPictures, SendsPictures, TakesPictures, run_sender}
+use Rattle.capture_engines.specs.Sending.{ArePlanned, SayPictures, SendsPictures, TakesPictures}
+use Rattle.capture_engines.specs.Sending.{run_sender}
 use Rattle.capture_engines.specs.declared.sender.Sending.{Sending}
 use Rattle.stream_sending.specs.Sent.{TakesFrames}
 use Rattle.stream_sending.specs.Streams.{BeginsFrames, IsStreamOf}
@@ -63,6 +64,9 @@ pictures_taken wanted text f (p ∷ ps) old new count few takes =
             subst (λ (x : Format). SendsFrom (run_sender x wanted) 0 (p ∷ ps) wanted.first
             takes.datagrams) (sym same) takes.sent;
       };
+      planned =
+          subst (λ (x : Format). ArePlanned wanted x (p ∷ ps) takes.datagrams) (sym same)
+          takes.planned;
       taken = takes.taken;
       count_is = takes.count_is;
     }

@@ -14,12 +14,11 @@ use Rattle.picture_forms.specs.declared.fault.FormFault.{FormFault}
 use Rattle.picture_forms.specs.Heads.{HasHead, head_walk}
 use Rattle.run_outcome.specs.Line.{line_text}
 use Rattle.run_outcome.specs.Pictures.{IsPlanFault}
-use Rattle.run_outcome.specs.TextRefusals.{IsTextOfRun, SaysText}
+use Rattle.run_outcome.specs.TextRefusals.{IsTextOfRun, SaysText, SaysTextOfRun}
 use Rattle.run_outcome.specs.declared.line.Line.TheVariants as line
 use Rattle.run_outcome.specs.declared.refusal.Refusal.{Refusal}
 use Rattle.run_outcome.specs.declared.refusal.Refusal.TheVariants as refusal
-use Rattle.capture_engines.specs.Sending.{run_sender}
-use Rattle.capture_engines.specs.Sent.{SaysTextOfRun}
+use Rattle.capture_engines.specs.Sending.{ArePlanned, run_sender}
 use Rattle.capture_engines.specs.Typed.{IsTypedBy}
 use Rattle.capture_engines.specs.declared.sender.Sending.{Sending}
 use Rattle.stream_sending.specs.Streams.{HasFrameFault, HasFrames, IsStreamOf}
@@ -27,13 +26,14 @@ use Rattle.stream_sending.specs.Streams.{HasFrameFault, HasFrames, IsStreamOf}
 -- ---- what is written
 
 -- A sink took the capture of a text and of the datagrams of pictures of this format, which are so
--- many: of the k-th as frame k, all by raster plans, the packets' numbers running on. The size of
+-- many: of the k-th as frame k, all by one raster plan, the packets' numbers running on. The size of
 -- packets that is asked for is one that plans are made for.
 pub record TakesStream (wanted : Sending) (text : List ℕ) (f : Format) (pictures : List Values)
     (old new : List ℕ) (count : ℕ) : Type 0 where
   pub limits : IsSize wanted.max_octets f
   pub datagrams : List (List ℕ)
   pub sent : SendsFrom (run_sender f wanted) 0 pictures wanted.first datagrams
+  pub planned : ArePlanned wanted f pictures datagrams
   pub taken : new ≡ old ++ written_text wanted.paths text datagrams
   pub count_is : count ≡ capped (length datagrams)
 

@@ -2,6 +2,7 @@
 ghost use Rattle.std.specs.Prelude.{◌≡◌, ◌≤◌, ◌<◌, ◌∷◌, [], false, length, IfErr, IfOk, IfSome};
 ghost use Rattle.std.specs.Prelude.{OnOk};
 ghost use Rattle.std.specs.Io.KnownBytes.{IsAtEnd};
+ghost use Rattle.capture_engines.specs.Sending.{IsPlanOf};
 ghost use Rattle.packet_plan.specs.Plan.{IsSize};
 ghost use Rattle.picture_forms.specs.declared.streams.Standing.TheVariants.{Reads};
 ghost use Rattle.run_outcome.specs.Fault.{Accounts, IfRefused, counts};
@@ -106,6 +107,7 @@ fn send_from<A: Allocator, S: ByteSource, K: ByteSink>(
     requires alike { first.format ≡ plan.format }
     requires format { first.format ≡ reader.old.format }
     requires limits { IsSize wanted.max_octets plan.format }
+    requires planned { IsPlanOf wanted.max_octets plan }
     requires empty { IsAtEnd (K.held sink.old) }
     requires room { length buf.old ≡ 65535 }
     ensures sent { IfOk result (λ n. SendsFirst wanted said.now reader.old.format first

@@ -40,3 +40,7 @@ pub returns-clause-limits : goal.returns-clause-limits
 returns-clause-limits g c =
     subst (λ (m : ℕ). IsSize m c.in_ok-plan.plan.format) c.in_ok-plan.ensures.made.1
     c.facts.ensures.full.limits
+
+pub returns-clause-planned : goal.returns-clause-planned
+returns-clause-planned g c =
+    record { size = c.in_ok-plan.ensures.made.1; full = c.facts.ensures.full }

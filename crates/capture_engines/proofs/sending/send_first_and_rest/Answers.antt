@@ -1,8 +1,9 @@
 use Rattle.std.proofs.Common.{rules, ap, arith, drop, sym, subst, ◌∙◌, length-drop}
-use Rattle.packet_plan.specs.Plan.{IsSize}
+use Rattle.packet_plan.specs.Plan.{IsSize, RasterPlan}
 use Rattle.st_format.specs.declared.format.Format.{Format}
 use Rattle.run_outcome.specs.Moments.{WasRead}
 use Rattle.run_outcome.proofs.SetSums.{counted_behind}
+use Rattle.capture_engines.specs.Sending.{IsPlanOf}
 use Rattle.capture_engines.proofs.Sendings.{first_and_rest_sent, first_sent, if_ok_both}
 use Rattle.capture_engines.proofs.sending.send_first_and_rest.Goals as goal
 
@@ -20,7 +21,9 @@ returns-clause-sent g c =
     (first_sent (λ m. g.K.ByteSink.took m.now) c.args.wanted c.args.said.now
     (g.K.ByteSink.took c.args.sink.now) c.args.picture c.in-Ok.writer c.new-sender.result
     each.between c.in-Ok.ensures.place c.in-Ok.ensures.took c.new-sender.ensures.writer
-    c.new-sender.ensures.wanted c.new-sender.ensures.next c.new-sender.ensures.sent each.sent)
+    c.new-sender.ensures.wanted c.new-sender.ensures.next c.new-sender.ensures.sent
+    (subst (λ (x : RasterPlan). IsPlanOf c.args.wanted.max_octets x)
+    (sym c.new-sender.ensures.plan) c.requires.planned) each.sent)
     each.rest (search rules) count) c.send_each-sent.ensures.sent
     c.send_each-sent.ensures.count
 

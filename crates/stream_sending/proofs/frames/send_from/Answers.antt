@@ -1,7 +1,8 @@
 use Rattle.std.proofs.Common.{ap, inr, rules, subst, sym, ◌∙◌}
 use Rattle.st_format.specs.declared.format.Format.{Format}
-use Rattle.packet_plan.specs.Plan.{IsSize}
+use Rattle.packet_plan.specs.Plan.{IsSize, RasterPlan}
 use Rattle.run_outcome.proofs.SetSums.{counted_behind}
+use Rattle.capture_engines.specs.Sending.{IsPlanOf}
 use Rattle.capture_engines.proofs.Sendings.{if_ok_both, open_failed}
 use Rattle.stream_sending.proofs.Sendings.{stream_sent}
 use Rattle.stream_sending.proofs.frames.send_from.Goals as goal
@@ -20,7 +21,9 @@ returns-clause-sent g c =
           c.new-sender.ensures.next c.new-sender.ensures.sent each.sent c.requires.format
           (search rules) count
           (subst (λ (f : Format). IsSize c.args.wanted.max_octets f)
-          (sym c.requires.alike ∙ c.requires.format) c.requires.limits);
+          (sym c.requires.alike ∙ c.requires.format) c.requires.limits)
+          (subst (λ (x : RasterPlan). IsPlanOf c.args.wanted.max_octets x)
+          (sym c.new-sender.ensures.plan) c.requires.planned);
     }) c.send_each-sent.ensures.sent c.send_each-sent.ensures.count
 
 pub returns-clause-failures : goal.returns-clause-failures

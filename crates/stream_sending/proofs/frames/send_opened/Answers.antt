@@ -58,3 +58,7 @@ returns-in-Some-clause-refusal g c =
     c.in_ok-plan.ensures.made.1 c.in_ok-plan.ensures.made.0 c.format-format.ensures.value)
     (rw c.in-Some.is at next.gave)))
     (rw next.format at c.send_from.ensures.refusal)
+
+pub send_from-requires-clause-planned : goal.send_from-requires-clause-planned
+send_from-requires-clause-planned g c =
+    record { size = c.in_ok-plan.ensures.made.1; full = c.facts.ensures.full }
