@@ -3,7 +3,7 @@ use Rattle.std.proofs.Common.{◌≡◌, ℕ, zero, suc, inl, inr, List, [], ◌
 use Rattle.std.proofs.Common.{Some, refl, sym, ap, subst, ◌∙◌, append_assoc, append-nil}
 use Rattle.std.specs.List.{AllByRecursion}
 use Rattle.media_file.specs.Records.{Entry}
-use Rattle.recording_engines.specs.Joining.{IsOver, Strand}
+use Rattle.recording_engines.specs.Joining.{ComesNoFault, IsOver, Strand}
 use Rattle.recording_reader.specs.declared.fault.ReadingFault.{ReadingFault}
 use Rattle.side_by_side.specs.Going.{first_place, going_by}
 use Rattle.side_by_side.specs.Steering.{stamp_of}
@@ -11,8 +11,7 @@ use Rattle.side_by_side.specs.Steps.{Ahead, AllFresh, Coming, GivesAt, HasGone, 
 use Rattle.side_by_side.specs.Steps.{HaveReadOn}
 use Rattle.side_by_side.specs.Steps.{Over, ReadsMore, Standing, Unknown, left_by, left_of, lefts}
 use Rattle.side_by_side.specs.Steps.{nothing, whole, whole_by, wholes}
-use Rattle.side_by_side.specs.Strands.{AllRunning, Goes, GoesNext, IsRunning, TakesAt, going_in}
-use Rattle.side_by_side.specs.Strands.{goings_in}
+use Rattle.side_by_side.specs.Strands.{AllRunning, Goes, GoesNext, TakesAt, going_in, goings_in}
 use Rattle.side_by_side.specs.declared.going.Going.{Going}
 use Rattle.side_by_side.specs.declared.going.Going.TheVariants.{Unread, Never}
 use Rattle.side_by_side.specs.declared.steering.Steering.{Steering}
@@ -161,7 +160,7 @@ going_left st (Coming e) r known = refl
 going_left st (Over f) r known = refl
 
 running_left : (a : Ahead) (r : Strand) → IsKnownAhead a
-    → IsRunning (left_by a r).entries (left_by a r).fault
+    → ComesNoFault (left_by a r).entries (left_by a r).fault
 running_left Unknown r known = absurd known
 running_left (Coming e) r known = tt
 running_left (Over None) r known = tt
