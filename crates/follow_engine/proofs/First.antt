@@ -9,6 +9,7 @@ use Rattle.recording_counts.specs.declared.left_out.LeftOut.{LeftOut}
 use Rattle.recording_engines.proofs.FileFaults.{fault_none, strand_by}
 use Rattle.recording_engines.specs.Files.{IsKnown}
 use Rattle.recording_engines.specs.Joining.{ComesNoFault, Strand}
+use Rattle.recording_engines.specs.Steps.{lefts, nothing, whole, whole_by, wholes}
 use Rattle.recording_engines.specs.Strands.{fault_of_file, strand_in}
 use Rattle.recording_engines.specs.declared.file.ImportFile.{ImportFile}
 use Rattle.recording_engines.specs.declared.file.ImportFile.TheVariants.{Closed, Open, Taken}
@@ -20,7 +21,6 @@ use Rattle.side_by_side.specs.Going.{first_place}
 use Rattle.side_by_side.specs.Side.{ahead_by, standing_by}
 use Rattle.side_by_side.specs.Sides.{FileGave, IsSideBySide, SideGave, Sides, standings, strand_of}
 use Rattle.side_by_side.specs.Sides.{strands_of}
-use Rattle.side_by_side.specs.Steps.{lefts, nothing, whole, whole_by, wholes}
 use Rattle.side_by_side.specs.Strands.{AllRunning, Goes, TakesAt, going_in, goings_in}
 use Rattle.side_by_side.specs.declared.going.Going.{Going}
 use Rattle.side_by_side.specs.declared.going.Going.TheVariants.{Unread, AtOnce, By, Never}

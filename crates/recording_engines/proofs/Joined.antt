@@ -8,7 +8,7 @@ use Rattle.recording_engines.specs.Joining.{ComesLater, ComesNoSooner, IsNext, J
 use Rattle.recording_engines.specs.Joining.{Strand}
 use Rattle.recording_engines.specs.Steps.{AllFresh, HasJoined, IsLater, IsNoSooner, ReadsMore, Takes}
 use Rattle.recording_engines.specs.Steps.{left_by, left_of, lefts, nothing, whole, whole_by, wholes}
-use Rattle.recording_engines.specs.Steps.{Ahead, Coming, Over, Standing}
+use Rattle.recording_engines.specs.Steps.{Ahead, Coming, Over, Standing, Unknown}
 
 abbrev strand : List Entry → Option ReadingFault → Strand
 strand es f = record { entries = es; fault = f }
@@ -17,11 +17,13 @@ strand es f = record { entries = es; fault = f }
 
 -- what was to come of it before
 abbrev come : Ahead → Strand → Strand
+come Unknown r = r
 come (Coming e) r = record { entries = e ∷ r.entries; fault = r.fault }
 come (Over f) r = record { entries = []; fault = f }
 
 whole_more : (es es' : List Entry) (e : Entry) (a : Ahead) (r : Strand) → ReadsMore es a es'
     → whole_by es' a r ≡ whole_by es (Coming e) (come a r)
+whole_more es es' e Unknown r more = absurd more
 whole_more es es' e (Coming f) r more =
     ap (λ (l : List Entry). strand l r.fault)
     (ap (λ (l : List Entry). l ++ r.entries) more ∙ append_assoc es (f ∷ []) r.entries)
@@ -31,6 +33,7 @@ whole_more es es' e (Over f) r more =
 left_more : (e : Entry) (a : Ahead) (r : Strand)
     → left_by (Coming e) (come a r)
     ≡ record { entries = e ∷ (left_by a r).entries; fault = (left_by a r).fault }
+left_more e Unknown r = refl
 left_more e (Coming f) r = refl
 left_more e (Over f) r = refl
 
@@ -38,12 +41,14 @@ left_more e (Over f) r = refl
 
 later : (moment : ℕ) (a : Ahead) (r : Strand) → IsLater moment a
     → ComesLater moment (left_by a r).entries (left_by a r).fault
+later moment Unknown r is = absurd is
 later moment (Coming e) r is = is
 later moment (Over None) r is = tt
 later moment (Over (Some f)) r is = absurd is
 
 no_sooner : (moment : ℕ) (a : Ahead) (r : Strand) → IsNoSooner moment a
     → ComesNoSooner moment (left_by a r).entries (left_by a r).fault
+no_sooner moment Unknown r is = absurd is
 no_sooner moment (Coming e) r is = is
 no_sooner moment (Over None) r is = tt
 no_sooner moment (Over (Some f)) r is = absurd is
@@ -136,7 +141,7 @@ joined_more ss ss' es e joined takes = record {
 
 -- ---- the beginning and the end
 
-fresh_same : (ss : List Standing) (rs : List Strand) → AllFresh ss → lefts ss rs ≡ wholes ss rs
+pub fresh_same : (ss : List Standing) (rs : List Strand) → AllFresh ss → lefts ss rs ≡ wholes ss rs
 fresh_same [] rs fresh = refl
 fresh_same (s ∷ ss) [] fresh =
     let one = fresh.0 nothing in

@@ -24,7 +24,7 @@ use Rattle.recording_engines.specs.Files.{IsReadByFlows, standing_of}
 use Rattle.recording_engines.specs.Joining.{GoesOn, Strand}
 use Rattle.recording_engines.specs.Opened.{AllBegin, IsFirstStop, IsStopRefusal}
 use Rattle.recording_engines.specs.Steps.{Ahead, Coming, IsFresh, Over, ReadsMore, Standing}
-use Rattle.recording_engines.specs.Steps.{left_by, whole_by}
+use Rattle.recording_engines.specs.Steps.{Unknown, left_by, whole_by}
 use Rattle.recording_engines.specs.declared.file.ImportFile.{ImportFile}
 use Rattle.recording_engines.proofs.FileFaults.{front_strand, of_each, of_file, opening_blames}
 use Rattle.recording_engines.proofs.FileFaults.{strand}
@@ -86,6 +86,7 @@ first_refused gave ended (Err f) old new none stops known =
 -- a file of which nothing was read is read on to its first record
 fresh_by : (a : Ahead) (es : List Entry) (r : Strand) → ReadsMore [] a es
     → whole_by es a r ≡ left_by a r
+fresh_by Unknown es r more = absurd more
 fresh_by (Coming e) es r more =
     ap (λ (l : List Entry). strand (l ++ r.entries) r.fault) more
 fresh_by (Over f) es r more = ap (λ (l : List Entry). strand l f) more

@@ -7,6 +7,7 @@ use Rattle.std.specs.List.{AllByRecursion, sum_by}
 use Rattle.std.proofs.lemmas.List.Sums.{sum_by-set}
 use Rattle.media_file.specs.Records.{Entry}
 use Rattle.recording_engines.specs.Files.{IsAt}
+use Rattle.recording_engines.specs.Steps.{Ahead, Coming, Over, ReadsMore, Standing}
 use Rattle.recording_engines.specs.declared.file.ImportFile.{ImportFile}
 use Rattle.recording_engines.specs.declared.file.ImportFile.TheVariants.{Closed, Open, Taken}
 use Rattle.flow.specs.declared.flows.Flows.{Flows}
@@ -27,8 +28,7 @@ use Rattle.side_by_side.specs.Side.{StopsFile, StopsReader, StopsSide, ahead_by,
 use Rattle.side_by_side.specs.Side.{going_found, goings, reader_standing, standing_by, standing_of}
 use Rattle.side_by_side.specs.Sides.{AllRead, AllSound, AllUnfailed, OneSideAt, standings}
 use Rattle.side_by_side.specs.Steering.{stamp_of}
-use Rattle.side_by_side.specs.Steps.{Ahead, Coming, HasReadOn, HaveReadOn, Over, ReadsMore}
-use Rattle.side_by_side.specs.Steps.{Standing}
+use Rattle.side_by_side.specs.Steps.{HasReadOn, HaveReadOn}
 use Rattle.side_by_side.specs.declared.going.Going.{Going}
 use Rattle.side_by_side.specs.declared.going.Going.TheVariants.{Unread, AtOnce, By, Never}
 use Rattle.side_by_side.specs.declared.side.Side.{Side}

@@ -6,6 +6,7 @@ use Rattle.std.specs.List.{AllByRecursion}
 use Rattle.std.specs.Prelude.{IfSome}
 use Rattle.media_file.specs.Records.{Entry}
 use Rattle.recording_engines.specs.Files.{next_of}
+use Rattle.recording_engines.specs.Steps.{Ahead, AllFresh, Coming, IsFresh, Over, Standing, Unknown}
 use Rattle.recording_engines.specs.declared.file.ImportFile.{ImportFile}
 use Rattle.recording_engines.specs.declared.file.ImportFile.TheVariants.{Closed, Open, Taken}
 use Rattle.recording_reader.specs.FileReader.{TellsTurn, fault_of}
@@ -18,9 +19,7 @@ use Rattle.side_by_side.specs.Sides.{AllOver, AllRead, AllSound, AllUnfailed, Gi
 use Rattle.side_by_side.specs.Sides.{IsFreshFile, ReadsAll}
 use Rattle.side_by_side.specs.Sides.{TellsEnd, TellsNext, standings}
 use Rattle.side_by_side.specs.Steering.{stamp_of}
-use Rattle.side_by_side.specs.Steps.{Ahead, AllFresh, Coming, GivesAt, HasGone, HasReadOn}
-use Rattle.side_by_side.specs.Steps.{HaveReadOn}
-use Rattle.side_by_side.specs.Steps.{IsFresh, Over, Standing, Unknown}
+use Rattle.side_by_side.specs.Steps.{GivesAt, HasGone, HasReadOn, HaveReadOn}
 use Rattle.side_by_side.specs.declared.going.Going.{Going}
 use Rattle.side_by_side.specs.declared.going.Going.TheVariants.{Unread, AtOnce, By, Never}
 use Rattle.side_by_side.specs.declared.side.Side.{Side}

@@ -3,8 +3,10 @@ use Rattle.std.proofs.Common.{◌≡◌, ℕ, List, [], ◌∷◌, Option, None,
 use Rattle.std.specs.List.{AllByRecursion, AllZip}
 use Rattle.media_file.specs.Records.{Entry}
 use Rattle.recording_engines.proofs.FileFaults.{fault_none, strand_by}
+use Rattle.recording_engines.proofs.Joined.{all_over}
 use Rattle.recording_engines.specs.Files.{IsKnown}
 use Rattle.recording_engines.specs.Joining.{Strand}
+use Rattle.recording_engines.specs.Steps.{Ahead, Over, lefts, nothing, whole, whole_by, wholes}
 use Rattle.recording_engines.specs.Strands.{strand_in}
 use Rattle.recording_engines.specs.declared.file.ImportFile.{ImportFile}
 use Rattle.recording_engines.specs.declared.file.ImportFile.TheVariants.{Closed, Open, Taken}
@@ -15,13 +17,10 @@ use Rattle.st_format.specs.History.{IsRead}
 use Rattle.side_by_side.specs.Side.{ahead_by, coming_by, reader_standing, standing_by}
 use Rattle.side_by_side.specs.Sides.{AllOver, FileGave, HasGivenAll, IsSideBySide, SideGave, Sides}
 use Rattle.side_by_side.specs.Sides.{standings, strand_of, strands_of}
-use Rattle.side_by_side.specs.Steps.{Ahead, Over, lefts, nothing, whole, whole_by}
-use Rattle.side_by_side.specs.Steps.{wholes}
 use Rattle.side_by_side.specs.Strands.{Goes}
 use Rattle.side_by_side.specs.declared.going.Going.{Going}
 use Rattle.side_by_side.specs.declared.going.Going.TheVariants.{Unread, AtOnce, By, Never}
 use Rattle.side_by_side.specs.declared.side.Side.{Side}
-use Rattle.side_by_side.proofs.Gone.{all_over}
 
 no_coming : (h : Option Entry) → coming_by h ≡ Over None → ⊥
 no_coming None is = absurd cc

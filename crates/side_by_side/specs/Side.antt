@@ -4,6 +4,7 @@ use Rattle.std.specs.Prelude.{map, Bool, true, false}
 use Rattle.flow.specs.declared.flows.Flows.{Flows}
 use Rattle.media_file.specs.Records.{Entry}
 use Rattle.recording_engines.specs.Files.{IsAt, IsUnread}
+use Rattle.recording_engines.specs.Steps.{Ahead, Coming, Over, Standing, Unknown}
 use Rattle.recording_engines.specs.declared.file.ImportFile.{ImportFile}
 use Rattle.recording_engines.specs.declared.file.ImportFile.TheVariants.{Closed, Open, Taken}
 use Rattle.recording_reader.specs.FileReader.{FileReader, fault_of}
@@ -13,7 +14,7 @@ use Rattle.recording_reader.specs.declared.way.Standing.TheVariants.{Reads, Ende
 use Rattle.run_outcome.specs.Fault.{Blames, counts}
 use Rattle.side_by_side.specs.Going.{IsReadBy, going_by}
 use Rattle.side_by_side.specs.Steering.{stamp_of}
-use Rattle.side_by_side.specs.Steps.{Ahead, Coming, HasReadOn, Over, Standing, Unknown}
+use Rattle.side_by_side.specs.Steps.{HasReadOn}
 use Rattle.side_by_side.specs.declared.going.Going.{Going}
 use Rattle.side_by_side.specs.declared.going.Going.TheVariants.{Unread, AtOnce, By, Never}
 use Rattle.side_by_side.specs.declared.side.Side.{Side}

@@ -5,6 +5,7 @@ use Rattle.std.specs.List.{AllByRecursion, AllZip, sum_by}
 use Rattle.std.specs.Option.{option_map}
 use Rattle.media_file.specs.Records.{Entry}
 use Rattle.recording_engines.specs.Files.{IsAt, failures_by, next_of}
+use Rattle.recording_engines.specs.Steps.{Over, Standing, nothing}
 use Rattle.recording_engines.specs.declared.file.ImportFile.{ImportFile}
 use Rattle.recording_engines.specs.declared.file.ImportFile.TheVariants.{Closed, Open, Taken}
 use Rattle.recording_engines.specs.Joining.{Strand}
@@ -24,7 +25,7 @@ use Rattle.st_format.specs.declared.path.Path.{Path}
 use Rattle.side_by_side.specs.Going.{IsReadBy}
 use Rattle.side_by_side.specs.InOrder.{gone_of}
 use Rattle.side_by_side.specs.Side.{Begun, IsGiven, IsSoundSide, IsUnfailed, begun_at, standing_of}
-use Rattle.side_by_side.specs.Steps.{HasGone, HaveReadOn, Over, Standing, nothing}
+use Rattle.side_by_side.specs.Steps.{HasGone, HaveReadOn}
 use Rattle.side_by_side.specs.Strands.{GoesWhole}
 use Rattle.side_by_side.specs.declared.going.Going.TheVariants.{Unread}
 use Rattle.side_by_side.specs.declared.side.Side.{Side}
