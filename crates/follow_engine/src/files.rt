@@ -5,8 +5,7 @@ ghost use Rattle.std.specs.List.{AllByRecursion, zip};
 ghost use Rattle.std.specs.Option.{option_copied};
 ghost use Rattle.follow_engine.specs.Followed.{FollowsPart, FollowsWhole, StopsShort};
 ghost use Rattle.follow_engine.specs.Opened.{AllClosedSides, AreOpened, IsFirstText, StopsOne};
-ghost use Rattle.follow_engine.specs.Refused.{IsFirstRefusal, IsFollowRefusal, IsOpeningRefusal};
-ghost use Rattle.follow_engine.specs.Refused.{StopsRead};
+ghost use Rattle.follow_engine.specs.Refused.{IsFirstRefusal, IsFollowRefusal, StopsRead};
 ghost use Rattle.follow_engine.specs.Running.{IsRun, TellsSome, Told};
 ghost use Rattle.follow_engine.specs.Sides.{EndsSome, EndsStream, FollowsEntries, FollowsUpTo};
 ghost use Rattle.follow_engine.specs.Sides.{HasBegun, HasBegunIn, SideRead, text_by};
@@ -14,6 +13,7 @@ ghost use Rattle.path_receiver.specs.Opening.{IsWindowSize};
 ghost use Rattle.recording_engines.specs.Files.{IsKnown, IsReadByFlows};
 ghost use Rattle.run_outcome.specs.Fault.{Accounts, IfRefused, counts};
 ghost use Rattle.run_outcome.specs.Refusing.{OfRefusal};
+ghost use Rattle.run_outcome.specs.TextRefusals.{IsDescriptionRefusal};
 ghost use Rattle.side_by_side.specs.Sides.{IsBegun, begun_each, failures_each};
 
 use crate::opening::{FollowAsked, open_all, open_run, read_words};
@@ -112,7 +112,7 @@ fn begin<A: Allocator + Copy>(
     ensures begun { IfOk result
         (λ r. HasBegunIn asked.entry ssrc (option_copied sdp.entry) r) }
     ensures refusal { IfErr result (λ f. OfRefusal f (λ r. MatchOption (option_copied sdp.entry) ⊥
-        (λ text. IsOpeningRefusal text r))) }
+        (λ text. IsDescriptionRefusal text r))) }
     ensures failures { Accounts result [] }
 {
     match sdp {
@@ -175,7 +175,7 @@ fn begin_by<A: Allocator + Copy>(
 ) -> Result<Run<A>, Fault>
     requires { IsWindowSize asked.frames }
     ensures begun { IfOk result (λ r. HasBegun asked.entry ssrc said.now r) }
-    ensures refusal { IfErr result (λ f. OfRefusal f (IsOpeningRefusal said.now)) }
+    ensures refusal { IfErr result (λ f. OfRefusal f (IsDescriptionRefusal said.now)) }
     ensures failures { Accounts result [] }
 {
     let run = open_run(alloc, asked.frames, ssrc, asked.is_eager, said)?;

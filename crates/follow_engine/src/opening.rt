@@ -5,7 +5,7 @@ ghost use Rattle.capture_engines.specs.Files.{flows_in};
 ghost use Rattle.capture_engines.specs.Received.{StopsFile};
 ghost use Rattle.follow_engine.specs.Opened.{AllClosedSides, AreOpened, IsFirstText, OpensRun};
 ghost use Rattle.follow_engine.specs.Opened.{StopsOne};
-ghost use Rattle.follow_engine.specs.Refused.{IsOpeningRefusal, IsWordRefusal};
+ghost use Rattle.follow_engine.specs.Refused.{IsWordRefusal};
 ghost use Rattle.follow_engine.specs.Running.{IsRun, running_of};
 ghost use Rattle.path_receiver.specs.Opening.{IsWindowSize};
 ghost use Rattle.recording_engines.specs.Files.{IsClosed, IsKnown, ended_by, failures_by, gave_by};
@@ -13,6 +13,7 @@ ghost use Rattle.recording_reader.specs.Opening.{CountsOpening, IsByFlows, Stops
 ghost use Rattle.run_outcome.specs.Fault.{Accounts, Blames, counts};
 ghost use Rattle.run_outcome.specs.Refusing.{OfRefusal};
 ghost use Rattle.run_outcome.specs.Sources.{IsSourceText};
+ghost use Rattle.run_outcome.specs.TextRefusals.{IsDescriptionRefusal};
 ghost use Rattle.side_by_side.specs.Side.{IsNewSide};
 ghost use Rattle.side_by_side.specs.Sides.{failures_each};
 ghost use Rattle.st_format.specs.History.{IsRead};
@@ -85,7 +86,7 @@ pub(crate) fn open_run<A: Allocator + Copy>(
     ensures run { IfOk result (λ r. IsRun r) }
     ensures eager { IfOk result (λ r. r.is_eager ≡ is_eager) }
     ensures opened { IfOk result (λ r. OpensRun frames ssrc said.now (running_of r)) }
-    ensures refusal { IfErr result (λ f. OfRefusal f (IsOpeningRefusal said.now)) }
+    ensures refusal { IfErr result (λ f. OfRefusal f (IsDescriptionRefusal said.now)) }
     ensures failures { Accounts result [] }
 {
     let sdp = read_located(alloc, said)?;
