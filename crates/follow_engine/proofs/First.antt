@@ -7,7 +7,7 @@ use Rattle.flow.specs.declared.flows.Flows.{Flows}
 use Rattle.media_file.specs.Records.{Entry}
 use Rattle.recording_counts.specs.declared.left_out.LeftOut.{LeftOut}
 use Rattle.recording_engines.proofs.FileFaults.{fault_none, strand_by}
-use Rattle.recording_engines.specs.Files.{IsKnown}
+use Rattle.recording_engines.specs.Files.{HasKnownOctets}
 use Rattle.recording_engines.specs.Joining.{ComesNoFault, Strand}
 use Rattle.recording_engines.specs.Steps.{lefts, nothing, whole, whole_by, wholes}
 use Rattle.recording_engines.specs.Strands.{fault_of_file, strand_in}
@@ -187,7 +187,7 @@ longer_by flows (Failed f) w h octets es left known =
     (nothing, inr (f, known.0.0, refl, known.0.1))
 
 longer_file : {A S : Type 0} (gave : S → List ℕ) (ended : S → Type 0) (w : Going)
-    (f : ImportFile A S) (octets : List ℕ) → IsKnown gave ended f → FileGave gave ended f octets
+    (f : ImportFile A S) (octets : List ℕ) → HasKnownOctets gave ended f → FileGave gave ended f octets
     → (r : Strand) × IsLonger (whole (standing_by w f) r) (strand_of f octets)
 longer_file gave ended w (Closed s) octets known read = (nothing, inl refl)
 longer_file gave ended w (Open r) octets known read =
@@ -195,7 +195,7 @@ longer_file gave ended w (Open r) octets known read =
 longer_file gave ended w Taken octets known read = (nothing, inl refl)
 
 all_longer : {A S : Type 0} (gave : S → List ℕ) (ended : S → Type 0) (sides : List (Side A S))
-    (octets : List (List ℕ)) → AllByRecursion (λ s. IsKnown gave ended s.file) sides
+    (octets : List (List ℕ)) → AllByRecursion (λ s. HasKnownOctets gave ended s.file) sides
     → AllZip (SideGave gave ended) sides octets
     → (rs : List Strand) × AllLonger (wholes (standings sides) rs) (strands_of sides octets)
 all_longer gave ended [] octets known read = ([], tt)
@@ -208,7 +208,7 @@ all_longer gave ended (s ∷ ss) (o ∷ os) known read =
 -- what went of files goes first of the records that were read of them
 pub goes_first : {A S : Type 0} (gave : S → List ℕ) (ended : S → Type 0) (s : Sides A S)
     (octets : List (List ℕ)) → (is : IsSideBySide s)
-    → AllByRecursion (λ x. IsKnown gave ended x.file) s.sides
+    → AllByRecursion (λ x. HasKnownOctets gave ended x.file) s.sides
     → AllZip (SideGave gave ended) s.sides octets
     → GoesFirst s.steering (strands_of s.sides octets) is.entries
 goes_first gave ended s octets is known read =

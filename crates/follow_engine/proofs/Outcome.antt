@@ -11,7 +11,7 @@ use Rattle.following.specs.Following.{Handed}
 use Rattle.media_file.specs.Records.{Entry}
 use Rattle.path_receiver.specs.Opening.{IsWindowSize, Opening}
 use Rattle.recording_engines.proofs.Same.{no_less, no_more, same_head}
-use Rattle.recording_engines.specs.Files.{IsKnown, IsReadByFlows}
+use Rattle.recording_engines.specs.Files.{HasKnownOctets, IsReadByFlows}
 use Rattle.recording_engines.specs.Joining.{Strand}
 use Rattle.recording_reader.specs.Files.{text_of_file}
 use Rattle.run_outcome.specs.Sources.{IsSourceText}
@@ -97,7 +97,7 @@ pub said_text : {A S : Type 0} (gave : S → List ℕ) (ended : S → Type 0)
     (ways : List (Result Flows Refusal)) (sdp : Option (List ℕ)) (first : List ℕ)
     (olds mids news : List (Side A S)) (octets : List (List ℕ)) (text : List ℕ)
     → AreOpened gave ended ways olds mids → IsFirstText first mids
-    → begun_each news ≡ begun_each mids → AllByRecursion (λ x. IsKnown gave ended x.file) news
+    → begun_each news ≡ begun_each mids → AllByRecursion (λ x. HasKnownOctets gave ended x.file) news
     → AllZip (SideRead gave ended) (zip olds news) octets → said_behind sdp octets ≡ Some text
     → text_by sdp first ≡ text
 said_text gave ended ways (Some t) first olds mids news octets text opened is same known read said =
@@ -161,7 +161,7 @@ pub follows_whole : {A S K : Type 0} (gave : S → List ℕ) (ended : S → Type
     (took took' took'' : List ℕ) (totals : FollowTotals) → IsSourceText w.ssrc.now ssrc
     → HasBegun w ssrc (text_by sdp first) r → AreOpened gave ended ways olds mids
     → IsFirstText first mids → begun_each news ≡ begun_each mids
-    → AllByRecursion (λ x. IsKnown gave ended x.file) news → IsWindowSize w.frames
+    → AllByRecursion (λ x. HasKnownOctets gave ended x.file) news → IsWindowSize w.frames
     → AllByRecursion (λ x. IsReadByFlows x.file) news
     → FollowsEntries gave ended takes r t old mid took took' news
     → EndsStream takes t mid new took' took'' totals

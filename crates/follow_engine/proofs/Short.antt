@@ -11,7 +11,7 @@ use Rattle.following.specs.Following.{Handed, frames_in}
 use Rattle.media_file.specs.Records.{Entry}
 use Rattle.path_receiver.specs.Opening.{Opening}
 use Rattle.path_receiver.specs.Took.{datagrams_since}
-use Rattle.recording_engines.specs.Files.{IsKnown}
+use Rattle.recording_engines.specs.Files.{HasKnownOctets}
 use Rattle.recording_engines.specs.Joining.{Strand}
 use Rattle.run_outcome.specs.Sources.{IsSourceText}
 use Rattle.run_outcome.specs.declared.refusal.Refusal.{Refusal}
@@ -44,7 +44,7 @@ use Rattle.follow_engine.proofs.Whole.{all_taken, datagrams_from}
 
 pub up_to : {A S : Type 0} (gave : S → List ℕ) (ended : S → Type 0) (source source' : Sides A S)
     (r : Run A) (sides : List (Side A S)) (Tells : List Event → Type 0) → IsSideBySide source'
-    → AllByRecursion (λ s. IsKnown gave ended s.file) source'.sides → source.came ≡ []
+    → AllByRecursion (λ s. HasKnownOctets gave ended s.file) source'.sides → source.came ≡ []
     → source'.steering ≡ r.steering → source'.sides ≡ sides
     → Tells (events_in r.is_eager (running_of r) (datagrams_since source.came source'.came))
     → FollowsUpTo gave ended r sides Tells
@@ -107,7 +107,7 @@ module _ {A S : Type 0} (gave : S → List ℕ) (ended_at : S → Type 0) (w : F
         → IsSourceText w.ssrc.now ssrc → (begun : HasBegun w ssrc (text_by sdp first) r)
         → AreOpened gave ended_at ways olds mids → IsFirstText first mids
         → begun_each news ≡ begun_each mids
-        → AllByRecursion (λ x. IsKnown gave ended_at x.file) news
+        → AllByRecursion (λ x. HasKnownOctets gave ended_at x.file) news
         → ((octets : List (List ℕ)) → AllZip (SideGave gave ended_at) news octets
         → GoesFirst r.steering (strands_of news octets) entries)
         → Tells begun.opens.opening entries
@@ -149,7 +149,7 @@ module _ {A S : Type 0} (gave : S → List ℕ) (ended_at : S → Type 0) (w : F
         → (begun : HasBegun w ssrc (text_by sdp first) r)
         → AreOpened gave ended_at ways olds mids → IsFirstText first mids
         → begun_each news ≡ begun_each mids
-        → AllByRecursion (λ x. IsKnown gave ended_at x.file) news
+        → AllByRecursion (λ x. HasKnownOctets gave ended_at x.file) news
         → FollowsUpTo gave ended_at r news (Told takes old new took took')
         → FollowsFirst w sdp ways (SideRead gave ended_at) (zip olds news)
         (λ o entries. Told takes old new took took' (first_events w o entries))
@@ -179,7 +179,7 @@ module _ {A S : Type 0} (gave : S → List ℕ) (ended_at : S → Type 0) (w : F
           → (begun : HasBegun w ssrc (text_by sdp first) r)
           → AreOpened gave ended_at ways olds mids → IsFirstText first mids
           → begun_each news ≡ begun_each mids
-          → AllByRecursion (λ x. IsKnown gave ended_at x.file) news
+          → AllByRecursion (λ x. HasKnownOctets gave ended_at x.file) news
           → FollowsUpTo gave ended_at r news (TellsSome takes fails old new took took')
           → FollowsFirst w sdp ways (SideRead gave ended_at) (zip olds news)
           (TellsPart takes fails w old new took took')
@@ -242,7 +242,7 @@ pub ends_part : {A S K : Type 0} (gave : S → List ℕ) (ended_at : S → Type 
     (took took' took'' : List ℕ) → IsSourceText w.ssrc.now ssrc
     → (begun : HasBegun w ssrc (text_by sdp first) r) → AreOpened gave ended_at ways olds mids
     → IsFirstText first mids → begun_each news ≡ begun_each mids
-    → AllByRecursion (λ x. IsKnown gave ended_at x.file) news
+    → AllByRecursion (λ x. HasKnownOctets gave ended_at x.file) news
     → FollowsEntries gave ended_at takes r t old mid took took' news
     → EndsSome takes fails t mid new took' took''
     → FollowsFirst w sdp ways (SideRead gave ended_at) (zip olds news)

@@ -10,7 +10,7 @@ ghost use Rattle.follow_engine.specs.Running.{IsRun, TellsSome, Told};
 ghost use Rattle.follow_engine.specs.Sides.{EndsSome, EndsStream, FollowsEntries, FollowsUpTo};
 ghost use Rattle.follow_engine.specs.Sides.{HasBegun, HasBegunIn, SideRead, text_by};
 ghost use Rattle.path_receiver.specs.Opening.{IsWindowSize};
-ghost use Rattle.recording_engines.specs.Files.{IsKnown, IsReadByFlows};
+ghost use Rattle.recording_engines.specs.Files.{HasKnownOctets, IsReadByFlows};
 ghost use Rattle.run_outcome.specs.Fault.{Accounts, IfRefused, counts};
 ghost use Rattle.run_outcome.specs.Refusing.{OfRefusal};
 ghost use Rattle.run_outcome.specs.TextRefusals.{IsDescriptionRefusal};
@@ -224,7 +224,7 @@ fn follow_opened<A: Allocator + Copy, S: ByteSource + Drop, P: PictureSink, O: B
     requires begun { AllByRecursion IsBegun sides.old.items }
     ensures len { length sides.new.items ≡ length sides.old.items }
     ensures begun { begun_each sides.new.items ≡ begun_each sides.old.items }
-    ensures known { AllByRecursion (λ s. IsKnown S.gave S.ended s.file) sides.new.items }
+    ensures known { AllByRecursion (λ s. HasKnownOctets S.gave S.ended s.file) sides.new.items }
     ensures by_flows { AllByRecursion (λ s. IsReadByFlows s.file) sides.new.items }
     ensures run { OnOk result (IsRun run.new) }
     ensures followed { OnOk result (FollowsEntries S.gave S.ended P.takes run.old run.new

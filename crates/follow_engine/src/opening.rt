@@ -8,7 +8,8 @@ ghost use Rattle.follow_engine.specs.Opened.{StopsOne};
 ghost use Rattle.follow_engine.specs.Refused.{IsWordRefusal};
 ghost use Rattle.follow_engine.specs.Running.{IsRun, running_of};
 ghost use Rattle.path_receiver.specs.Opening.{IsWindowSize};
-ghost use Rattle.recording_engines.specs.Files.{IsClosed, IsKnown, ended_by, failures_by, gave_by};
+ghost use Rattle.recording_engines.specs.Files.{HasKnownOctets, IsClosed, ended_by, failures_by};
+ghost use Rattle.recording_engines.specs.Files.{gave_by};
 ghost use Rattle.recording_reader.specs.Opening.{CountsOpening, IsByFlows, StopsOpening};
 ghost use Rattle.run_outcome.specs.Fault.{Accounts, Blames, counts};
 ghost use Rattle.run_outcome.specs.Refusing.{OfRefusal};
@@ -145,7 +146,7 @@ fn open_side<A: Allocator, S: ByteSource + Drop>(
     ensures text { length text.new ≡ length text.old }
     ensures opened { IfOk result (λ count. IsNewSide (flows_in way) (gave_by S.gave side.old.file)
         (take count text.new) side.new) }
-    ensures known { OnOk result (IsKnown S.gave S.ended side.new.file) }
+    ensures known { OnOk result (HasKnownOctets S.gave S.ended side.new.file) }
     ensures few { IfOk result (λ count. count ≤ 65535) }
     ensures refusal { IfErr result (λ f. OfRefusal f (StopsFile way (IsRead
         (gave_by S.gave side.old.file) (gave_by S.gave side.new.file)

@@ -4,9 +4,11 @@ use Rattle.std.proofs.Common.{Some, refl, sym, ap, subst, ◌∙◌, append_asso
 use Rattle.std.specs.List.{AllByRecursion}
 use Rattle.media_file.specs.Records.{Entry}
 use Rattle.recording_reader.specs.declared.fault.ReadingFault.{ReadingFault}
-use Rattle.recording_engines.specs.Joining.{ComesLater, ComesNoSooner, IsNext, Joins, IsOver}
+use Rattle.recording_engines.specs.Joining.{ComesLater, ComesNoSooner, IsJoinedNext, JoinsByMoment}
+use Rattle.recording_engines.specs.Joining.{IsOver}
 use Rattle.recording_engines.specs.Joining.{Strand}
-use Rattle.recording_engines.specs.Steps.{AllFresh, HasJoined, IsLater, IsNoSooner, ReadsMore, Takes}
+use Rattle.recording_engines.specs.Steps.{AllFresh, HasJoined, IsLater, IsNoSooner, ReadsMore}
+use Rattle.recording_engines.specs.Steps.{TakesEarliest}
 use Rattle.recording_engines.specs.Steps.{left_by, left_of, lefts, nothing, whole, whole_by, wholes}
 use Rattle.recording_engines.specs.Steps.{Ahead, Coming, Over, Standing, Unknown}
 
@@ -68,13 +70,13 @@ none_sooner moment (s ∷ ss) (r ∷ rs) is =
 pub record Came (ss ss' : List Standing) (e : Entry) (rs' : List Strand) : Type 0 where
   pub rs : List Strand
   pub same : wholes ss' rs' ≡ wholes ss rs
-  pub next : IsNext (lefts ss rs) e (lefts ss' rs')
+  pub next : IsJoinedNext (lefts ss rs) e (lefts ss' rs')
 
 here : (s s' : Standing) (ss ss' : List Standing) (e : Entry) (r' : Strand) (rs : List Strand)
     → s.ahead ≡ Coming e → ReadsMore s.entries s'.ahead s'.entries → ss' ≡ ss
     → AllByRecursion (λ t. IsNoSooner e.moment t.ahead) ss
     → (whole s' r' ∷ wholes ss' rs ≡ whole s (come s'.ahead r') ∷ wholes ss rs)
-    × IsNext (left_of s (come s'.ahead r') ∷ lefts ss rs) e (left_of s' r' ∷ lefts ss' rs)
+    × IsJoinedNext (left_of s (come s'.ahead r') ∷ lefts ss rs) e (left_of s' r' ∷ lefts ss' rs)
 here s s' ss ss' e r' rs coming more same all = (
   cons (whole_more s.entries s'.entries e s'.ahead r' more
       ∙ ap (λ (a : Ahead). whole_by s.entries a (come s'.ahead r')) (sym coming))
@@ -91,9 +93,9 @@ here s s' ss ss' e r' rs coming more same all = (
 
 there : (s s' : Standing) (ss ss' : List Standing) (e : Entry) (r : Strand) (rs' rs : List Strand)
     → s' ≡ s → IsLater e.moment s.ahead → wholes ss' rs' ≡ wholes ss rs
-    → IsNext (lefts ss rs) e (lefts ss' rs')
+    → IsJoinedNext (lefts ss rs) e (lefts ss' rs')
     → (whole s' r ∷ wholes ss' rs' ≡ whole s r ∷ wholes ss rs)
-    × IsNext (left_of s r ∷ lefts ss rs) e (left_of s' r ∷ lefts ss' rs')
+    × IsJoinedNext (left_of s r ∷ lefts ss rs) e (left_of s' r ∷ lefts ss' rs')
 there s s' ss ss' e r rs' rs same is wholes_same next = (
   cc,
   inr (
@@ -103,7 +105,7 @@ there s s' ss ss' e r rs' rs same is wholes_same next = (
   ),
 )
 
-pub came : (ss ss' : List Standing) (e : Entry) (rs' : List Strand) → Takes ss e ss'
+pub came : (ss ss' : List Standing) (e : Entry) (rs' : List Strand) → TakesEarliest ss e ss'
     → Came ss ss' e rs'
 came [] ss' e rs' takes = absurd takes
 came (s ∷ ss) [] e rs' takes = absurd takes
@@ -123,18 +125,18 @@ came (s ∷ ss) (s' ∷ ss') e (r ∷ rs) (inr takes) =
     record { rs = r ∷ rest.rs; same = is.0; next = is.1 }
 
 joins_more : (strands left left' : List Strand) (es : List Entry) (e : Entry)
-    → Joins strands es left → IsNext left e left' → Joins strands (es ++ e ∷ []) left'
+    → JoinsByMoment strands es left → IsJoinedNext left e left' → JoinsByMoment strands (es ++ e ∷ []) left'
 joins_more strands left left' [] e joins next =
-    (left', subst (λ (l : List Strand). IsNext l e left') joins next, refl)
+    (left', subst (λ (l : List Strand). IsJoinedNext l e left') joins next, refl)
 joins_more strands left left' (x ∷ xs) e joins next =
     (joins.0, joins.1, joins_more joins.0 left left' xs e joins.2 next)
 
 pub joined_more : (ss ss' : List Standing) (es : List Entry) (e : Entry) → HasJoined ss es
-    → Takes ss e ss' → HasJoined ss' (es ++ e ∷ [])
+    → TakesEarliest ss e ss' → HasJoined ss' (es ++ e ∷ [])
 joined_more ss ss' es e joined takes = record {
   joins = λ rs'.
       let was = came ss ss' e rs' takes in
-      subst (λ (l : List Strand). Joins l (es ++ e ∷ []) (lefts ss' rs')) (sym was.same)
+      subst (λ (l : List Strand). JoinsByMoment l (es ++ e ∷ []) (lefts ss' rs')) (sym was.same)
       (joins_more (wholes ss was.rs) (lefts ss was.rs) (lefts ss' rs') es e
       (joined.joins was.rs) was.next);
 }

@@ -5,7 +5,7 @@ use Rattle.std.specs.List.{AllByRecursion}
 use Rattle.st_format.specs.History.{IsRead}
 use Rattle.flow.specs.declared.flows.Flows.{Flows}
 use Rattle.media_file.specs.Records.{Entry}
-use Rattle.recording_engines.specs.Joining.{Joins, Strand}
+use Rattle.recording_engines.specs.Joining.{JoinsByMoment, Strand}
 use Rattle.recording_engines.specs.Strands.{strand_in}
 use Rattle.recording_reader.specs.declared.fault.ReadingFault.{ReadingFault}
 
@@ -58,7 +58,7 @@ lefts (s ∷ ss) (r ∷ rs) = left_of s r ∷ lefts ss rs
 
 -- files are joined to these records so far, whatever is still to come
 pub record HasJoined (ss : List Standing) (entries : List Entry) : Type 0 where
-  pub joins : (rs : List Strand) → Joins (wholes ss rs) entries (lefts ss rs)
+  pub joins : (rs : List Strand) → JoinsByMoment (wholes ss rs) entries (lefts ss rs)
 
 -- of a file nothing was read but what comes next
 abbrev pub IsFresh : Standing → Type 0
@@ -92,13 +92,13 @@ ReadsMore es (Coming e) es' = es' ≡ es ++ e ∷ []
 ReadsMore es (Over f) es' = es' ≡ es
 
 -- this record was the earliest next, and its file was read on
-abbrev pub Takes : List Standing → Entry → List Standing → Type 0
-Takes [] e ss' = ⊥
-Takes (s ∷ ss) e [] = ⊥
-Takes (s ∷ ss) e (s' ∷ ss') =
+abbrev pub TakesEarliest : List Standing → Entry → List Standing → Type 0
+TakesEarliest [] e ss' = ⊥
+TakesEarliest (s ∷ ss) e [] = ⊥
+TakesEarliest (s ∷ ss) e (s' ∷ ss') =
     ((s.ahead ≡ Coming e) × ReadsMore s.entries s'.ahead s'.entries × (ss' ≡ ss)
     × AllByRecursion (λ t. IsNoSooner e.moment t.ahead) ss)
-    ⊎ ((s' ≡ s) × IsLater e.moment s.ahead × Takes ss e ss')
+    ⊎ ((s' ≡ s) × IsLater e.moment s.ahead × TakesEarliest ss e ss')
 
 -- ---- what was read
 

@@ -6,7 +6,7 @@ use Rattle.std.proofs.Common.{get_or, set, length, take}
 use Rattle.std.specs.List.{AllByRecursion, sum_by}
 use Rattle.std.proofs.lemmas.List.Sums.{sum_by-set}
 use Rattle.media_file.specs.Records.{Entry}
-use Rattle.recording_engines.specs.Files.{IsAt}
+use Rattle.recording_engines.specs.Files.{IsFailedAt}
 use Rattle.recording_engines.specs.Steps.{Ahead, Coming, Over, ReadsMore, Standing}
 use Rattle.recording_engines.specs.declared.file.ImportFile.{ImportFile}
 use Rattle.recording_engines.specs.declared.file.ImportFile.TheVariants.{Closed, Open, Taken}
@@ -317,7 +317,7 @@ has_read st old new was reads =
     }
 
 stops_at : {A S : Type 0} (f : ReadingFault) (old new : ImportFile A S) → StopsFile f old new
-    → IsAt f new × HasReadOn (standing_by Unread old) (standing_by Unread new)
+    → IsFailedAt f new × HasReadOn (standing_by Unread old) (standing_by Unread new)
 stops_at f (Closed s) new stops = absurd stops
 stops_at f (Open r) (Closed s) stops = absurd stops
 stops_at f (Open r) (Open r') stops = (stops.at, stops.goes_on)
@@ -402,7 +402,7 @@ on_set (s ∷ ss) zero d s' on = (on, all_stay (standings ss))
 on_set (s ∷ ss) (suc k) d s' on = (inl refl, on_set ss k d s' on)
 
 pub stopped_set : {A S : Type 0} (f : ReadingFault) (sides : List (Side A S)) (k : ℕ)
-    (s' : Side A S) → k < length sides → IsAt f s'.file → OneSideAt f (set sides k s')
+    (s' : Side A S) → k < length sides → IsFailedAt f s'.file → OneSideAt f (set sides k s')
 stopped_set f [] k s' lt at = absurd (omega (arith, lt))
 stopped_set f (s ∷ ss) zero s' lt at = inl at
 stopped_set f (s ∷ ss) (suc k) s' lt at = inr (stopped_set f ss k s' (omega (arith, lt)) at)

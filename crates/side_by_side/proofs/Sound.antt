@@ -4,7 +4,7 @@ use Rattle.std.proofs.Common.{sym, ap, ◌∙◌, arith, drop, length, take, app
 use Rattle.std.proofs.lemmas.List.{take_at}
 use Rattle.std.specs.List.{AllByRecursion}
 use Rattle.media_file.specs.Records.{Entry}
-use Rattle.recording_engines.specs.Files.{IsAt}
+use Rattle.recording_engines.specs.Files.{IsFailedAt}
 use Rattle.recording_engines.specs.declared.file.ImportFile.{ImportFile}
 use Rattle.recording_engines.specs.declared.file.ImportFile.TheVariants.{Closed, Open, Taken}
 use Rattle.recording_reader.proofs.Telling.{datagrams_more}
@@ -81,7 +81,7 @@ given_same st olds news es gone goes =
 
 -- ---- the fault at which it stays
 
-at_unfailed : {A S : Type 0} (f : ReadingFault) (file : ImportFile A S) → IsAt f file
+at_unfailed : {A S : Type 0} (f : ReadingFault) (file : ImportFile A S) → IsFailedAt f file
     → IsUnfailedFile file → ⊥
 at_unfailed f (Closed s) at unfailed = at
 at_unfailed f (Open r) at unfailed =

@@ -5,7 +5,7 @@ use Rattle.std.proofs.Common.{get_or, set, length, inl, inr}
 use Rattle.std.specs.List.{AllByRecursion}
 use Rattle.std.specs.Prelude.{IfSome}
 use Rattle.media_file.specs.Records.{Entry}
-use Rattle.recording_engines.specs.Files.{next_of}
+use Rattle.recording_engines.specs.Files.{next_entry}
 use Rattle.recording_engines.specs.Steps.{Ahead, AllFresh, Coming, IsFresh, Over, Standing, Unknown}
 use Rattle.recording_engines.specs.declared.file.ImportFile.{ImportFile}
 use Rattle.recording_engines.specs.declared.file.ImportFile.TheVariants.{Closed, Open, Taken}
@@ -35,7 +35,7 @@ use Rattle.side_by_side.proofs.Reading.{known_side, sound_given}
 
 pub record HasHand {A S : Type 0} (s : Side A S) : Type 0 where
   pub entry : Entry
-  pub hand : next_of s.file ≡ Some entry
+  pub hand : next_entry s.file ≡ Some entry
   pub coming : (standing_of s).ahead ≡ Coming entry
 
 -- what goes is a record
@@ -63,7 +63,7 @@ hand_by Ended w h e is = absurd cc
 hand_by (Failed f) w h e is = absurd cc
 
 hand_file : {A S : Type 0} (w : Going) (f : ImportFile A S) (e : Entry)
-    → (standing_by w f).ahead ≡ Coming e → next_of f ≡ Some e
+    → (standing_by w f).ahead ≡ Coming e → next_entry f ≡ Some e
 hand_file w (Closed s) e is = absurd cc
 hand_file w (Open r) e is = hand_by r.standing w r.at_hand e is
 hand_file w Taken e is = absurd cc
@@ -174,7 +174,7 @@ told_hand st End buf e olds news turn sound gone left = absurd turn
 pub told_first : {A S : Type 0} (st : Steering) (t : Turn) (buf : List ℕ)
     (olds mids : List (Side A S)) (k : ℕ) (w : Going) (d s' : Side A S) → ReadsAll st olds mids
     → first_place (goings mids) ≡ Some (k, w)
-    → TellsTurn (next_of (get_or mids k d).file) t buf → IsGiven (get_or mids k d) s'
+    → TellsTurn (next_entry (get_or mids k d).file) t buf → IsGiven (get_or mids k d) s'
     → TellsNext st t buf olds (set mids k s')
 told_first st t buf olds mids k w d s' reads first turn given =
     let has = has_hand st mids k w d reads.sound reads.read first in

@@ -3,7 +3,7 @@ use Rattle.std.specs.Prelude.{◌≡◌, ℕ, ◌⊎◌, ⊤, List, [], ◌∷�
 use Rattle.std.specs.Prelude.{map, Bool, true, false}
 use Rattle.flow.specs.declared.flows.Flows.{Flows}
 use Rattle.media_file.specs.Records.{Entry}
-use Rattle.recording_engines.specs.Files.{IsAt, IsUnread}
+use Rattle.recording_engines.specs.Files.{IsFailedAt, IsUnread}
 use Rattle.recording_engines.specs.Steps.{Ahead, Coming, Over, Standing, Unknown}
 use Rattle.recording_engines.specs.declared.file.ImportFile.{ImportFile}
 use Rattle.recording_engines.specs.declared.file.ImportFile.TheVariants.{Closed, Open, Taken}
@@ -148,7 +148,7 @@ pub record HasRead {A S : Type 0} (steering : Steering) (old new : Side A S) : T
 -- It was read on, to a fault, at which it stays.
 pub record StopsSide {A S : Type 0} (f : ReadingFault) (old new : Side A S) : Type 0 where
   pub unread : new.going ≡ Unread
-  pub at : IsAt f new.file
+  pub at : IsFailedAt f new.file
   pub goes_on : HasReadOn (standing_of old) (standing_of new)
 
 -- Its datagram was given.

@@ -4,7 +4,7 @@ use Rattle.std.specs.Prelude.{Option, None, Some}
 use Rattle.std.specs.List.{AllByRecursion, AllZip, sum_by}
 use Rattle.std.specs.Option.{option_map}
 use Rattle.media_file.specs.Records.{Entry}
-use Rattle.recording_engines.specs.Files.{IsAt, failures_by, next_of}
+use Rattle.recording_engines.specs.Files.{IsFailedAt, failures_by, next_entry}
 use Rattle.recording_engines.specs.Steps.{Over, Standing, nothing}
 use Rattle.recording_engines.specs.declared.file.ImportFile.{ImportFile}
 use Rattle.recording_engines.specs.declared.file.ImportFile.TheVariants.{Closed, Open, Taken}
@@ -65,7 +65,7 @@ AllOver sides = AllByRecursion (λ s. (standing_of s).ahead ≡ Over None) sides
 -- one of the files came to this fault
 abbrev pub OneSideAt : {A S : Type 0} → ReadingFault → List (Side A S) → Type 0
 OneSideAt f [] = ⊥
-OneSideAt f (s ∷ ss) = IsAt f s.file ⊎ OneSideAt f ss
+OneSideAt f (s ∷ ss) = IsFailedAt f s.file ⊎ OneSideAt f ss
 
 -- nothing was read of a file behind what stands before its records, if it is opened
 abbrev pub IsFreshFile : {A S : Type 0} → ImportFile A S → Type 0
@@ -99,7 +99,7 @@ pub record GivesHand {A S : Type 0} (place : ℕ) (t : Turn) (buf : List ℕ)
     (olds news : List (Side A S)) : Type 0 where
   pub other : Side A S
   pub given : Side A S
-  pub told : TellsTurn (next_of (get_or olds place other).file) t buf
+  pub told : TellsTurn (next_entry (get_or olds place other).file) t buf
   pub is : IsGiven (get_or olds place other) given
   pub now : news ≡ set olds place given
 

@@ -2,7 +2,7 @@
 ghost use Rattle.std.specs.Prelude.{◌≡◌, ◌≤◌, ◌↔◌, ◌++◌, None, Some, IfErr, IfOk, OnErr, OnOk};
 ghost use Rattle.std.specs.Prelude.{MatchResult, [], length};
 ghost use Rattle.std.specs.List.{AllByRecursion};
-ghost use Rattle.recording_engines.specs.Files.{IsKnown, IsReadByFlows};
+ghost use Rattle.recording_engines.specs.Files.{HasKnownOctets, IsReadByFlows};
 ghost use Rattle.side_by_side.specs.Side.{AccountsFor};
 ghost use Rattle.side_by_side.specs.Sides.{AllOver, AllUnfailed, FailsBy, HasGivenAll, IsBegun};
 ghost use Rattle.side_by_side.specs.Sides.{IsDatagramOrEnd, IsSideBySide, IsStopped, StopsSides};
@@ -100,7 +100,7 @@ impl<A: Allocator, S: ByteSource> SideBySide<A, S> {
     #[doc(hidden)]
     #[inline(always)]
     pub fn history(&self)
-        ensures known { AllByRecursion (λ s. IsKnown S.gave S.ended s.file) self.now.sides }
+        ensures known { AllByRecursion (λ s. HasKnownOctets S.gave S.ended s.file) self.now.sides }
         ensures by_flows { AllByRecursion (λ s. IsReadByFlows s.file) self.now.sides }
         ensures all { AllOver self.now.sides → HasGivenAll S.gave S.ended self.now }
     {
@@ -157,7 +157,7 @@ impl<A: Allocator, S: ByteSource> SideBySide<A, S> {
 
 /// What is known of the octets of files.
 fn know_all<A: Allocator, S: ByteSource>(sides: &[Side<A, S>])
-    ensures known { AllByRecursion (λ s. IsKnown S.gave S.ended s.file) sides.now }
+    ensures known { AllByRecursion (λ s. HasKnownOctets S.gave S.ended s.file) sides.now }
     ensures by_flows { AllByRecursion (λ s. IsReadByFlows s.file) sides.now }
 {
     let Some((first, rest)) = sides.split_first() else {

@@ -1,6 +1,6 @@
 use Rattle.std.proofs.Common.{◌∙◌, ◌∷◌, [], List, ap, subst, sym}
 use Rattle.std.specs.List.{AllByRecursion}
-use Rattle.recording_engines.specs.Files.{IsKnown, IsReadByFlows}
+use Rattle.recording_engines.specs.Files.{HasKnownOctets, IsReadByFlows}
 use Rattle.path_receiver.specs.Took.{datagrams_since}
 use Rattle.run_outcome.proofs.Printed.{on_err, on_ok}
 use Rattle.run_outcome.proofs.Refusals.{if_err_map, of_refusal_map}
@@ -39,7 +39,7 @@ returns-clause-len g c =
 pub returns-clause-known : goal.returns-clause-known
 returns-clause-known g c =
     subst (λ (ss : List (Side _ _)).
-    AllByRecursion (λ s. IsKnown g.S.ByteSource.gave g.S.ByteSource.ended s.file) ss)
+    AllByRecursion (λ s. HasKnownOctets g.S.ByteSource.gave g.S.ByteSource.ended s.file) ss)
     (sym c.into_sides.ensures.sides) c.history.ensures.known
 
 pub returns-clause-by_flows : goal.returns-clause-by_flows
