@@ -187,7 +187,8 @@ longer_by flows (Failed f) w h octets es left known =
     (nothing, inr (f, known.0.0, refl, known.0.1))
 
 longer_file : {A S : Type 0} (gave : S → List ℕ) (ended : S → Type 0) (w : Going)
-    (f : ImportFile A S) (octets : List ℕ) → HasKnownOctets gave ended f → FileGave gave ended f octets
+    (f : ImportFile A S) (octets : List ℕ) → HasKnownOctets gave ended f
+    → FileGave gave ended f octets
     → (r : Strand) × IsLonger (whole (standing_by w f) r) (strand_of f octets)
 longer_file gave ended w (Closed s) octets known read = (nothing, inl refl)
 longer_file gave ended w (Open r) octets known read =

@@ -26,7 +26,7 @@ use Rattle.run_outcome.specs.declared.refusal.Refusal.TheVariants as refusal
 use Rattle.st_format.specs.History.{IsRead}
 use Rattle.side_by_side.specs.InOrder.{record_count}
 use Rattle.side_by_side.specs.Side.{Begun, begun_at}
-use Rattle.side_by_side.specs.Sides.{IsStopped, OneSideAt, begun_each}
+use Rattle.side_by_side.specs.Sides.{IsFaultOfFiles, OneSideAt, begun_each}
 use Rattle.side_by_side.specs.declared.side.Side.{Side}
 use Rattle.follow_engine.specs.Opened.{AreOpened, IsFirstText}
 use Rattle.follow_engine.specs.Order.{most_datagrams}
@@ -76,10 +76,10 @@ stops_by Memory reading sides count told at = tt
 -- a source stays at the fault of one
 pub stops_at : {A S : Type 0} (f : Fault) (at : Option ReadingFault) (reading : ReadingFault)
     (sides : List (Side A S)) (count : ℕ) → f ≡ fault_in at → at ≡ Some reading
-    → IsStopped at sides → OfRefusal f (StopsFollowing count sides)
+    → IsFaultOfFiles at sides → OfRefusal f (StopsFollowing count sides)
 stops_at f at reading sides count told stays stopped =
     stops_by f reading sides count (told ∙ ap fault_in stays)
-    (subst (λ (x : Option ReadingFault). IsStopped x sides) stays stopped)
+    (subst (λ (x : Option ReadingFault). IsFaultOfFiles x sides) stays stopped)
 
 fault_reader : {S : Type 0} (gave : S → List ℕ) (ended : S → Type 0) (b : Begun)
     (octets : List ℕ) (r : FileReader S) (f : ReadingFault) (why : Refusal)
@@ -100,7 +100,8 @@ fault_reader gave ended b octets r f why begun known at told read =
 
 fault_file : {A S : Type 0} (gave : S → List ℕ) (ended : S → Type 0) (b : Begun)
     (octets : List ℕ) (file : ImportFile A S) (f : ReadingFault) (why : Refusal)
-    → begun_at file ≡ Some b → HasKnownOctets gave ended file → IsFailedAt f file → reading_fault f ≡ Refused why
+    → begun_at file ≡ Some b → HasKnownOctets gave ended file → IsFailedAt f file
+    → reading_fault f ≡ Refused why
     → IsRead b.before (gave_by gave file) (ended_by ended file) octets → IsFileFault f octets
 fault_file gave ended b octets (Closed s) f why begun known at told read = absurd at
 fault_file gave ended b octets (Open r) f why begun known at told read =

@@ -157,7 +157,8 @@ text_by_text b c is = let same : b ≡ c = cc in ap (λ (x : Begun). x.text) sam
 pub first_said : {A S : Type 0} (gave : S → List ℕ) (ended : S → Type 0)
     (ways : List (Result Flows Refusal)) (text o : List ℕ) (x m n : Side A S)
     (xs ms ns : List (Side A S)) → AreOpened gave ended ways (x ∷ xs) (m ∷ ms)
-    → begun_at n.file ≡ begun_at m.file → IsFirstText text (m ∷ ms) → HasKnownOctets gave ended n.file
+    → begun_at n.file ≡ begun_at m.file → IsFirstText text (m ∷ ms)
+    → HasKnownOctets gave ended n.file
     → SideRead gave ended (x, n) o → text_of_file o ≡ text
 first_said gave ended ways text o x m n xs ms ns opened same first known read =
     let b : Begun = begun_by (flows_in (first_way ways)) (gave_by gave x.file) opened.0.text in

@@ -6,7 +6,7 @@ ghost use Rattle.capture_engines.specs.Received.{StopsFile};
 ghost use Rattle.follow_engine.specs.Opened.{AllClosedSides, AreOpened, IsFirstText, OpensRun};
 ghost use Rattle.follow_engine.specs.Opened.{StopsOne};
 ghost use Rattle.follow_engine.specs.Refused.{IsWordRefusal};
-ghost use Rattle.follow_engine.specs.Running.{IsRun, running_of};
+ghost use Rattle.follow_engine.specs.Running.{IsSoundRun, running_of};
 ghost use Rattle.path_receiver.specs.Opening.{IsWindowSize};
 ghost use Rattle.recording_engines.specs.Files.{HasKnownOctets, IsClosed, ended_by, failures_by};
 ghost use Rattle.recording_engines.specs.Files.{gave_by};
@@ -84,7 +84,7 @@ pub(crate) fn open_run<A: Allocator + Copy>(
     said: &[u8],
 ) -> Result<Run<A>, Fault>
     requires { IsWindowSize frames }
-    ensures run { IfOk result (λ r. IsRun r) }
+    ensures run { IfOk result (λ r. IsSoundRun r) }
     ensures eager { IfOk result (λ r. r.is_eager ≡ is_eager) }
     ensures opened { IfOk result (λ r. OpensRun frames ssrc said.now (running_of r)) }
     ensures refusal { IfErr result (λ f. OfRefusal f (IsDescriptionRefusal said.now)) }

@@ -22,15 +22,12 @@ use Rattle.st_format.specs.declared.path.Path.TheVariants.{A, B}
 use Rattle.st_format.specs.Device.{capped}
 use Rattle.recording_reader.specs.declared.fault.ReadingFault.{ReadingFault}
 use Rattle.recording_engines.specs.Files.{AllOpened, AllReady, AreLeftOut, HasKnownOctets}
-use Rattle.recording_engines.specs.Files.{IsFailedAt}
-use Rattle.recording_engines.specs.Files.{IsReadByFlows, IsReady, begun_of, ended_by, gave_by}
-use Rattle.recording_engines.specs.Files.{next_entry, standing_of, standings}
+use Rattle.recording_engines.specs.Files.{IsFailedAt, IsReadByFlows, IsReady, begun_of, ended_by}
+use Rattle.recording_engines.specs.Files.{gave_by, next_entry, standing_of, standings}
 use Rattle.recording_engines.specs.Imported.{AreOver, AsksFlows, Imports, IsJoinRefusal}
 use Rattle.recording_engines.specs.Joining.{ComesLater, ComesNoFault, ComesNoSooner, GoFurther}
 use Rattle.recording_engines.specs.Joining.{IsAtNoFault, IsJoinedNext, JoinsByMoment, JoinsTo}
-use Rattle.recording_engines.specs.Joining.{OneAt}
-use Rattle.recording_engines.specs.Joining.{OneHasMore}
-use Rattle.recording_engines.specs.Joining.{Strand}
+use Rattle.recording_engines.specs.Joining.{OneAt, OneHasMore, Strand}
 use Rattle.recording_engines.specs.Opened.{BeginsUnrefused}
 use Rattle.recording_engines.specs.Progress.{HasWrittenAll, OneComes}
 use Rattle.recording_engines.specs.Progress.{OneFileAt, StopsJoining, count_of_path}
@@ -254,7 +251,8 @@ comes_no_sooner moment [] (Some f) is = absurd is
 comes_no_sooner moment (e ∷ es) f is = tt
 
 all_no_sooner : (moment : ℕ) (ss : List Strand)
-    → AllByRecursion (λ t. ComesNoSooner moment t.entries t.fault) ss → AllByRecursion IsAtNoFault ss
+    → AllByRecursion (λ t. ComesNoSooner moment t.entries t.fault) ss
+    → AllByRecursion IsAtNoFault ss
 all_no_sooner moment [] is = tt
 all_no_sooner moment (s ∷ ss) is =
     (comes_no_sooner moment s.entries s.fault is.0, all_no_sooner moment ss is.1)
@@ -404,6 +402,7 @@ imports gave ended a b Said olds news each flows text took took' shown shown' r 
           printed ∙ ap (λ (l : Line). shown ++ (line_text l ++ 10 ∷ []))
           (ap (λ (k : ℕ). line.Recorded k r.b n) has.a
           ∙ ap (λ (k : ℕ). line.Recorded (count_of_path A has.entries) k n) has.b
-          ∙ ap (λ (k : ℕ). line.Recorded (count_of_path A has.entries) (count_of_path B has.entries) k)
+          ∙ ap (λ (k : ℕ). line.Recorded (count_of_path A has.entries)
+          (count_of_path B has.entries) k)
           count);
     }

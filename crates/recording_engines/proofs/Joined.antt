@@ -4,13 +4,11 @@ use Rattle.std.proofs.Common.{Some, refl, sym, ap, subst, ◌∙◌, append_asso
 use Rattle.std.specs.List.{AllByRecursion}
 use Rattle.media_file.specs.Records.{Entry}
 use Rattle.recording_reader.specs.declared.fault.ReadingFault.{ReadingFault}
-use Rattle.recording_engines.specs.Joining.{ComesLater, ComesNoSooner, IsJoinedNext, JoinsByMoment}
-use Rattle.recording_engines.specs.Joining.{IsOver}
-use Rattle.recording_engines.specs.Joining.{Strand}
-use Rattle.recording_engines.specs.Steps.{AllFresh, HasJoined, IsLater, IsNoSooner, ReadsMore}
-use Rattle.recording_engines.specs.Steps.{TakesEarliest}
+use Rattle.recording_engines.specs.Joining.{ComesLater, ComesNoSooner, IsJoinedNext, IsOver}
+use Rattle.recording_engines.specs.Joining.{JoinsByMoment, Strand}
+use Rattle.recording_engines.specs.Steps.{Ahead, AllFresh, Coming, HasJoined, IsLater, IsNoSooner}
+use Rattle.recording_engines.specs.Steps.{Over, ReadsMore, Standing, TakesEarliest, Unknown}
 use Rattle.recording_engines.specs.Steps.{left_by, left_of, lefts, nothing, whole, whole_by, wholes}
-use Rattle.recording_engines.specs.Steps.{Ahead, Coming, Over, Standing, Unknown}
 
 abbrev strand : List Entry → Option ReadingFault → Strand
 strand es f = record { entries = es; fault = f }
@@ -125,7 +123,8 @@ came (s ∷ ss) (s' ∷ ss') e (r ∷ rs) (inr takes) =
     record { rs = r ∷ rest.rs; same = is.0; next = is.1 }
 
 joins_more : (strands left left' : List Strand) (es : List Entry) (e : Entry)
-    → JoinsByMoment strands es left → IsJoinedNext left e left' → JoinsByMoment strands (es ++ e ∷ []) left'
+    → JoinsByMoment strands es left → IsJoinedNext left e left'
+    → JoinsByMoment strands (es ++ e ∷ []) left'
 joins_more strands left left' [] e joins next =
     (left', subst (λ (l : List Strand). IsJoinedNext l e left') joins next, refl)
 joins_more strands left left' (x ∷ xs) e joins next =

@@ -18,10 +18,9 @@ use Rattle.run_outcome.specs.declared.refusal.Refusal.{Refusal}
 use Rattle.run_outcome.specs.LowerFaults.{reading_fault}
 use Rattle.st_format.specs.History.{IsRead}
 use Rattle.recording_engines.specs.Files.{AllOpened, AreLeftOut, HasAhead, HasKnownOctets}
-use Rattle.recording_engines.specs.Files.{IsFailedAt}
-use Rattle.recording_engines.specs.Files.{IsReady}
-use Rattle.recording_engines.specs.Files.{ahead_by, begun_of, ended_by, gave_by, left_out_by}
-use Rattle.recording_engines.specs.Files.{IsReadByFlows, next_entry, standing_of, standings}
+use Rattle.recording_engines.specs.Files.{IsFailedAt, IsReadByFlows, IsReady, ahead_by, begun_of}
+use Rattle.recording_engines.specs.Files.{ended_by, gave_by, left_out_by, next_entry, standing_of}
+use Rattle.recording_engines.specs.Files.{standings}
 use Rattle.recording_engines.specs.Joining.{Strand}
 use Rattle.recording_engines.specs.Progress.{OneFileAt}
 use Rattle.recording_engines.specs.Steps.{AllLay, Lays, Standing, nothing, whole_by}
@@ -87,7 +86,8 @@ file_at f r (Open x) told is = told_at f r x.standing x.at_hand told is
 file_at f r Taken told is = absurd is
 
 pub lays_file : {A S : Type 0} (gave : S → List ℕ) (ended : S → Type 0) (flows : Option Flows)
-    (before : List ℕ) (f : ImportFile A S) → begun_of f ≡ (flows, before) → HasKnownOctets gave ended f
+    (before : List ℕ) (f : ImportFile A S) → begun_of f ≡ (flows, before)
+    → HasKnownOctets gave ended f
     → IsToldFile f → Lays before (gave_by gave f) (ended_by ended f) flows (standing_of f)
 lays_file gave ended flows before (Closed s) begun known told = absurd told
 lays_file gave ended flows before (Open r) begun known told =

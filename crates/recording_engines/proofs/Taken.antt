@@ -11,8 +11,7 @@ use Rattle.recording_engines.specs.Files.{AllReady, HasAhead, IsFailedAt, IsRead
 use Rattle.recording_engines.specs.Files.{NextIsLater, NextIsNoSooner, ahead_by, next_entry}
 use Rattle.recording_engines.specs.Files.{standing_of, standings}
 use Rattle.recording_engines.specs.Progress.{OneFileAt}
-use Rattle.recording_engines.specs.Steps.{Coming, IsLater, IsNoSooner, ReadsMore}
-use Rattle.recording_engines.specs.Steps.{TakesEarliest}
+use Rattle.recording_engines.specs.Steps.{Coming, IsLater, IsNoSooner, ReadsMore, TakesEarliest}
 use Rattle.recording_engines.specs.declared.file.ImportFile.{ImportFile}
 use Rattle.recording_engines.specs.declared.file.ImportFile.TheVariants.{Closed, Open, Taken}
 
@@ -140,7 +139,8 @@ ready_set zero (f ∷ fs) f' ready is = (is, ready.1)
 ready_set (suc k) (f ∷ fs) f' ready is = (ready.0, ready_set k fs f' ready.1 is)
 
 pub at_set : {A S : Type 0} (f : ReadingFault) (k : ℕ) (fs : List (ImportFile A S))
-    (f' : ImportFile A S) → k < length fs → AllReady fs → IsFailedAt f f' → OneFileAt f (set fs k f')
+    (f' : ImportFile A S) → k < length fs → AllReady fs → IsFailedAt f f'
+    → OneFileAt f (set fs k f')
 at_set f k [] f' lt ready is = absurd (omega (arith, lt))
 at_set f zero (x ∷ xs) f' lt ready is = inl (is, ready.1)
 at_set f (suc k) (x ∷ xs) f' lt ready is =

@@ -35,7 +35,8 @@ writes_none old w = record {
 }
 
 pub writes_more : (es fs : List Entry) (old now new : List ℕ) (w w' w'' : Written)
-    → WritesRecords es old now w w' → WritesRecords fs now new w' w'' → WritesRecords (es ++ fs) old new w w''
+    → WritesRecords es old now w w' → WritesRecords fs now new w' w''
+    → WritesRecords (es ++ fs) old new w w''
 writes_more es fs old now new w w' w'' first more = record {
   text =
       more.text ∙ ap (λ (l : List ℕ). l ++ records_text fs) first.text
@@ -45,7 +46,8 @@ writes_more es fs old now new w w' w'' first more = record {
   b = omega (arith, first.b, more.b, counts B);
 }
   where
-    counts : (path : Path) → count_of_path path (es ++ fs) ≡ count_of_path path es + count_of_path path fs
+    counts : (path : Path)
+        → count_of_path path (es ++ fs) ≡ count_of_path path es + count_of_path path fs
     counts path = sum_by-append _ es fs
 
 -- ---- one record
@@ -99,7 +101,8 @@ written_none fs old w fresh = record {
 }
 
 pub written_more : {X S : Type 0} (fs fs' : List (ImportFile X S)) (old now new : List ℕ)
-    (w w' w'' : Written) (n : ℕ) → HasWritten fs old now w w' n → WritesEarliest fs fs' now new w' w''
+    (w w' w'' : Written) (n : ℕ) → HasWritten fs old now w w' n
+    → WritesEarliest fs fs' now new w' w''
     → HasWritten fs' old new w w'' (n + 1)
 written_more fs fs' old now new w w' w'' n had one = record {
   entries = had.entries ++ one.entry ∷ [];

@@ -117,7 +117,8 @@ IsPlacesRefusal flows count r = (r ≡ refusal.ImportPlaces) × IsOnePlace flows
 pub record StopsImport {S : Type 0} (Ends : List Strand → Type 0) (Number : ℕ → Type 0)
     (told : S → List ℕ → Type 0) (each : List (Option Flows)) (text : List ℕ) (files : List S)
     (took took' : List ℕ) : Type 0 where
-  pub begun : (octets : List (List ℕ)) → AllZip told files octets → AllZip BeginsUnrefused each octets
+  pub begun : (octets : List (List ℕ)) → AllZip told files octets
+      → AllZip BeginsUnrefused each octets
   pub entries : List Entry
   pub joined : (octets : List (List ℕ)) → AllZip told files octets
       → JoinsTo Ends (strands_in each octets) entries

@@ -36,7 +36,8 @@ pub record WritesRecords (entries : List Entry) (old new : List ℕ) (w w' : Wri
 -- the record that comes next of a file was written
 abbrev pub WritesNext : {X S : Type 0} → ImportFile X S → List ℕ → List ℕ → Written → Written
     → Type 0
-WritesNext f old new w w' = (e : Entry) → next_entry f ≡ Some e → WritesRecords (e ∷ []) old new w w'
+WritesNext f old new w w' =
+    (e : Entry) → next_entry f ≡ Some e → WritesRecords (e ∷ []) old new w w'
 
 -- ---- one record
 

@@ -132,8 +132,8 @@ fn join_all<A: Allocator, S: ByteSource, K: ByteSink>(
     ensures begun { map begun_of files.new ≡ map begun_of files.old }
     ensures known { AllByRecursion (HasKnownOctets S.gave S.ended) files.new }
     ensures by_flows { AllByRecursion IsReadByFlows files.new }
-    ensures joined { IfOk result (λ r. HasWrittenAll files.new (K.took capture.old) (K.took capture.new)
-        (record { a = r.a; b = r.b })) }
+    ensures joined { IfOk result (λ r. HasWrittenAll files.new (K.took capture.old)
+        (K.took capture.new) (record { a = r.a; b = r.b })) }
     ensures left { IfOk result (λ r. (omissions : List Reason) → AreLeftOut files.new omissions
         → r.left_out ≡ left_out_of omissions) }
     ensures stopped { IfErr result (λ f. OfRefusal f (λ r. StopsJoining r files.new

@@ -6,8 +6,7 @@ ghost use Rattle.run_outcome.specs.Refusing.{OfRefusal};
 ghost use Rattle.recording_engines.specs.Files.{AllReady, IsLed, begun_of, failures_by};
 ghost use Rattle.recording_engines.specs.Files.{standings};
 ghost use Rattle.recording_engines.specs.Progress.{CountsPath, HasWrittenAll, StopsBy};
-ghost use Rattle.recording_engines.specs.Progress.{StopsJoining};
-ghost use Rattle.recording_engines.specs.Progress.{WritesEarliest, WritesNext};
+ghost use Rattle.recording_engines.specs.Progress.{StopsJoining, WritesEarliest, WritesNext};
 ghost use Rattle.recording_engines.specs.Steps.{AllFresh};
 
 use crate::file::ImportFile;
@@ -102,8 +101,8 @@ pub(crate) fn join<A: Allocator, S: ByteSource, K: ByteSink>(
     requires fresh { AllFresh (standings files.old) }
     ensures files { length files.new ≡ length files.old }
     ensures begun { map begun_of files.new ≡ map begun_of files.old }
-    ensures joined { IfOk result (λ w. HasWrittenAll files.new (K.took capture.old) (K.took capture.new)
-        w) }
+    ensures joined { IfOk result (λ w. HasWrittenAll files.new (K.took capture.old)
+        (K.took capture.new) w) }
     ensures stopped { IfErr result (λ f. OfRefusal f (λ r. StopsJoining r files.new
         (K.took capture.old) (K.took capture.new))) }
     ensures failures { Accounts result (counts (sum_by (failures_by S.failures) files.old)

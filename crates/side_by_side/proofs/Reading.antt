@@ -21,9 +21,8 @@ use Rattle.recording_reader.specs.declared.fault.ReadingFault.{ReadingFault}
 use Rattle.recording_reader.specs.declared.way.Standing.{Standing as Stand}
 use Rattle.recording_reader.specs.declared.way.Standing.TheVariants.{Reads, Ended, Failed}
 use Rattle.side_by_side.specs.Going.{IsReadBy, going_by}
-use Rattle.side_by_side.specs.Side.{Begun, HasRead, IsAtHand, IsNewSide, IsSoundBy, IsSoundFile}
-use Rattle.side_by_side.specs.Side.{IsSoundSide}
-use Rattle.side_by_side.specs.Side.{IsUnfailed, IsUnfailedFile, ReadsFile, ReadsReader}
+use Rattle.side_by_side.specs.Side.{Begun, IsAtHand, IsNewSide, IsSoundBy, IsSoundFile, IsSoundSide}
+use Rattle.side_by_side.specs.Side.{IsUnfailed, IsUnfailedFile, ReadsFile, ReadsReader, ReadsSide}
 use Rattle.side_by_side.specs.Side.{StopsFile, StopsReader, StopsSide, ahead_by, ahead_of_hand}
 use Rattle.side_by_side.specs.Side.{going_found, goings, reader_standing, standing_by, standing_of}
 use Rattle.side_by_side.specs.Sides.{AllRead, AllSound, AllUnfailed, OneSideAt, standings}
@@ -305,7 +304,7 @@ file_read st w Taken new reads =
     (record { sound = inr refl; read = tt; goes_on = inl refl }))
 
 pub has_read : {A S : Type 0} (st : Steering) (old new : Side A S) → old.going ≡ Unread
-    → ReadsFile st new.going old.file new.file → HasRead st old new
+    → ReadsFile st new.going old.file new.file → ReadsSide st old new
 has_read st old new was reads =
     let so = file_read st new.going old.file new.file reads in
     record {
@@ -353,7 +352,7 @@ new_side flows gave text r count new before at is = record {
 
 -- one of which what comes next is read stays
 pub read_stays : {A S : Type 0} (st : Steering) (s : Side A S) → IsSoundSide st s
-    → IsReadBy s.going → HasRead st s s
+    → IsReadBy s.going → ReadsSide st s s
 read_stays st s sound read = record { sound = sound; read = read; goes_on = inl refl }
 
 -- ---- all of them

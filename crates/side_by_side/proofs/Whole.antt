@@ -75,7 +75,8 @@ over_standings [] over = tt
 over_standings (s ∷ ss) over = (over.0, over_standings ss over.1)
 
 pub given_all : {A S : Type 0} (gave : S → List ℕ) (ended : S → Type 0) (s : Sides A S)
-    → IsSideBySide s → AllByRecursion (λ x. HasKnownOctets gave ended x.file) s.sides → AllOver s.sides
+    → IsSideBySide s → AllByRecursion (λ x. HasKnownOctets gave ended x.file) s.sides
+    → AllOver s.sides
     → HasGivenAll gave ended s
 given_all gave ended s is known over = record {
   entries = is.entries;

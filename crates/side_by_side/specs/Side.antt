@@ -140,7 +140,7 @@ StopsFile f (Open r) Taken = ⊥
 StopsFile f Taken new = ⊥
 
 -- It was read on, to its next datagram or to its end.
-pub record HasRead {A S : Type 0} (steering : Steering) (old new : Side A S) : Type 0 where
+pub record ReadsSide {A S : Type 0} (steering : Steering) (old new : Side A S) : Type 0 where
   pub sound : IsSoundSide steering new
   pub read : IsReadBy new.going
   pub goes_on : HasReadOn (standing_of old) (standing_of new)
@@ -152,7 +152,7 @@ pub record StopsSide {A S : Type 0} (f : ReadingFault) (old new : Side A S) : Ty
   pub goes_on : HasReadOn (standing_of old) (standing_of new)
 
 -- Its datagram was given.
-pub record IsGiven {A S : Type 0} (old new : Side A S) : Type 0 where
+pub record GivesDatagram {A S : Type 0} (old new : Side A S) : Type 0 where
   pub file : new.file ≡ old.file
   pub unread : new.going ≡ Unread
 

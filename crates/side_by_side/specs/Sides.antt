@@ -24,7 +24,8 @@ use Rattle.st_format.specs.declared.device.Turn.TheVariants.{Datagram, Quiet, En
 use Rattle.st_format.specs.declared.path.Path.{Path}
 use Rattle.side_by_side.specs.Going.{IsReadBy}
 use Rattle.side_by_side.specs.InOrder.{gone_of}
-use Rattle.side_by_side.specs.Side.{Begun, IsGiven, IsSoundSide, IsUnfailed, begun_at, standing_of}
+use Rattle.side_by_side.specs.Side.{Begun, GivesDatagram, IsSoundSide, IsUnfailed, begun_at}
+use Rattle.side_by_side.specs.Side.{standing_of}
 use Rattle.side_by_side.specs.Steps.{HasGone, HaveReadOn}
 use Rattle.side_by_side.specs.Strands.{GoesWhole}
 use Rattle.side_by_side.specs.declared.going.Going.TheVariants.{Unread}
@@ -74,8 +75,8 @@ IsFreshFile (Open r) = (r.standing ≡ Reads) × (r.records ≡ [])
 IsFreshFile Taken = ⊤
 
 -- a file of which no datagram was read yet
-abbrev pub IsBegun : {A S : Type 0} → Side A S → Type 0
-IsBegun s = (s.going ≡ Unread) × IsFreshFile s.file
+abbrev pub IsUnreadSide : {A S : Type 0} → Side A S → Type 0
+IsUnreadSide s = (s.going ≡ Unread) × IsFreshFile s.file
 
 -- ---- what calls do
 
@@ -100,7 +101,7 @@ pub record GivesHand {A S : Type 0} (place : ℕ) (t : Turn) (buf : List ℕ)
   pub other : Side A S
   pub given : Side A S
   pub told : TellsTurn (next_entry (get_or olds place other).file) t buf
-  pub is : IsGiven (get_or olds place other) given
+  pub is : GivesDatagram (get_or olds place other) given
   pub now : news ≡ set olds place given
 
 -- The datagram of the one that goes first was told, whose octets stand at the front of a buffer.
@@ -151,9 +152,9 @@ abbrev pub last_fault_of : Option ReadingFault → Option SourceFault
 last_fault_of fault = option_map source_fault fault
 
 -- where it came to a fault, one of the files is at it
-abbrev pub IsStopped : {A S : Type 0} → Option ReadingFault → List (Side A S) → Type 0
-IsStopped None sides = ⊤
-IsStopped (Some f) sides = OneSideAt f sides
+abbrev pub IsFaultOfFiles : {A S : Type 0} → Option ReadingFault → List (Side A S) → Type 0
+IsFaultOfFiles None sides = ⊤
+IsFaultOfFiles (Some f) sides = OneSideAt f sides
 
 -- What is so of each: the datagrams that it gave are those of the files' records, each file's in
 -- its order, always that of the file that goes first.
@@ -162,7 +163,7 @@ pub record IsSideBySide {A S : Type 0} (s : Sides A S) : Type 0 where
   pub entries : List Entry
   pub gone : HasGone s.steering (standings s.sides) entries
   pub came_is : s.came ≡ datagrams_of entries
-  pub stopped : IsStopped s.fault s.sides
+  pub stopped : IsFaultOfFiles s.fault s.sides
 
 -- a turn tells a datagram, or the end
 abbrev pub IsDatagramOrEnd : Turn → Type 0
@@ -190,7 +191,7 @@ pub record StopsSides {A S : Type 0} (f : ReadingFault) (old new : Sides A S) : 
 
 -- What a source of datagrams says of a call that failed: by which fault, at which it stays; and
 -- where no file was at a fault before, whether a device failed.
-pub record FailsBy {A S : Type 0} (failures : S → ℕ) (e : SourceFault) (old new : Sides A S)
+pub record FailsByReading {A S : Type 0} (failures : S → ℕ) (e : SourceFault) (old new : Sides A S)
     : Type 0 where
   pub reading : ReadingFault
   pub told : e ≡ source_fault reading

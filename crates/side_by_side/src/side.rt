@@ -3,13 +3,12 @@ ghost use Rattle.std.specs.Prelude.{◌≡◌, ◌≤◌, ◌<◌, None, Some, I
 ghost use Rattle.std.specs.Prelude.{OnOk};
 ghost use Rattle.std.specs.Prelude.{IfSome, length, take};
 ghost use Rattle.recording_engines.specs.Files.{HasKnownOctets, IsClosed, ended_by, failures_by};
-ghost use Rattle.recording_engines.specs.Files.{gave_by};
-ghost use Rattle.recording_engines.specs.Files.{is_recording_file, next_entry, source_of};
+ghost use Rattle.recording_engines.specs.Files.{gave_by, is_recording_file, next_entry, source_of};
 ghost use Rattle.recording_reader.specs.FileReader.{IsSameFile, TellsTurn, fault_of, record_seen};
 ghost use Rattle.recording_reader.specs.Opening.{CountsOpening, IsByFlows, StopsOpening};
-ghost use Rattle.side_by_side.specs.Side.{AccountsFor, HasRead, IsGiven, IsNewSide, IsSoundSide};
+ghost use Rattle.side_by_side.specs.Side.{AccountsFor, GivesDatagram, IsNewSide, IsSoundSide};
 ghost use Rattle.side_by_side.specs.Side.{IsUnfailed, IsUnfailedFile, ReadsFile, ReadsReader};
-ghost use Rattle.side_by_side.specs.Side.{StopsFile, StopsReader, StopsSide, begun_at};
+ghost use Rattle.side_by_side.specs.Side.{ReadsSide, StopsFile, StopsReader, StopsSide, begun_at};
 ghost use Rattle.side_by_side.specs.Side.{closed_side, going_found};
 
 use crate::going::Going;
@@ -66,7 +65,7 @@ impl<A: Allocator, S: ByteSource> Side<A, S> {
     pub(crate) fn read_on(&mut self, steering: Steering) -> Result<(), ReadingFault>
         requires { IsSoundSide steering self.old }
         ensures begun { begun_at self.new.file ≡ begun_at self.old.file }
-        ensures read { OnOk result (HasRead steering self.old self.new) }
+        ensures read { OnOk result (ReadsSide steering self.old self.new) }
         ensures fault { IfErr result (λ f. StopsSide f self.old self.new) }
         ensures device { IsUnfailed self.old → AccountsFor result
             (failures_by S.failures self.old.file) (failures_by S.failures self.new.file) }
@@ -81,7 +80,7 @@ impl<A: Allocator, S: ByteSource> Side<A, S> {
     fn read_unread(&mut self, steering: Steering) -> Result<(), ReadingFault>
         requires unread { self.old.going ≡ Going.Unread }
         ensures begun { begun_at self.new.file ≡ begun_at self.old.file }
-        ensures read { OnOk result (HasRead steering self.old self.new) }
+        ensures read { OnOk result (ReadsSide steering self.old self.new) }
         ensures fault { IfErr result (λ f. StopsSide f self.old self.new) }
         ensures device { IsUnfailed self.old → AccountsFor result
             (failures_by S.failures self.old.file) (failures_by S.failures self.new.file) }
@@ -127,7 +126,7 @@ impl<A: Allocator, S: ByteSource> Side<A, S> {
         requires { 65535 ≤ length buf.old }
         ensures room { length buf.new ≡ length buf.old }
         ensures told { TellsTurn (next_entry self.old.file) result buf.new }
-        ensures given { IsGiven self.old self.new }
+        ensures given { GivesDatagram self.old self.new }
     {
         let turn = self.tell(buf);
         self.going = Going::Unread;

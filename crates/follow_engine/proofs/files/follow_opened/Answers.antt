@@ -8,7 +8,7 @@ use Rattle.run_outcome.specs.Fault.{Accounts, counts}
 use Rattle.side_by_side.specs.Sides.{Sides, begun_each, failures_each}
 use Rattle.side_by_side.specs.declared.side.Side.{Side}
 use Rattle.follow_engine.specs.Events.{Event, events_in}
-use Rattle.follow_engine.specs.Running.{TellsSome, Told, running_of}
+use Rattle.follow_engine.specs.Running.{TellsEvents, TellsSome, running_of}
 use Rattle.follow_engine.specs.Sides.{FollowsEntries, FollowsSides, FollowsUpTo}
 use Rattle.follow_engine.proofs.Counted.{stops_read}
 use Rattle.follow_engine.proofs.Cut.{refused_map}
@@ -105,7 +105,8 @@ returns-clause-before g c =
     let from = c.new-source.result in
     let to = c.follow_sides-followed.new.source in
     let Tells : List Event → Type 0 =
-    Told takes c.args.pictures.now c.follow_sides-followed.new.pictures (took c.args.output.now)
+    TellsEvents takes c.args.pictures.now c.follow_sides-followed.new.pictures
+    (took c.args.output.now)
     (took c.follow_sides-followed.new.output) in
     if_err_map c.follow_sides-followed.result
     (λ f. refused_map (Tells (events_in was.is_eager (running_of was)
