@@ -22,7 +22,7 @@ use Rattle.follow_engine.specs.Events.{events_in, frame_of_event, frames_of_even
 use Rattle.follow_engine.specs.Events.{late_left, late_with, leaving, noted_by, time_or_zero}
 use Rattle.follow_engine.specs.Events.{turn_left, turn_taken}
 use Rattle.follow_engine.specs.Line.{ended_line}
-use Rattle.follow_engine.specs.Running.{TellsEvents, TellsSome, TellsTurn}
+use Rattle.follow_engine.specs.Running.{TellsDatagram, TellsEvents, TellsSome}
 use Rattle.follow_engine.specs.Shown.{GrowsSome, IsCutAt, TakesEachFrame, TakesSome}
 use Rattle.follow_engine.specs.Telling.{event_text, events_text}
 use Rattle.follow_engine.specs.declared.line.FollowLine.TheVariants as line
@@ -231,7 +231,7 @@ module _ {K : Type 0} (takes fails : K → Handed → K → Type 0) where
   -- behind it the stream is followed anew, of which some first was told
   pub anew_stops : (eager : Bool) (r r' : Running) (octets : List ℕ) (ts : ℕ) (old mid new : K)
       (took took' took'' : List ℕ) → is_anew r octets ≡ true → datagram_time octets ≡ Some ts
-      → TellsTurn takes eager r r' octets old mid took took'
+      → TellsDatagram takes eager r r' octets old mid took took'
       → TellsSome takes fails mid new took' took''
       (leaving r'.late (frames_in r'.follower) ++ Anew ts ∷ [])
       → TellsSome takes fails old new took took'' (events_at eager r octets)

@@ -23,7 +23,7 @@ use Rattle.follow_engine.specs.Events.{behind, behind_all, events_at, events_in,
 use Rattle.follow_engine.specs.Events.{datagram_time, late_with, leaving, noted_by, time_or_zero}
 use Rattle.follow_engine.specs.Events.{turn_left, turn_taken, without}
 use Rattle.follow_engine.specs.Running.{FollowsDatagram, IsSoundRun, LeavesWith, TellsEvents}
-use Rattle.follow_engine.specs.Running.{TellsTurn, steering_of}
+use Rattle.follow_engine.specs.Running.{TellsDatagram, steering_of}
 use Rattle.follow_engine.specs.declared.running.Run.{Run}
 use Rattle.follow_engine.proofs.Parts.{behind_more, events_more}
 use Rattle.follow_engine.proofs.Tells.{told_both, told_none}
@@ -150,7 +150,7 @@ pub turn_told : {K : Type 0} (takes : K → Handed → K → Type 0) (eager : Bo
     → answer ≡ answer_in r.follower octets → hs ≡ handed_in eager r.follower octets
     → n ≡ noted_by bound (record r { follower = t }) (datagram_time octets) answer
     → LeavesWith takes n r' hs old new took took'
-    → TellsTurn takes eager r r' octets old new took took'
+    → TellsDatagram takes eager r r' octets old new took took'
 turn_told takes eager r n r' octets bound answer t hs old new took took' at is answered_so handed noted
     left =
     let time : Option ℕ = datagram_time octets in
@@ -217,7 +217,7 @@ run_oldest was run is gone follower format bound steering =
 -- behind which the stream isn't followed anew
 pub turn_plain : {K : Type 0} (takes : K → Handed → K → Type 0) (eager : Bool)
     (r r' : Running) (octets : List ℕ) (old new : K) (took took' : List ℕ)
-    → is_anew r octets ≡ false → TellsTurn takes eager r r' octets old new took took'
+    → is_anew r octets ≡ false → TellsDatagram takes eager r r' octets old new took took'
     → FollowsDatagram takes eager r r' octets old new took took'
 unfolding behind events_at
 turn_plain takes eager r r' octets old new took took' is turn =
@@ -236,7 +236,7 @@ turn_plain takes eager r r' octets old new took took' is turn =
 pub turn_anew : {K : Type 0} (takes : K → Handed → K → Type 0) (eager : Bool)
     (r r' r'' : Running) (octets : List ℕ) (ts : ℕ) (old mid new : K)
     (took took' took'' : List ℕ) → is_anew r octets ≡ true → datagram_time octets ≡ Some ts
-    → TellsTurn takes eager r r' octets old mid took took' → r'' ≡ anew r'
+    → TellsDatagram takes eager r r' octets old mid took took' → r'' ≡ anew r'
     → TellsEvents takes mid new took' took''
     (leaving r'.late (frames_in r'.follower) ++ Anew ts ∷ [])
     → FollowsDatagram takes eager r r'' octets old new took took''

@@ -73,7 +73,7 @@ pub record BeginsAnew {A K : Type 0} (takes : K → Handed → K → Type 0) (ti
       ++ Anew timestamp ∷ [])
 
 -- A datagram was taken in its turn, and the frame that left was told.
-pub record TellsTurn {K : Type 0} (takes : K → Handed → K → Type 0) (eager : Bool)
+pub record TellsDatagram {K : Type 0} (takes : K → Handed → K → Type 0) (eager : Bool)
     (r r' : Running) (octets : List ℕ) (old new : K) (took took' : List ℕ) : Type 0 where
   pub running : r' ≡ turn_taken eager r octets
   pub told : TellsEvents takes old new took took' (turn_left eager r octets)

@@ -5,7 +5,7 @@ ghost use Rattle.follow_engine.specs.Events.{Anew, IsAnewAt, anew_with, datagram
 ghost use Rattle.follow_engine.specs.Events.{is_anew, late_with, leaving, noted_by, running_from};
 ghost use Rattle.follow_engine.specs.Events.{timed, turn_left};
 ghost use Rattle.follow_engine.specs.Running.{BeginsAnew, Finishes, FollowsDatagram, IsSoundRun};
-ghost use Rattle.follow_engine.specs.Running.{LeavesWith, TellsSome, TellsTurn, running_of};
+ghost use Rattle.follow_engine.specs.Running.{LeavesWith, TellsDatagram, TellsSome, running_of};
 ghost use Rattle.following.specs.Follower.{opened};
 ghost use Rattle.following.specs.Following.{frames_in};
 ghost use Rattle.following.specs.Restarts.{is_restart};
@@ -250,7 +250,7 @@ impl<A: Allocator + Copy> Run<A> {
         requires { IsSoundRun self.old }
         ensures run { OnOk result (IsSoundRun self.new) }
         ensures eager { self.new.is_eager ≡ self.old.is_eager }
-        ensures turned { OnOk result (TellsTurn P.takes self.old.is_eager (running_of self.old)
+        ensures turned { OnOk result (TellsDatagram P.takes self.old.is_eager (running_of self.old)
             (running_of self.new) octets.now pictures.old pictures.new
             (O.took output.old) (O.took output.new)) }
         ensures part { OnErr result (TellsSome P.takes P.fails pictures.old pictures.new
