@@ -22,7 +22,7 @@ use Rattle.devices.specs.declared.file_output.FileOutput.{FileOutput}
 use Rattle.flow.specs.declared.flows.Flows.{Flows}
 use Rattle.follow_engine.specs.Events.{frames_of_events}
 use Rattle.follow_engine.specs.Followed.{FollowsWhole, followed_events}
-use Rattle.follow_engine.specs.Shown.{TakesAll, TakesIn}
+use Rattle.follow_engine.specs.Shown.{TakesEachFrame, TakesIn}
 use Rattle.follow_engine.specs.Sides.{SideRead}
 use Rattle.follow_engine.specs.declared.opening.FollowAsked.{FollowAsked}
 use Rattle.follow_engine.specs.declared.telling.FollowTotals.{FollowTotals}
@@ -50,7 +50,7 @@ use Rattle.st_format.specs.Picture.{Values}
 -- ---- a sink that may be none
 
 none_stays : {K : Type 0} (takes : K → Handed → K → Type 0) (k l : Option K) (hs : List Handed)
-    → k ≡ None → TakesAll (TakesIn takes) k hs l → l ≡ None
+    → k ≡ None → TakesEachFrame (TakesIn takes) k hs l → l ≡ None
 none_stays takes k l [] none is = is ∙ none
 none_stays takes k l (h ∷ hs) none is =
     let one : TakesIn takes None h is.0 =
@@ -59,19 +59,19 @@ none_stays takes k l (h ∷ hs) none is =
 
 -- one took frames
 abbrev TookAll : {K : Type 0} → (K → Handed → K → Type 0) → K → List Handed → Option K → Type 0
-TookAll takes k hs l = (m : _) × (l ≡ Some m) × TakesAll takes k hs m
+TookAll takes k hs l = (m : _) × (l ≡ Some m) × TakesEachFrame takes k hs m
 
 some_step : {K : Type 0} (takes : K → Handed → K → Type 0) (k : K) (h : Handed) (l : Option K)
     (hs : List Handed) (mid : Option K) → TakesIn takes (Some k) h mid
-    → TakesAll (TakesIn takes) mid hs l
-    → ((m : K) → TakesAll (TakesIn takes) (Some m) hs l → TookAll takes m hs l)
+    → TakesEachFrame (TakesIn takes) mid hs l
+    → ((m : K) → TakesEachFrame (TakesIn takes) (Some m) hs l → TookAll takes m hs l)
     → TookAll takes k (h ∷ hs) l
 some_step takes k h l hs None one more next = absurd one
 some_step takes k h l hs (Some m) one more next =
     let r = next m more in (r.0, r.1, (m, one, r.2))
 
 some_took : {K : Type 0} (takes : K → Handed → K → Type 0) (k : K) (l : Option K)
-    (hs : List Handed) → TakesAll (TakesIn takes) (Some k) hs l → TookAll takes k hs l
+    (hs : List Handed) → TakesEachFrame (TakesIn takes) (Some k) hs l → TookAll takes k hs l
 some_took takes k l [] is = (k, is, refl)
 some_took takes k l (h ∷ hs) is =
     some_step takes k h l hs is.0 is.1 is.2 (λ m. some_took takes m l hs)
@@ -84,7 +84,7 @@ took_unplaced s = ap (λ (p : _). took_in p s.file.sink.progress) s.unplaced
 
 sink_wrote : {A : Type 0} (filling : Filling) (fill : Option (List ℕ)) (f : FileOutput)
     (k m : FormSink UnplacedOutput A) (hs : List Handed)
-    → IsSinkOver filling fill (Some f) (Some k) → TakesAll (TakesFrame octets_under) k hs m
+    → IsSinkOver filling fill (Some f) (Some k) → TakesEachFrame (TakesFrame octets_under) k hs m
     → file_took m.sink.file
     ≡ file_took f ++ form_stream None (pictures_of filling fill None hs)
 sink_wrote filling fill f k m hs is all =
@@ -105,7 +105,7 @@ sink_wrote filling fill f k m hs is all =
 
 took_pictures : {A : Type 0} (filling : Filling) (fill : Option (List ℕ))
     (out : Option FileOutput) (k l : Option (FormSink UnplacedOutput A)) (hs : List Handed)
-    → IsSinkOver filling fill out k → TakesAll (TakesIn (TakesFrame octets_under)) k hs l
+    → IsSinkOver filling fill out k → TakesEachFrame (TakesIn (TakesFrame octets_under)) k hs l
     → TakesPictures filling fill hs out (file_under l)
 took_pictures filling fill None k l hs is all =
     ap file_under (none_stays (TakesFrame octets_under) k l hs is all)
@@ -117,7 +117,7 @@ took_pictures filling fill (Some f) (Some k) l hs is all =
     (sink_wrote filling fill f k r.0 hs is r.2)
 
 report_wrote : (f : FileOutput) (k m : ReportSink UnplacedOutput) (hs : List Handed)
-    → k.sink.file ≡ f → TakesAll (TakesLines octets_under) k hs m
+    → k.sink.file ≡ f → TakesEachFrame (TakesLines octets_under) k hs m
     → file_took m.sink.file ≡ file_took f ++ frames_report hs
 report_wrote f k m hs is all =
     took_unplaced m.sink ∙ all_lines octets_under k m hs all
@@ -125,7 +125,8 @@ report_wrote f k m hs is all =
     ∙ ap (λ (x : FileOutput). file_took x ++ frames_report hs) is
 
 took_report : (out : Option FileOutput) (k l : Option (ReportSink UnplacedOutput))
-    (hs : List Handed) → IsReportOver out k → TakesAll (TakesIn (TakesLines octets_under)) k hs l
+    (hs : List Handed) → IsReportOver out k
+    → TakesEachFrame (TakesIn (TakesLines octets_under)) k hs l
     → TakesReport hs out (report_under l)
 took_report None k l hs is all =
     ap report_under (none_stays (TakesLines octets_under) k l hs is all)
@@ -137,7 +138,7 @@ took_report (Some f) (Some k) l hs is all =
 
 files_wrote : {A : Type 0} (filling : Filling) (fill : Option (List ℕ)) (d : PictureDirectory)
     (k m : FilesSink PictureDirectory A) (hs : List Handed)
-    → IsFilesOver filling fill (Some d) (Some k) → TakesAll (FilesFrame files_under) k hs m
+    → IsFilesOver filling fill (Some d) (Some k) → TakesEachFrame (FilesFrame files_under) k hs m
     → files_under m.files
     ≡ files_under d ++ files_for hs (pictures_of filling fill None hs)
 files_wrote filling fill d k m hs is all =
@@ -153,7 +154,7 @@ files_wrote filling fill d k m hs is all =
 took_files : {A : Type 0} (filling : Filling) (fill : Option (List ℕ))
     (pictures : Option PictureDirectory) (k l : Option (FilesSink PictureDirectory A))
     (hs : List Handed) → IsFilesOver filling fill pictures k
-    → TakesAll (TakesIn (FilesFrame files_under)) k hs l
+    → TakesEachFrame (TakesIn (FilesFrame files_under)) k hs l
     → FilesFrames filling fill hs pictures (directory_under l)
 took_files filling fill None k l hs is all =
     ap directory_under (none_stays (FilesFrame files_under) k l hs is all)
@@ -166,19 +167,19 @@ took_files filling fill (Some d) (Some k) l hs is all =
 
 -- ---- frames that are listed
 
-pub listed : (hs frames : List Handed) → TakesAll IsListed frames hs (frames ++ hs)
+pub listed : (hs frames : List Handed) → TakesEachFrame IsListed frames hs (frames ++ hs)
 listed [] frames = append-nil frames
 listed (h ∷ hs) frames = (
   frames ++ h ∷ [],
   refl,
-  subst (λ (l : List Handed). TakesAll IsListed (frames ++ h ∷ []) hs l)
+  subst (λ (l : List Handed). TakesEachFrame IsListed (frames ++ h ∷ []) hs l)
       (append_assoc frames (h ∷ []) hs) (listed hs (frames ++ h ∷ [])),
 )
 
 -- the files below sinks all of which took these frames
 pub all_under : {A : Type 0} (filling : Filling) (fill : Option (List ℕ)) (o : FollowOutputs)
     (k l : FollowSinks A) (hs : List Handed) → AreSinksOver filling fill o k
-    → TakesAll TakesAllOver k hs l
+    → TakesEachFrame TakesAllOver k hs l
     → TakesPictures filling fill hs o.out (file_under l.first)
     × TakesReport hs o.report (report_under l.second.first)
     × FilesFrames filling fill hs o.pictures (directory_under l.second.second)

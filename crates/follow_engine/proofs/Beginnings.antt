@@ -14,7 +14,7 @@ use Rattle.recording_reader.specs.FileReader.{fault_of}
 use Rattle.recording_reader.specs.declared.way.Standing.{Standing as Stand}
 use Rattle.run_outcome.specs.declared.refusal.Refusal.{Refusal}
 use Rattle.side_by_side.specs.Side.{IsUnfailedFile, begun_at}
-use Rattle.side_by_side.specs.Sides.{AllUnfailed, HasGivenAll, IsBegun, IsFreshFile, Sides}
+use Rattle.side_by_side.specs.Sides.{AllUnfailed, HasGivenAll, IsFreshFile, IsUnreadSide, Sides}
 use Rattle.side_by_side.specs.Sides.{begun_each, strands_of}
 use Rattle.side_by_side.specs.Strands.{GoesWhole}
 use Rattle.side_by_side.specs.declared.side.Side.{Side}
@@ -24,7 +24,7 @@ use Rattle.follow_engine.specs.Events.{behind_all, ended, events_end, events_in}
 use Rattle.follow_engine.specs.Events.{Running, without}
 use Rattle.follow_engine.specs.Opened.{AreOpened}
 use Rattle.follow_engine.specs.Order.{datagrams_in}
-use Rattle.follow_engine.specs.Running.{Finishes, Told, running_of}
+use Rattle.follow_engine.specs.Running.{Finishes, TellsEvents, running_of}
 use Rattle.follow_engine.specs.Sides.{EndsStream, FollowsEntries, FollowsSides, HasBegun}
 use Rattle.follow_engine.specs.Sides.{HasBegunIn, text_by}
 use Rattle.follow_engine.specs.Telling.{events_text, totals_of, totals_text}
@@ -59,7 +59,7 @@ fresh_file Taken unread = tt
 
 pub opened_begun : {A S : Type 0} (gave : S → List ℕ) (ended : S → Type 0)
     (ways : List (Result Flows Refusal)) (olds news : List (Side A S))
-    → AreOpened gave ended ways olds news → AllByRecursion IsBegun news
+    → AreOpened gave ended ways olds news → AllByRecursion IsUnreadSide news
 opened_begun gave ended ways [] [] opened = tt
 opened_begun gave ended ways [] (n ∷ ns) opened = absurd opened
 opened_begun gave ended ways (o ∷ os) [] opened = absurd opened
@@ -73,7 +73,7 @@ unfailed_file (Closed s) fresh = tt
 unfailed_file (Open r) fresh = ap (λ (s : Stand). fault_of s) fresh.0
 unfailed_file Taken fresh = tt
 
-pub begun_unfailed : {A S : Type 0} (sides : List (Side A S)) → AllByRecursion IsBegun sides
+pub begun_unfailed : {A S : Type 0} (sides : List (Side A S)) → AllByRecursion IsUnreadSide sides
     → AllUnfailed sides
 begun_unfailed [] begun = tt
 begun_unfailed (s ∷ ss) begun = (unfailed_file s.file begun.0.1, begun_unfailed ss begun.1)
@@ -114,7 +114,8 @@ follows_entries gave ended takes source source' r r' old new took took' sides no
       running = follows.running ∙ ap (behind_all r.is_eager (running_of r)) ds;
       told =
           subst (λ (l : List (List ℕ)).
-          Told takes old new took took' (events_in r.is_eager (running_of r) l)) ds follows.told;
+          TellsEvents takes old new took took' (events_in r.is_eager (running_of r) l)) ds
+          follows.told;
     })
 
 -- ---- the end

@@ -5,7 +5,7 @@ use Rattle.std.proofs.lemmas.List.{length-map}
 use Rattle.std.specs.List.{AllByRecursion, AllZip}
 use Rattle.media_file.specs.Records.{Entry}
 use Rattle.path_receiver.specs.Took.{datagrams_since}
-use Rattle.recording_engines.specs.Files.{IsKnown}
+use Rattle.recording_engines.specs.Files.{HasKnownOctets}
 use Rattle.recording_engines.specs.Imported.{AreOver}
 use Rattle.recording_engines.specs.Joining.{Strand}
 use Rattle.run_outcome.specs.declared.refusal.Refusal.{Refusal}
@@ -102,7 +102,7 @@ came_count source source' entries none is =
 
 many_read : {A S : Type 0} (gave : S → List ℕ) (ended : S → Type 0) (source source' : Sides A S)
     (sides : List (Side A S)) → IsSideBySide source'
-    → AllByRecursion (λ s. IsKnown gave ended s.file) source'.sides → source.came ≡ []
+    → AllByRecursion (λ s. HasKnownOctets gave ended s.file) source'.sides → source.came ≡ []
     → source'.sides ≡ sides
     → most_datagrams ≤ length (datagrams_since source.came source'.came)
     → (octets : List (List ℕ)) → AllZip (SideGave gave ended) sides octets
@@ -123,7 +123,7 @@ many_read gave ended source source' sides is known none at many octets read =
 -- what stops files stops them by what was read
 pub stops_read : {A S : Type 0} (gave : S → List ℕ) (ended : S → Type 0)
     (source source' : Sides A S) (sides : List (Side A S)) (r : Refusal) → IsSideBySide source'
-    → AllByRecursion (λ s. IsKnown gave ended s.file) source'.sides → source.came ≡ []
+    → AllByRecursion (λ s. HasKnownOctets gave ended s.file) source'.sides → source.came ≡ []
     → source'.sides ≡ sides
     → StopsFollowing (length (datagrams_since source.came source'.came)) source'.sides r
     → StopsRead gave ended sides r

@@ -17,13 +17,13 @@ use Rattle.run_outcome.specs.declared.fault.Fault.{Fault}
 use Rattle.run_outcome.specs.declared.fault.Fault.TheVariants.{Device, Memory, Refused}
 use Rattle.st_format.specs.Device.{GrowsPart}
 use Rattle.st_format.specs.declared.path.Path.{Path}
-use Rattle.follow_engine.specs.Events.{Anew, Event, Left, Running, events_at}
-use Rattle.follow_engine.specs.Events.{events_in, frames_of_events, handed_by, is_anew, late_left}
-use Rattle.follow_engine.specs.Events.{late_with, leaving, noted_by, time_of, time_or_zero}
+use Rattle.follow_engine.specs.Events.{Anew, Event, Left, Running, datagram_time, events_at}
+use Rattle.follow_engine.specs.Events.{events_in, frame_of_event, frames_of_events, is_anew}
+use Rattle.follow_engine.specs.Events.{late_left, late_with, leaving, noted_by, time_or_zero}
 use Rattle.follow_engine.specs.Events.{turn_left, turn_taken}
 use Rattle.follow_engine.specs.Line.{ended_line}
-use Rattle.follow_engine.specs.Running.{TellsSome, TellsTurn, Told}
-use Rattle.follow_engine.specs.Shown.{GrowsSome, IsCutAt, TakesAll, TakesSome}
+use Rattle.follow_engine.specs.Running.{TellsDatagram, TellsEvents, TellsSome}
+use Rattle.follow_engine.specs.Shown.{GrowsSome, IsCutAt, TakesEachFrame, TakesSome}
 use Rattle.follow_engine.specs.Telling.{event_text, events_text}
 use Rattle.follow_engine.specs.declared.line.FollowLine.TheVariants as line
 use Rattle.follow_engine.proofs.Grows.{grows_all, grows_first, grows_none, grows_part, grows_then}
@@ -55,7 +55,7 @@ module _ {K : Type 0} (takes fails : K → Handed → K → Type 0) where
     cut = cut_none k hs;
   }
 
-  pub some_all : (old new : K) (hs : List Handed) → TakesAll takes old hs new
+  pub some_all : (old new : K) (hs : List Handed) → TakesEachFrame takes old hs new
       → TakesSome takes fails old hs new
   some_all old new hs is = record {
     shown = hs;
@@ -90,7 +90,7 @@ module _ {K : Type 0} (takes fails : K → Handed → K → Type 0) where
   }
 
   -- behind others, all of which were taken
-  pub some_then : (old mid new : K) (hs gs : List Handed) → TakesAll takes old hs mid
+  pub some_then : (old mid new : K) (hs gs : List Handed) → TakesEachFrame takes old hs mid
       → TakesSome takes fails mid gs new → TakesSome takes fails old (hs ++ gs) new
   some_then old mid new hs gs first is = record {
     shown = hs ++ is.shown;
@@ -110,7 +110,7 @@ module _ {K : Type 0} (takes fails : K → Handed → K → Type 0) where
   }
 
   pub tells_all : (old new : K) (took took' : List ℕ) (es : List Event)
-      → Told takes old new took took' es → TellsSome takes fails old new took took' es
+      → TellsEvents takes old new took took' es → TellsSome takes fails old new took took' es
   tells_all old new took took' es is = record {
     printed = grows_all took took' (events_text es) is.printed;
     shown = some_all old new (frames_of_events es) is.shown;
@@ -125,12 +125,12 @@ module _ {K : Type 0} (takes fails : K → Handed → K → Type 0) where
         (grows_first took took' (events_text es) (events_text fs) is.printed);
     shown =
         subst (λ (hs : List Handed). TakesSome takes fails old hs new)
-        (sym (filter_map-append handed_by es fs))
+        (sym (filter_map-append frame_of_event es fs))
         (some_first old new (frames_of_events es) (frames_of_events fs) is.shown);
   }
 
   pub tells_then : (old mid new : K) (took took' took'' : List ℕ) (es fs : List Event)
-      → Told takes old mid took took' es → TellsSome takes fails mid new took' took'' fs
+      → TellsEvents takes old mid took took' es → TellsSome takes fails mid new took' took'' fs
       → TellsSome takes fails old new took took'' (es ++ fs)
   tells_then old mid new took took' took'' es fs first is = record {
     printed =
@@ -138,7 +138,7 @@ module _ {K : Type 0} (takes fails : K → Handed → K → Type 0) where
         (grows_then took took' took'' (events_text es) (events_text fs) first.printed is.printed);
     shown =
         subst (λ (hs : List Handed). TakesSome takes fails old hs new)
-        (sym (filter_map-append handed_by es fs))
+        (sym (filter_map-append frame_of_event es fs))
         (some_then old mid new (frames_of_events es) (frames_of_events fs) first.shown is.shown);
   }
 
@@ -207,7 +207,7 @@ module _ {K : Type 0} (takes fails : K → Handed → K → Type 0) where
       (answer : Result Followed Refusal) (t : Following) (hs : List Handed) (old new : K)
       (took took' : List ℕ) → answer ≡ answer_in r.follower octets
       → hs ≡ handed_in eager r.follower octets
-      → n ≡ noted_by bound (record r { follower = t }) (time_of octets) answer
+      → n ≡ noted_by bound (record r { follower = t }) (datagram_time octets) answer
       → TellsSome takes fails old new took took' (leaving n.late hs)
       → TellsSome takes fails old new took took' (turn_left eager r octets)
   turn_cut eager r n octets bound answer t hs old new took took' answered_so handed noted is =
@@ -226,12 +226,12 @@ module _ {K : Type 0} (takes fails : K → Handed → K → Type 0) where
       tells_first old new took took' (turn_left eager r octets)
       (cond (is_anew r octets) (leaving (turn_taken eager r octets).late
       (frames_in (turn_taken eager r octets).follower)
-      ++ Anew (time_or_zero (time_of octets)) ∷ []) []) is
+      ++ Anew (time_or_zero (datagram_time octets)) ∷ []) []) is
 
   -- behind it the stream is followed anew, of which some first was told
   pub anew_stops : (eager : Bool) (r r' : Running) (octets : List ℕ) (ts : ℕ) (old mid new : K)
-      (took took' took'' : List ℕ) → is_anew r octets ≡ true → time_of octets ≡ Some ts
-      → TellsTurn takes eager r r' octets old mid took took'
+      (took took' took'' : List ℕ) → is_anew r octets ≡ true → datagram_time octets ≡ Some ts
+      → TellsDatagram takes eager r r' octets old mid took took'
       → TellsSome takes fails mid new took' took''
       (leaving r'.late (frames_in r'.follower) ++ Anew ts ∷ [])
       → TellsSome takes fails old new took took'' (events_at eager r octets)
@@ -240,7 +240,7 @@ module _ {K : Type 0} (takes fails : K → Handed → K → Type 0) where
       let t : Running = turn_taken eager r octets in
       let es : List Event = turn_left eager r octets in
       let fs : List Event =
-      leaving t.late (frames_in t.follower) ++ Anew (time_or_zero (time_of octets)) ∷ [] in
+      leaving t.late (frames_in t.follower) ++ Anew (time_or_zero (datagram_time octets)) ∷ [] in
       let gs : List Event = leaving r'.late (frames_in r'.follower) ++ Anew ts ∷ [] in
       let ends : gs ≡ fs =
       ap (λ (x : Running). leaving x.late (frames_in x.follower) ++ Anew ts ∷ []) turn.running
@@ -274,10 +274,12 @@ module _ {K : Type 0} (takes fails : K → Handed → K → Type 0) where
 pub so_told : {K : Type 0} (takes : K → Handed → K → Type 0) (eager : Bool)
     (before now then : List (Path × List ℕ)) (r r' : Running) (old new : K)
     (took took' : List ℕ) → FollowedSo takes eager before now r r' old new took took'
-    → then ≡ now → Told takes old new took took' (events_in eager r (datagrams_since before then))
+    → then ≡ now
+    → TellsEvents takes old new took took' (events_in eager r (datagrams_since before then))
 so_told takes eager before now then r r' old new took took' so same =
     subst (λ (l : List (Path × List ℕ)).
-    Told takes old new took took' (events_in eager r (datagrams_since before l))) (sym same) so.told
+    TellsEvents takes old new took took' (events_in eager r (datagrams_since before l)))
+    (sym same) so.told
 
 -- ---- a run that is refused
 

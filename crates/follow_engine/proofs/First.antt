@@ -7,8 +7,9 @@ use Rattle.flow.specs.declared.flows.Flows.{Flows}
 use Rattle.media_file.specs.Records.{Entry}
 use Rattle.recording_counts.specs.declared.left_out.LeftOut.{LeftOut}
 use Rattle.recording_engines.proofs.FileFaults.{fault_none, strand_by}
-use Rattle.recording_engines.specs.Files.{IsKnown}
-use Rattle.recording_engines.specs.Joining.{Strand}
+use Rattle.recording_engines.specs.Files.{HasKnownOctets}
+use Rattle.recording_engines.specs.Joining.{ComesNoFault, Strand}
+use Rattle.recording_engines.specs.Steps.{lefts, nothing, whole, whole_by, wholes}
 use Rattle.recording_engines.specs.Strands.{fault_of_file, strand_in}
 use Rattle.recording_engines.specs.declared.file.ImportFile.{ImportFile}
 use Rattle.recording_engines.specs.declared.file.ImportFile.TheVariants.{Closed, Open, Taken}
@@ -20,8 +21,7 @@ use Rattle.side_by_side.specs.Going.{first_place}
 use Rattle.side_by_side.specs.Side.{ahead_by, standing_by}
 use Rattle.side_by_side.specs.Sides.{FileGave, IsSideBySide, SideGave, Sides, standings, strand_of}
 use Rattle.side_by_side.specs.Sides.{strands_of}
-use Rattle.side_by_side.specs.Steps.{lefts, nothing, whole, whole_by, wholes}
-use Rattle.side_by_side.specs.Strands.{AllRunning, Goes, IsRunning, TakesAt, going_in, goings_in}
+use Rattle.side_by_side.specs.Strands.{AllRunning, Goes, TakesAt, going_in, goings_in}
 use Rattle.side_by_side.specs.declared.going.Going.{Going}
 use Rattle.side_by_side.specs.declared.going.Going.TheVariants.{Unread, AtOnce, By, Never}
 use Rattle.side_by_side.specs.declared.side.Side.{Side}
@@ -46,33 +46,33 @@ AllLonger (s ∷ ss) [] = ⊥
 AllLonger (s ∷ ss) (s' ∷ ss') = IsLonger s s' × AllLonger ss ss'
 
 none_runs : (fault : Option ReadingFault) (f : ReadingFault) → fault ≡ Some f
-    → IsRunning [] fault → ⊥
+    → ComesNoFault [] fault → ⊥
 none_runs None f is runs = absurd cc
 none_runs (Some g) f is runs = runs
 
 going_more : (st : Steering) (es es' more : List Entry) (fault : Option ReadingFault)
-    (f : ReadingFault) → fault ≡ Some f → es' ≡ es ++ more → IsRunning es fault
+    (f : ReadingFault) → fault ≡ Some f → es' ≡ es ++ more → ComesNoFault es fault
     → going_in st es' ≡ going_in st es
 going_more st [] es' more fault f at is runs = absurd (none_runs fault f at runs)
 going_more st (e ∷ es) es' more fault f at is runs = ap (going_in st) is
 
-going_longer : (st : Steering) (s s' : Strand) → IsLonger s s' → IsRunning s.entries s.fault
+going_longer : (st : Steering) (s s' : Strand) → IsLonger s s' → ComesNoFault s.entries s.fault
     → going_in st s'.entries ≡ going_in st s.entries
 going_longer st s s' (inl same) runs = ap (λ (x : Strand). going_in st x.entries) same
 going_longer st s s' (inr more) runs =
     going_more st s.entries s'.entries more.1 s.fault more.0 more.2 more.3 runs
 
 running_more : (es es' more : List Entry) (fault fault' : Option ReadingFault)
-    (f : ReadingFault) → fault ≡ Some f → es' ≡ es ++ more → IsRunning es fault
-    → IsRunning es' fault'
+    (f : ReadingFault) → fault ≡ Some f → es' ≡ es ++ more → ComesNoFault es fault
+    → ComesNoFault es' fault'
 running_more [] es' more fault fault' f at is runs = absurd (none_runs fault f at runs)
 running_more (e ∷ es) es' more fault fault' f at is runs =
-    subst (λ (l : List Entry). IsRunning l fault') (sym is) tt
+    subst (λ (l : List Entry). ComesNoFault l fault') (sym is) tt
 
-running_longer : (s s' : Strand) → IsLonger s s' → IsRunning s.entries s.fault
-    → IsRunning s'.entries s'.fault
+running_longer : (s s' : Strand) → IsLonger s s' → ComesNoFault s.entries s.fault
+    → ComesNoFault s'.entries s'.fault
 running_longer s s' (inl same) runs =
-    subst (λ (x : Strand). IsRunning x.entries x.fault) (sym same) runs
+    subst (λ (x : Strand). ComesNoFault x.entries x.fault) (sym same) runs
 running_longer s s' (inr more) runs =
     running_more s.entries s'.entries more.1 s.fault s'.fault more.0 more.2 more.3 runs
 
@@ -187,7 +187,8 @@ longer_by flows (Failed f) w h octets es left known =
     (nothing, inr (f, known.0.0, refl, known.0.1))
 
 longer_file : {A S : Type 0} (gave : S → List ℕ) (ended : S → Type 0) (w : Going)
-    (f : ImportFile A S) (octets : List ℕ) → IsKnown gave ended f → FileGave gave ended f octets
+    (f : ImportFile A S) (octets : List ℕ) → HasKnownOctets gave ended f
+    → FileGave gave ended f octets
     → (r : Strand) × IsLonger (whole (standing_by w f) r) (strand_of f octets)
 longer_file gave ended w (Closed s) octets known read = (nothing, inl refl)
 longer_file gave ended w (Open r) octets known read =
@@ -195,7 +196,7 @@ longer_file gave ended w (Open r) octets known read =
 longer_file gave ended w Taken octets known read = (nothing, inl refl)
 
 all_longer : {A S : Type 0} (gave : S → List ℕ) (ended : S → Type 0) (sides : List (Side A S))
-    (octets : List (List ℕ)) → AllByRecursion (λ s. IsKnown gave ended s.file) sides
+    (octets : List (List ℕ)) → AllByRecursion (λ s. HasKnownOctets gave ended s.file) sides
     → AllZip (SideGave gave ended) sides octets
     → (rs : List Strand) × AllLonger (wholes (standings sides) rs) (strands_of sides octets)
 all_longer gave ended [] octets known read = ([], tt)
@@ -208,7 +209,7 @@ all_longer gave ended (s ∷ ss) (o ∷ os) known read =
 -- what went of files goes first of the records that were read of them
 pub goes_first : {A S : Type 0} (gave : S → List ℕ) (ended : S → Type 0) (s : Sides A S)
     (octets : List (List ℕ)) → (is : IsSideBySide s)
-    → AllByRecursion (λ x. IsKnown gave ended x.file) s.sides
+    → AllByRecursion (λ x. HasKnownOctets gave ended x.file) s.sides
     → AllZip (SideGave gave ended) s.sides octets
     → GoesFirst s.steering (strands_of s.sides octets) is.entries
 goes_first gave ended s octets is known read =

@@ -10,7 +10,8 @@ use Rattle.path_receiver.specs.Sliding.{with_window}
 use Rattle.st_format.specs.Raster.{Raster}
 use Rattle.follow_engine.specs.Events.{Anew, Event, Left, Running, anew, frames_with, late_left, leaving}
 use Rattle.follow_engine.specs.Events.{without}
-use Rattle.follow_engine.specs.Running.{BeginsAnew, Finishes, IsRun, LeavesWith, Told, running_of}
+use Rattle.follow_engine.specs.Running.{BeginsAnew, Finishes, IsSoundRun, LeavesWith, TellsEvents}
+use Rattle.follow_engine.specs.Running.{running_of}
 use Rattle.follow_engine.specs.declared.running.Run.{Run}
 use Rattle.follow_engine.proofs.Tells.{told_both, told_none}
 
@@ -62,7 +63,7 @@ pub record HasLeft {K : Type 0} (takes : K → Handed → K → Type 0) (r r' : 
   pub gone : List Handed
   pub parts : gone ++ frames_in r'.follower ≡ frames_in r.follower
   pub running : r' ≡ without r gone r'.follower
-  pub told : Told takes old new took took' (leaving r.late gone)
+  pub told : TellsEvents takes old new took took' (leaving r.late gone)
 
 pub left_none : {K : Type 0} (takes : K → Handed → K → Type 0) (r : Running) (k : K)
     (took : List ℕ) → HasLeft takes r r k k took took
@@ -93,11 +94,12 @@ left_more takes r r' r'' old mid new took took' took'' hs t left frames leaves =
           ∙ without_append r left.gone hs r'.follower t
           ∙ ap (λ (x : Following). without r (left.gone ++ hs) x) (sym at);
       told =
-          subst (λ (es : List Event). Told takes old new took took'' es)
+          subst (λ (es : List Event). TellsEvents takes old new took took'' es)
           (sym (leaving_append r.late left.gone hs))
           (told_both takes old mid new took took' took'' (leaving r.late left.gone)
           (leaving (late_left r.late left.gone) hs) left.told
-          (subst (λ (n : ℕ). Told takes mid new took' took'' (leaving n hs)) late leaves.told));
+          (subst (λ (n : ℕ). TellsEvents takes mid new took' took'' (leaving n hs)) late
+          leaves.told));
     }
 
 -- ---- one after the other
@@ -134,19 +136,20 @@ pub left_all : {K : Type 0} (takes : K → Handed → K → Type 0) (r r' : Runn
     (took took' : List ℕ) → (left : HasLeft takes r r' old new took took')
     → r'.follower.opening.window ≡ []
     → (r' ≡ without r (frames_in r.follower) r'.follower)
-    × Told takes old new took took' (leaving r.late (frames_in r.follower))
+    × TellsEvents takes old new took took' (leaving r.late (frames_in r.follower))
 left_all takes r r' old new took took' left none =
     let all : left.gone ≡ frames_in r.follower =
     sym (append-nil left.gone) ∙ ap (λ (l : List Handed). left.gone ++ l) (left_end r' none)
     ∙ left.parts in (
       left.running ∙ ap (λ (hs : List Handed). without r hs r'.follower) all,
-      subst (λ (hs : List Handed). Told takes old new took took' (leaving r.late hs)) all left.told,
+      subst (λ (hs : List Handed). TellsEvents takes old new took took' (leaving r.late hs)) all
+          left.told,
     )
 
 -- one frame that leaves
 pub leaves_one : {K : Type 0} (takes : K → Handed → K → Type 0) (r : Running) (h : Handed)
     (frames : ℕ) (old new : K) (took took' : List ℕ) → frames ≡ one_more r.frames
-    → Told takes old new took took' (Left h r.late ∷ [])
+    → TellsEvents takes old new took took' (Left h r.late ∷ [])
     → LeavesWith takes r (record r { frames = frames; late = 0 }) (h ∷ []) old new took took'
 leaves_one takes r h frames old new took took' counted_so told = record {
   running = ap (λ (n : ℕ). counted r r.follower n 0) counted_so;
@@ -183,11 +186,11 @@ anew_at r m t need is opening size ahead begun forgot =
 
 pub begins_anew : {A K : Type 0} (takes : K → Handed → K → Type 0) (timestamp : ℕ)
     (r m r' : Run A) (old new : K) (took took' took'' : List ℕ)
-    → (done : Finishes takes r m old new took took') → IsRun r'
+    → (done : Finishes takes r m old new took took') → IsSoundRun r'
     → r'.follower ≡ opened m.follower.opening m.follower.size m.follower.most_ahead
     → r'.need ≡ record { newest = []; need = m.need.need }
     → running_of r' ≡ record (running_of m) { follower = r'.follower; need = r'.need }
-    → Told takes new new took' took'' (Anew timestamp ∷ [])
+    → TellsEvents takes new new took' took'' (Anew timestamp ∷ [])
     → BeginsAnew takes timestamp r r' old new took took''
 begins_anew takes timestamp r m r' old new took took' took'' done run begun forgot same told = record {
   run = run;

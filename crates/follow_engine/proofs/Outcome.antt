@@ -11,7 +11,7 @@ use Rattle.following.specs.Following.{Handed}
 use Rattle.media_file.specs.Records.{Entry}
 use Rattle.path_receiver.specs.Opening.{IsWindowSize, Opening}
 use Rattle.recording_engines.proofs.Same.{no_less, no_more, same_head}
-use Rattle.recording_engines.specs.Files.{IsKnown, IsReadByFlows}
+use Rattle.recording_engines.specs.Files.{HasKnownOctets, IsReadByFlows}
 use Rattle.recording_engines.specs.Joining.{Strand}
 use Rattle.recording_reader.specs.Files.{text_of_file}
 use Rattle.run_outcome.specs.Sources.{IsSourceText}
@@ -22,12 +22,13 @@ use Rattle.side_by_side.specs.Strands.{GoesWhole}
 use Rattle.side_by_side.specs.declared.side.Side.{Side}
 use Rattle.side_by_side.specs.declared.steering.Steering.{Steering}
 use Rattle.follow_engine.specs.Events.{Event, Running, behind_all, ended, events_end, events_in}
-use Rattle.follow_engine.specs.Events.{events_of, frames_of_events, handed_by, run_end, running_from}
+use Rattle.follow_engine.specs.Events.{events_of, frame_of_event, frames_of_events, run_end}
+use Rattle.follow_engine.specs.Events.{running_from}
 use Rattle.follow_engine.specs.Followed.{FollowsWhole}
 use Rattle.follow_engine.specs.Opened.{AreOpened, IsFirstText}
 use Rattle.follow_engine.specs.Order.{datagrams_in, strands_by}
-use Rattle.follow_engine.specs.Running.{Told, running_of, steering_of}
-use Rattle.follow_engine.specs.Shown.{TakesAll}
+use Rattle.follow_engine.specs.Running.{TellsEvents, running_of, steering_of}
+use Rattle.follow_engine.specs.Shown.{TakesEachFrame}
 use Rattle.follow_engine.specs.Sides.{EndsStream, FollowsEntries, HasBegun, SideRead, text_by}
 use Rattle.follow_engine.specs.Telling.{event_text, events_text, totals_of, totals_text}
 use Rattle.follow_engine.specs.declared.opening.FollowAsked.{FollowAsked}
@@ -43,7 +44,7 @@ pub record Outcome {K : Type 0} (takes : K → Handed → K → Type 0) (eager :
     (ds : List (List ℕ)) (old new : K) (took took' : List ℕ) (totals : FollowTotals) : Type 0 where
   pub printed : took' ≡ took ++ (events_text (events_of eager r ds)
       ++ totals_text (run_end eager r ds))
-  pub shown : TakesAll takes old (frames_of_events (events_of eager r ds)) new
+  pub shown : TakesEachFrame takes old (frames_of_events (events_of eager r ds)) new
   pub totals_are : totals ≡ totals_of (run_end eager r ds)
 
 -- the texts of what happened, of what left at the end, and of the totals
@@ -55,10 +56,10 @@ texts_joined took took' took'' a b c first last =
 
 outcome_at : {K : Type 0} (takes : K → Handed → K → Type 0) (eager : Bool) (r : Running)
     (ds : List (List ℕ)) (old mid new : K) (took took' took'' : List ℕ) (totals : FollowTotals)
-    → Told takes old mid took took' (events_in eager r ds)
+    → TellsEvents takes old mid took took' (events_in eager r ds)
     → took'' ≡ took' ++ (events_text (events_end (behind_all eager r ds))
     ++ totals_text (ended (behind_all eager r ds)))
-    → TakesAll takes mid (frames_of_events (events_end (behind_all eager r ds))) new
+    → TakesEachFrame takes mid (frames_of_events (events_end (behind_all eager r ds))) new
     → totals ≡ totals_of (ended (behind_all eager r ds))
     → Outcome takes eager r ds old new took took'' totals
 outcome_at takes eager r ds old mid new took took' took'' totals told printed shown are =
@@ -70,8 +71,8 @@ outcome_at takes eager r ds old mid new took took' took'' totals told printed sh
           texts_joined took took' took'' (events_text es) (events_text fs) last told.printed printed
           ∙ ap (λ (l : List ℕ). took ++ (l ++ last)) (sym (flat_map-append event_text es fs));
       shown =
-          subst (λ (hs : List Handed). TakesAll takes old hs new)
-          (sym (filter_map-append handed_by es fs))
+          subst (λ (hs : List Handed). TakesEachFrame takes old hs new)
+          (sym (filter_map-append frame_of_event es fs))
           (takes_both takes old mid new (frames_of_events es) (frames_of_events fs) told.shown shown);
       totals_are = are;
     }
@@ -80,14 +81,15 @@ outcome_at takes eager r ds old mid new took took' took'' totals told printed sh
 outcome_by : {A K : Type 0} (takes : K → Handed → K → Type 0) (eager : Bool) (r : Running)
     (ds : List (List ℕ)) (t : Run A) (old mid new : K) (took took' took'' : List ℕ)
     (totals : FollowTotals) → running_of t ≡ behind_all eager r ds
-    → Told takes old mid took took' (events_in eager r ds)
+    → TellsEvents takes old mid took took' (events_in eager r ds)
     → EndsStream takes t mid new took' took'' totals
     → Outcome takes eager r ds old new took took'' totals
 outcome_by takes eager r ds t old mid new took took' took'' totals is told ends =
     outcome_at takes eager r ds old mid new took took' took'' totals told
     (subst (λ (x : Running). took'' ≡ took' ++ (events_text (events_end x) ++ totals_text (ended x))) is
     ends.printed)
-    (subst (λ (x : Running). TakesAll takes mid (frames_of_events (events_end x)) new) is ends.shown)
+    (subst (λ (x : Running). TakesEachFrame takes mid (frames_of_events (events_end x)) new) is
+    ends.shown)
     (subst (λ (x : Running). totals ≡ totals_of (ended x)) is ends.totals_are)
 
 -- ---- the text
@@ -97,7 +99,8 @@ pub said_text : {A S : Type 0} (gave : S → List ℕ) (ended : S → Type 0)
     (ways : List (Result Flows Refusal)) (sdp : Option (List ℕ)) (first : List ℕ)
     (olds mids news : List (Side A S)) (octets : List (List ℕ)) (text : List ℕ)
     → AreOpened gave ended ways olds mids → IsFirstText first mids
-    → begun_each news ≡ begun_each mids → AllByRecursion (λ x. IsKnown gave ended x.file) news
+    → begun_each news ≡ begun_each mids
+    → AllByRecursion (λ x. HasKnownOctets gave ended x.file) news
     → AllZip (SideRead gave ended) (zip olds news) octets → said_behind sdp octets ≡ Some text
     → text_by sdp first ≡ text
 said_text gave ended ways (Some t) first olds mids news octets text opened is same known read said =
@@ -161,7 +164,7 @@ pub follows_whole : {A S K : Type 0} (gave : S → List ℕ) (ended : S → Type
     (took took' took'' : List ℕ) (totals : FollowTotals) → IsSourceText w.ssrc.now ssrc
     → HasBegun w ssrc (text_by sdp first) r → AreOpened gave ended ways olds mids
     → IsFirstText first mids → begun_each news ≡ begun_each mids
-    → AllByRecursion (λ x. IsKnown gave ended x.file) news → IsWindowSize w.frames
+    → AllByRecursion (λ x. HasKnownOctets gave ended x.file) news → IsWindowSize w.frames
     → AllByRecursion (λ x. IsReadByFlows x.file) news
     → FollowsEntries gave ended takes r t old mid took took' news
     → EndsStream takes t mid new took' took'' totals

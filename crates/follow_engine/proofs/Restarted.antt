@@ -11,10 +11,10 @@ use Rattle.following.specs.Turned.{answer_in, handed_all, handed_in, handed_whil
 use Rattle.following.specs.Turned.{turned}
 use Rattle.following.specs.declared.answer.Followed.{Followed}
 use Rattle.follow_engine.specs.Events.{Anew, Event, Running, anew, anew_with, behind, behind_all}
-use Rattle.follow_engine.specs.Events.{events_at, events_end, events_in, events_of}
-use Rattle.follow_engine.specs.Events.{frames_of_events, handed_by, is_anew, late_with, leaving}
-use Rattle.follow_engine.specs.Events.{running_from}
-use Rattle.follow_engine.specs.Events.{since_with, time_of, time_or_zero, turn_left, turn_taken}
+use Rattle.follow_engine.specs.Events.{datagram_time, events_at, events_end, events_in, events_of}
+use Rattle.follow_engine.specs.Events.{frame_of_event, frames_of_events, is_anew, late_with}
+use Rattle.follow_engine.specs.Events.{leaving, running_from, since_with, time_or_zero, turn_left}
+use Rattle.follow_engine.specs.Events.{turn_taken}
 use Rattle.follow_engine.specs.Plain.{NoneAnew}
 use Rattle.follow_engine.proofs.Turns.{stays_turned}
 use Rattle.follow_engine.proofs.Without.{follower_behind, frames_at, leaving_frames}
@@ -22,10 +22,10 @@ use Rattle.follow_engine.proofs.Without.{follower_behind, frames_at, leaving_fra
 -- ---- what leaves a follower, where only lost datagrams came since
 
 abbrev anew_at : Following → Option ℕ → List ℕ → Bool
-anew_at f since octets = anew_with f.most_ahead since (time_of octets) (answer_in f octets)
+anew_at f since octets = anew_with f.most_ahead since (datagram_time octets) (answer_in f octets)
 
 abbrev since_at : Following → Option ℕ → List ℕ → Option ℕ
-since_at f since octets = since_with f.most_ahead since (time_of octets) (answer_in f octets)
+since_at f since octets = since_with f.most_ahead since (datagram_time octets) (answer_in f octets)
 
 abbrev begun_again : Following → Following
 begun_again f = opened f.opening f.size f.most_ahead
@@ -50,10 +50,10 @@ turn_frames : (b : Bool) (es : List Event) (gs hs : List Handed) (late ts : ℕ)
     → frames_of_events es ≡ gs
     → frames_of_events (es ++ cond b (leaving late hs ++ Anew ts ∷ []) []) ≡ gs ++ cond b hs []
 turn_frames true es gs hs late ts e =
-    filter_map-append handed_by es (leaving late hs ++ Anew ts ∷ [])
+    filter_map-append frame_of_event es (leaving late hs ++ Anew ts ∷ [])
     ∙ ap (λ (l : List Handed). l ++ frames_of_events (leaving late hs ++ Anew ts ∷ [])) e
     ∙ ap (λ (l : List Handed). gs ++ l)
-    (filter_map-append handed_by (leaving late hs) (Anew ts ∷ [])
+    (filter_map-append frame_of_event (leaving late hs) (Anew ts ∷ [])
     ∙ append-nil (frames_of_events (leaving late hs)) ∙ leaving_frames late hs)
 turn_frames false es gs hs late ts e =
     ap frames_of_events (append-nil es) ∙ e ∙ sym (append-nil gs)
@@ -64,7 +64,7 @@ unfolding events_at
 frames_turn eager r octets =
     let t : Running = turn_taken eager r octets in
     turn_frames (is_anew r octets) (turn_left eager r octets) (handed_in eager r.follower octets)
-    (frames_in t.follower) t.late (time_or_zero (time_of octets))
+    (frames_in t.follower) t.late (time_or_zero (datagram_time octets))
     (leaving_frames (late_with r.late (answer_in r.follower octets))
     (handed_in eager r.follower octets))
 
@@ -99,7 +99,7 @@ first_frames eager r octets ds =
     ap frames_of_events
     (append_assoc (events_at eager r octets) (events_in eager s ds)
     (events_end (behind_all eager s ds)))
-    ∙ filter_map-append handed_by (events_at eager r octets) (events_of eager s ds)
+    ∙ filter_map-append frame_of_event (events_at eager r octets) (events_of eager s ds)
 
 all_frames : (eager : Bool) (r : Running) (ds : List (List ℕ))
     → frames_of_events (events_of eager r ds) ≡ left_in eager r.follower r.since ds
@@ -158,7 +158,8 @@ restarted eager r octets rest is =
     ∙ begun_turned eager r.follower octets)
     ∙ ap (λ (n : Option ℕ). left_in eager fresh n rest)
     (since_turn eager r octets
-    ∙ since_none r.follower.most_ahead r.since (time_of octets) (answer_in r.follower octets) is)
+    ∙ since_none r.follower.most_ahead r.since (datagram_time octets) (answer_in r.follower octets)
+    is)
     ∙ sym (all_frames eager (running_from fresh) rest)
 
 -- the datagram behind which it is

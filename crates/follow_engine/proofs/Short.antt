@@ -11,7 +11,7 @@ use Rattle.following.specs.Following.{Handed, frames_in}
 use Rattle.media_file.specs.Records.{Entry}
 use Rattle.path_receiver.specs.Opening.{Opening}
 use Rattle.path_receiver.specs.Took.{datagrams_since}
-use Rattle.recording_engines.specs.Files.{IsKnown}
+use Rattle.recording_engines.specs.Files.{HasKnownOctets}
 use Rattle.recording_engines.specs.Joining.{Strand}
 use Rattle.run_outcome.specs.Sources.{IsSourceText}
 use Rattle.run_outcome.specs.declared.refusal.Refusal.{Refusal}
@@ -20,13 +20,13 @@ use Rattle.side_by_side.specs.declared.side.Side.{Side}
 use Rattle.side_by_side.specs.declared.steering.Steering.{Steering}
 use Rattle.st_format.specs.declared.path.Path.{Path}
 use Rattle.follow_engine.specs.Events.{Event, Running, behind_all, ended, events_end, events_in}
-use Rattle.follow_engine.specs.Events.{events_of, frames_of_events, handed_by, leaving, run_end}
-use Rattle.follow_engine.specs.Events.{running_from}
+use Rattle.follow_engine.specs.Events.{events_of, frame_of_event, frames_of_events, leaving}
+use Rattle.follow_engine.specs.Events.{run_end, running_from}
 use Rattle.follow_engine.specs.Followed.{FollowsFirst, TellsPart, first_events, followed_events}
 use Rattle.follow_engine.specs.Followed.{followed_run}
 use Rattle.follow_engine.specs.Opened.{AreOpened, IsFirstText}
 use Rattle.follow_engine.specs.Order.{GoesFirst, datagrams_in, strands_by}
-use Rattle.follow_engine.specs.Running.{Finishes, TellsSome, Told, running_of, steering_of}
+use Rattle.follow_engine.specs.Running.{Finishes, TellsEvents, TellsSome, running_of, steering_of}
 use Rattle.follow_engine.specs.Shown.{GrowsSome, TakesSome}
 use Rattle.follow_engine.specs.Sides.{EndsSome, FollowsEntries, FollowsUpTo, HasBegun, SideRead}
 use Rattle.follow_engine.specs.Sides.{text_by}
@@ -44,7 +44,7 @@ use Rattle.follow_engine.proofs.Whole.{all_taken, datagrams_from}
 
 pub up_to : {A S : Type 0} (gave : S → List ℕ) (ended : S → Type 0) (source source' : Sides A S)
     (r : Run A) (sides : List (Side A S)) (Tells : List Event → Type 0) → IsSideBySide source'
-    → AllByRecursion (λ s. IsKnown gave ended s.file) source'.sides → source.came ≡ []
+    → AllByRecursion (λ s. HasKnownOctets gave ended s.file) source'.sides → source.came ≡ []
     → source'.steering ≡ r.steering → source'.sides ≡ sides
     → Tells (events_in r.is_eager (running_of r) (datagrams_since source.came source'.came))
     → FollowsUpTo gave ended r sides Tells
@@ -107,7 +107,7 @@ module _ {A S : Type 0} (gave : S → List ℕ) (ended_at : S → Type 0) (w : F
         → IsSourceText w.ssrc.now ssrc → (begun : HasBegun w ssrc (text_by sdp first) r)
         → AreOpened gave ended_at ways olds mids → IsFirstText first mids
         → begun_each news ≡ begun_each mids
-        → AllByRecursion (λ x. IsKnown gave ended_at x.file) news
+        → AllByRecursion (λ x. HasKnownOctets gave ended_at x.file) news
         → ((octets : List (List ℕ)) → AllZip (SideGave gave ended_at) news octets
         → GoesFirst r.steering (strands_of news octets) entries)
         → Tells begun.opens.opening entries
@@ -149,14 +149,14 @@ module _ {A S : Type 0} (gave : S → List ℕ) (ended_at : S → Type 0) (w : F
         → (begun : HasBegun w ssrc (text_by sdp first) r)
         → AreOpened gave ended_at ways olds mids → IsFirstText first mids
         → begun_each news ≡ begun_each mids
-        → AllByRecursion (λ x. IsKnown gave ended_at x.file) news
-        → FollowsUpTo gave ended_at r news (Told takes old new took took')
+        → AllByRecursion (λ x. HasKnownOctets gave ended_at x.file) news
+        → FollowsUpTo gave ended_at r news (TellsEvents takes old new took took')
         → FollowsFirst w sdp ways (SideRead gave ended_at) (zip olds news)
-        (λ o entries. Told takes old new took took' (first_events w o entries))
+        (λ o entries. TellsEvents takes old new took took' (first_events w o entries))
     follows_short takes old new took took' source begun opened_so is same known up =
-        follows_first (λ o entries. Told takes old new took took' (first_events w o entries))
+        follows_first (λ o entries. TellsEvents takes old new took took' (first_events w o entries))
         up.entries source begun opened_so is same known up.goes
-        (first_told (Told takes old new took took') up.entries begun up.told)
+        (first_told (TellsEvents takes old new took took') up.entries begun up.told)
 
     module _ {K : Type 0} (takes fails : K → Handed → K → Type 0) where
       part_first_told : (old new : K) (took took' : List ℕ) (o : Opening) (entries : List Entry)
@@ -179,7 +179,7 @@ module _ {A S : Type 0} (gave : S → List ℕ) (ended_at : S → Type 0) (w : F
           → (begun : HasBegun w ssrc (text_by sdp first) r)
           → AreOpened gave ended_at ways olds mids → IsFirstText first mids
           → begun_each news ≡ begun_each mids
-          → AllByRecursion (λ x. IsKnown gave ended_at x.file) news
+          → AllByRecursion (λ x. HasKnownOctets gave ended_at x.file) news
           → FollowsUpTo gave ended_at r news (TellsSome takes fails old new took took')
           → FollowsFirst w sdp ways (SideRead gave ended_at) (zip olds news)
           (TellsPart takes fails w old new took took')
@@ -200,7 +200,7 @@ pub record CutRun {K : Type 0} (takes fails : K → Handed → K → Type 0) (ea
 
 cut_at : {K : Type 0} (takes fails : K → Handed → K → Type 0) (eager : Bool) (r : Running)
     (ds : List (List ℕ)) (old mid new : K) (took took' took'' : List ℕ)
-    → Told takes old mid took took' (events_in eager r ds)
+    → TellsEvents takes old mid took took' (events_in eager r ds)
     → GrowsSome took' took'' (events_text (events_end (behind_all eager r ds))
     ++ totals_text (ended (behind_all eager r ds)))
     → TakesSome takes fails mid (frames_of_events (events_end (behind_all eager r ds))) new
@@ -218,14 +218,15 @@ cut_at takes fails eager r ds old mid new took took' took'' told printed shown =
           printed);
       shown =
           subst (λ (hs : List Handed). TakesSome takes fails old hs new)
-          (sym (filter_map-append handed_by es fs))
+          (sym (filter_map-append frame_of_event es fs))
           (some_then takes fails old mid new (frames_of_events es) (frames_of_events fs)
           told.shown shown);
     }
 
 cut_by : {A K : Type 0} (takes fails : K → Handed → K → Type 0) (eager : Bool) (r : Running)
     (ds : List (List ℕ)) (t : Run A) (old mid new : K) (took took' took'' : List ℕ)
-    → running_of t ≡ behind_all eager r ds → Told takes old mid took took' (events_in eager r ds)
+    → running_of t ≡ behind_all eager r ds
+    → TellsEvents takes old mid took took' (events_in eager r ds)
     → EndsSome takes fails t mid new took' took''
     → CutRun takes fails eager r ds old new took took''
 cut_by takes fails eager r ds t old mid new took took' took'' is told ends =
@@ -242,7 +243,7 @@ pub ends_part : {A S K : Type 0} (gave : S → List ℕ) (ended_at : S → Type 
     (took took' took'' : List ℕ) → IsSourceText w.ssrc.now ssrc
     → (begun : HasBegun w ssrc (text_by sdp first) r) → AreOpened gave ended_at ways olds mids
     → IsFirstText first mids → begun_each news ≡ begun_each mids
-    → AllByRecursion (λ x. IsKnown gave ended_at x.file) news
+    → AllByRecursion (λ x. HasKnownOctets gave ended_at x.file) news
     → FollowsEntries gave ended_at takes r t old mid took took' news
     → EndsSome takes fails t mid new took' took''
     → FollowsFirst w sdp ways (SideRead gave ended_at) (zip olds news)

@@ -9,7 +9,7 @@ use Rattle.capture_engines.specs.Received.{OneFileIs}
 use Rattle.media_file.specs.declared.fault.FileFault.TheVariants.{TooManyRecords}
 use Rattle.recording_engines.proofs.FileFaults.{of_file}
 use Rattle.recording_engines.proofs.Same.{no_more, same_head, same_tail}
-use Rattle.recording_engines.specs.Files.{IsAt, IsKnown, ended_by, gave_by}
+use Rattle.recording_engines.specs.Files.{HasKnownOctets, IsFailedAt, ended_by, gave_by}
 use Rattle.recording_engines.specs.Joining.{Strand}
 use Rattle.recording_engines.specs.declared.file.ImportFile.{ImportFile}
 use Rattle.recording_engines.specs.declared.file.ImportFile.TheVariants.{Closed, Open, Taken}
@@ -26,7 +26,7 @@ use Rattle.run_outcome.specs.declared.refusal.Refusal.TheVariants as refusal
 use Rattle.st_format.specs.History.{IsRead}
 use Rattle.side_by_side.specs.InOrder.{record_count}
 use Rattle.side_by_side.specs.Side.{Begun, begun_at}
-use Rattle.side_by_side.specs.Sides.{IsStopped, OneSideAt, begun_each}
+use Rattle.side_by_side.specs.Sides.{IsFaultOfFiles, OneSideAt, begun_each}
 use Rattle.side_by_side.specs.declared.side.Side.{Side}
 use Rattle.follow_engine.specs.Opened.{AreOpened, IsFirstText}
 use Rattle.follow_engine.specs.Order.{most_datagrams}
@@ -76,10 +76,10 @@ stops_by Memory reading sides count told at = tt
 -- a source stays at the fault of one
 pub stops_at : {A S : Type 0} (f : Fault) (at : Option ReadingFault) (reading : ReadingFault)
     (sides : List (Side A S)) (count : ℕ) → f ≡ fault_in at → at ≡ Some reading
-    → IsStopped at sides → OfRefusal f (StopsFollowing count sides)
+    → IsFaultOfFiles at sides → OfRefusal f (StopsFollowing count sides)
 stops_at f at reading sides count told stays stopped =
     stops_by f reading sides count (told ∙ ap fault_in stays)
-    (subst (λ (x : Option ReadingFault). IsStopped x sides) stays stopped)
+    (subst (λ (x : Option ReadingFault). IsFaultOfFiles x sides) stays stopped)
 
 fault_reader : {S : Type 0} (gave : S → List ℕ) (ended : S → Type 0) (b : Begun)
     (octets : List ℕ) (r : FileReader S) (f : ReadingFault) (why : Refusal)
@@ -100,7 +100,8 @@ fault_reader gave ended b octets r f why begun known at told read =
 
 fault_file : {A S : Type 0} (gave : S → List ℕ) (ended : S → Type 0) (b : Begun)
     (octets : List ℕ) (file : ImportFile A S) (f : ReadingFault) (why : Refusal)
-    → begun_at file ≡ Some b → IsKnown gave ended file → IsAt f file → reading_fault f ≡ Refused why
+    → begun_at file ≡ Some b → HasKnownOctets gave ended file → IsFailedAt f file
+    → reading_fault f ≡ Refused why
     → IsRead b.before (gave_by gave file) (ended_by ended file) octets → IsFileFault f octets
 fault_file gave ended b octets (Closed s) f why begun known at told read = absurd at
 fault_file gave ended b octets (Open r) f why begun known at told read =
@@ -110,7 +111,7 @@ fault_file gave ended b octets Taken f why begun known at told read = absurd at
 one_stops : {A S : Type 0} (gave : S → List ℕ) (ended : S → Type 0)
     (ways : List (Result Flows Refusal)) (olds mids news : List (Side A S)) (f : ReadingFault)
     (r : Refusal) → AreOpened gave ended ways olds mids → begun_each news ≡ begun_each mids
-    → AllByRecursion (λ x. IsKnown gave ended x.file) news → reading_fault f ≡ Refused r
+    → AllByRecursion (λ x. HasKnownOctets gave ended x.file) news → reading_fault f ≡ Refused r
     → OneSideAt f news
     → OneFileIs (λ w s. IsFileRefusal (SideRead gave ended s) r) ways (zip olds news)
 one_stops gave ended ways olds mids [] f r opened same known told at = absurd at
@@ -133,7 +134,7 @@ one_stops gave ended ways (x ∷ xs) (m ∷ ms) (n ∷ ns) f r opened same known
 pub stops_files : {A S : Type 0} (gave : S → List ℕ) (ended : S → Type 0)
     (ways : List (Result Flows Refusal)) (olds mids news : List (Side A S)) (r : Refusal)
     → AreOpened gave ended ways olds mids → begun_each news ≡ begun_each mids
-    → AllByRecursion (λ x. IsKnown gave ended x.file) news → StopsRead gave ended news r
+    → AllByRecursion (λ x. HasKnownOctets gave ended x.file) news → StopsRead gave ended news r
     → OneFileIs (λ w s. IsFileRefusal (SideRead gave ended s) r) ways (zip olds news)
     ⊎ ((r ≡ refusal.Capture TooManyRecords)
     × AreTooMany ways (SideRead gave ended) (zip olds news))

@@ -20,9 +20,10 @@ use Rattle.following.specs.declared.standing.Standing.TheVariants.{Beyond, Insid
 use Rattle.following.specs.declared.standing.Standing.TheVariants.{Nowhere}
 use Rattle.follow_engine.specs.Events.{Anew, Event, IsAnewAt, Running, anew, anew_with, answered}
 use Rattle.follow_engine.specs.Events.{behind, behind_all, events_at, events_in, is_anew}
-use Rattle.follow_engine.specs.Events.{late_with, leaving, noted_by, time_of, time_or_zero}
+use Rattle.follow_engine.specs.Events.{datagram_time, late_with, leaving, noted_by, time_or_zero}
 use Rattle.follow_engine.specs.Events.{turn_left, turn_taken, without}
-use Rattle.follow_engine.specs.Running.{IsRun, LeavesWith, TakesTurn, TellsTurn, Told, steering_of}
+use Rattle.follow_engine.specs.Running.{FollowsDatagram, IsSoundRun, LeavesWith, TellsEvents}
+use Rattle.follow_engine.specs.Running.{TellsDatagram, steering_of}
 use Rattle.follow_engine.specs.declared.running.Run.{Run}
 use Rattle.follow_engine.proofs.Parts.{behind_more, events_more}
 use Rattle.follow_engine.proofs.Tells.{told_both, told_none}
@@ -119,10 +120,11 @@ none_anew bound since (Some ts) answer is = at (is_restart bound since ts answer
     at true ts is = absurd cc
     at false ts is = refl
 
-pub not_anew : (r : Running) (octets : List ℕ) → IsAnewAt (is_anew r octets) (time_of octets) None
+pub not_anew : (r : Running) (octets : List ℕ)
+    → IsAnewAt (is_anew r octets) (datagram_time octets) None
     → is_anew r octets ≡ false
 not_anew r octets is =
-    none_anew r.follower.most_ahead r.since (time_of octets) (answer_in r.follower octets) is
+    none_anew r.follower.most_ahead r.since (datagram_time octets) (answer_in r.follower octets) is
 
 -- that it is, and from when on
 pub some_anew : (b : Bool) (time : Option ℕ) (ts : ℕ) → IsAnewAt b time (Some ts)
@@ -146,12 +148,12 @@ pub turn_told : {K : Type 0} (takes : K → Handed → K → Type 0) (eager : Bo
     (t : Following) (hs : List Handed) (old new : K) (took took' : List ℕ)
     → bound ≡ r.follower.most_ahead → t ≡ turned eager r.follower octets
     → answer ≡ answer_in r.follower octets → hs ≡ handed_in eager r.follower octets
-    → n ≡ noted_by bound (record r { follower = t }) (time_of octets) answer
+    → n ≡ noted_by bound (record r { follower = t }) (datagram_time octets) answer
     → LeavesWith takes n r' hs old new took took'
-    → TellsTurn takes eager r r' octets old new took took'
+    → TellsDatagram takes eager r r' octets old new took took'
 turn_told takes eager r n r' octets bound answer t hs old new took took' at is answered_so handed noted
     left =
-    let time : Option ℕ = time_of octets in
+    let time : Option ℕ = datagram_time octets in
     let a : Result Followed Refusal = answer_in r.follower octets in
     let gone : List Handed = handed_in eager r.follower octets in
     record {
@@ -162,7 +164,7 @@ turn_told takes eager r n r' octets bound answer t hs old new took took' at is a
           ∙ ap (λ (l : List Handed). without (answered r time a) l t) handed
           ∙ ap (λ (x : Following). without (answered r time a) gone x) is;
       told =
-          subst (λ (es : List Event). Told takes old new took took' es)
+          subst (λ (es : List Event). TellsEvents takes old new took took' es)
           (ap (λ (x : Running). leaving x.late hs) noted
           ∙ ap (λ (x : Result Followed Refusal). leaving (late_with r.late x) hs) answered_so
           ∙ ap (λ (l : List Handed). leaving (late_with r.late a) l) handed) left.told;
@@ -171,18 +173,20 @@ turn_told takes eager r n r' octets bound answer t hs old new took took' at is a
 -- so it is told whether it is followed anew
 pub anew_told : (r : Running) (octets : List ℕ) (bound : ℕ) (answer : Result Followed Refusal)
     (told : Option ℕ) → bound ≡ r.follower.most_ahead → answer ≡ answer_in r.follower octets
-    → IsAnewAt (anew_with bound r.since (time_of octets) answer) (time_of octets) told
-    → IsAnewAt (is_anew r octets) (time_of octets) told
+    → IsAnewAt (anew_with bound r.since (datagram_time octets) answer) (datagram_time octets) told
+    → IsAnewAt (is_anew r octets) (datagram_time octets) told
 anew_told r octets bound answer told at answered_so is =
     subst (λ (x : Result Followed Refusal). IsAnewAt
-    (anew_with r.follower.most_ahead r.since (time_of octets) x) (time_of octets) told) answered_so
-    (subst (λ (n : ℕ). IsAnewAt (anew_with n r.since (time_of octets) answer) (time_of octets) told)
+    (anew_with r.follower.most_ahead r.since (datagram_time octets) x) (datagram_time octets) told)
+    answered_so
+    (subst (λ (n : ℕ). IsAnewAt (anew_with n r.since (datagram_time octets) answer)
+    (datagram_time octets) told)
     at is)
 
 -- what is always so of a stream is so of one whose follower stays as it is
-run_stays : {A : Type 0} (was run : Run A) → IsRun was → StaysAs was.follower run.follower
+run_stays : {A : Type 0} (was run : Run A) → IsSoundRun was → StaysAs was.follower run.follower
     → IsFollower run.follower → run.frame.format ≡ run.follower.opening.format
-    → run.restarts.bound ≡ was.restarts.bound → run.steering ≡ was.steering → IsRun run
+    → run.restarts.bound ≡ was.restarts.bound → run.steering ≡ was.steering → IsSoundRun run
 run_stays was run is stays follower format bound steering = record {
   follower = follower;
   format = format;
@@ -191,20 +195,20 @@ run_stays was run is stays follower format bound steering = record {
 }
 
 -- so it is behind a turn
-pub run_turned : {A : Type 0} (was run : Run A) (eager : Bool) (octets : List ℕ) → IsRun was
+pub run_turned : {A : Type 0} (was run : Run A) (eager : Bool) (octets : List ℕ) → IsSoundRun was
     → run.follower ≡ turned eager was.follower octets → IsFollower run.follower
     → run.frame.format ≡ run.follower.opening.format → run.restarts.bound ≡ was.restarts.bound
-    → run.steering ≡ was.steering → IsRun run
+    → run.steering ≡ was.steering → IsSoundRun run
 run_turned was run eager octets is turn follower format bound steering =
     run_stays was run is
     (subst (λ (t : Following). StaysAs was.follower t) (sym turn)
     (stays_turned eager was.follower octets)) follower format bound steering
 
 -- and where the oldest frame left
-pub run_oldest : {A : Type 0} (was run : Run A) → IsRun was
+pub run_oldest : {A : Type 0} (was run : Run A) → IsSoundRun was
     → run.follower ≡ without_oldest was.follower → IsFollower run.follower
     → run.frame.format ≡ run.follower.opening.format → run.restarts.bound ≡ was.restarts.bound
-    → run.steering ≡ was.steering → IsRun run
+    → run.steering ≡ was.steering → IsSoundRun run
 run_oldest was run is gone follower format bound steering =
     run_stays was run is
     (subst (λ (t : Following). StaysAs was.follower t) (sym gone) (stays_oldest was.follower))
@@ -213,35 +217,35 @@ run_oldest was run is gone follower format bound steering =
 -- behind which the stream isn't followed anew
 pub turn_plain : {K : Type 0} (takes : K → Handed → K → Type 0) (eager : Bool)
     (r r' : Running) (octets : List ℕ) (old new : K) (took took' : List ℕ)
-    → is_anew r octets ≡ false → TellsTurn takes eager r r' octets old new took took'
-    → TakesTurn takes eager r r' octets old new took took'
+    → is_anew r octets ≡ false → TellsDatagram takes eager r r' octets old new took took'
+    → FollowsDatagram takes eager r r' octets old new took took'
 unfolding behind events_at
 turn_plain takes eager r r' octets old new took took' is turn =
     let t : Running = turn_taken eager r octets in
     let es : List Event = turn_left eager r octets in
     let fs : List Event =
-    leaving t.late (frames_in t.follower) ++ Anew (time_or_zero (time_of octets)) ∷ [] in
+    leaving t.late (frames_in t.follower) ++ Anew (time_or_zero (datagram_time octets)) ∷ [] in
     record {
       running = turn.running ∙ ap (λ (x : Bool). cond x (anew t) t) (sym is);
       told =
-          subst (λ (l : List Event). Told takes old new took took' l)
+          subst (λ (l : List Event). TellsEvents takes old new took took' l)
           (sym (append-nil es) ∙ ap (λ (x : Bool). es ++ cond x fs []) (sym is)) turn.told;
     }
 
 -- and behind which it is
 pub turn_anew : {K : Type 0} (takes : K → Handed → K → Type 0) (eager : Bool)
     (r r' r'' : Running) (octets : List ℕ) (ts : ℕ) (old mid new : K)
-    (took took' took'' : List ℕ) → is_anew r octets ≡ true → time_of octets ≡ Some ts
-    → TellsTurn takes eager r r' octets old mid took took' → r'' ≡ anew r'
-    → Told takes mid new took' took''
+    (took took' took'' : List ℕ) → is_anew r octets ≡ true → datagram_time octets ≡ Some ts
+    → TellsDatagram takes eager r r' octets old mid took took' → r'' ≡ anew r'
+    → TellsEvents takes mid new took' took''
     (leaving r'.late (frames_in r'.follower) ++ Anew ts ∷ [])
-    → TakesTurn takes eager r r'' octets old new took took''
+    → FollowsDatagram takes eager r r'' octets old new took took''
 unfolding behind events_at
 turn_anew takes eager r r' r'' octets ts old mid new took took' took'' is at turn begun more =
     let t : Running = turn_taken eager r octets in
     let es : List Event = turn_left eager r octets in
     let fs : List Event =
-    leaving t.late (frames_in t.follower) ++ Anew (time_or_zero (time_of octets)) ∷ [] in
+    leaving t.late (frames_in t.follower) ++ Anew (time_or_zero (datagram_time octets)) ∷ [] in
     let gs : List Event = leaving r'.late (frames_in r'.follower) ++ Anew ts ∷ [] in
     let ends : gs ≡ fs =
     ap (λ (x : Running). leaving x.late (frames_in x.follower) ++ Anew ts ∷ []) turn.running
@@ -250,7 +254,7 @@ turn_anew takes eager r r' r'' octets ts old mid new took took' took'' is at tur
     record {
       running = begun ∙ ap anew turn.running ∙ ap (λ (x : Bool). cond x (anew t) t) (sym is);
       told =
-          subst (λ (l : List Event). Told takes old new took took'' l)
+          subst (λ (l : List Event). TellsEvents takes old new took took'' l)
           (ap (λ (l : List Event). es ++ l) ends
           ∙ ap (λ (x : Bool). es ++ cond x fs []) (sym is))
           (told_both takes old mid new took took' took'' es gs turn.told more);
@@ -279,7 +283,7 @@ pub record FollowedSo {K : Type 0} (takes : K → Handed → K → Type 0) (eage
   pub rest : List (Path × List ℕ)
   pub came : now ≡ before ++ rest
   pub running : r' ≡ behind_all eager r (datagrams_since before now)
-  pub told : Told takes old new took took' (events_in eager r (datagrams_since before now))
+  pub told : TellsEvents takes old new took took' (events_in eager r (datagrams_since before now))
 
 pub so_begun : {K : Type 0} (takes : K → Handed → K → Type 0) (eager : Bool)
     (before : List (Path × List ℕ)) (r : Running) (k : K) (took : List ℕ)
@@ -292,7 +296,8 @@ so_begun takes eager before r k took =
       came = sym (append-nil before);
       running = ap (behind_all eager r) none;
       told =
-          subst (λ (ds : List (List ℕ)). Told takes k k took took (events_in eager r ds)) none
+          subst (λ (ds : List (List ℕ)). TellsEvents takes k k took took (events_in eager r ds))
+          none
           (told_none takes k took);
     }
 
@@ -327,7 +332,7 @@ pub so_datagram : {K : Type 0} (takes : K → Handed → K → Type 0) (eager : 
     (took took' took'' : List ℕ) (path : Path) (octets : List ℕ)
     → FollowedSo takes eager before now r r' old mid took took'
     → then ≡ now ++ (path, octets) ∷ []
-    → TakesTurn takes eager r' r'' octets mid new took' took''
+    → FollowsDatagram takes eager r' r'' octets mid new took' took''
     → FollowedSo takes eager before then r r'' old new took took''
 so_datagram takes eager before now then r r' r'' old mid new took took' took'' path octets so comes
     turn =
@@ -341,7 +346,7 @@ so_datagram takes eager before now then r r' r'' old mid new took took' took'' p
           turn.running ∙ ap (λ (x : Running). behind eager x octets) so.running
           ∙ sym (behind_more eager r ds octets) ∙ ap (behind_all eager r) (sym more);
       told =
-          subst (λ (es : List Event). Told takes old new took took'' es)
+          subst (λ (es : List Event). TellsEvents takes old new took took'' es)
           (ap (λ (x : Running). events_in eager r ds ++ events_at eager x octets) so.running
           ∙ sym (events_more eager r ds octets) ∙ ap (events_in eager r) (sym more))
           (told_both takes old mid new took took' took'' (events_in eager r ds)

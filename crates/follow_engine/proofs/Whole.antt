@@ -8,7 +8,7 @@ use Rattle.flow.specs.declared.flows.Flows.{Flows}
 use Rattle.capture_engines.specs.Files.{first_way, flows_in, other_ways}
 use Rattle.media_file.specs.Records.{Entry}
 use Rattle.recording_engines.proofs.Same.{no_less, no_more, same_head, same_tail}
-use Rattle.recording_engines.specs.Files.{IsKnown, IsReadByFlows, ended_by, gave_by}
+use Rattle.recording_engines.specs.Files.{HasKnownOctets, IsReadByFlows, ended_by, gave_by}
 use Rattle.recording_engines.specs.Joining.{Strand}
 use Rattle.recording_engines.specs.Strands.{IsTakenBy, strand_in}
 use Rattle.recording_engines.specs.declared.file.ImportFile.{ImportFile}
@@ -97,7 +97,7 @@ all_taken gave ended ways (x ∷ xs) (m ∷ ms) (n ∷ ns) (o ∷ os) opened sam
 
 -- what was read of a file is taken by its flows
 taken_by_file : {A S : Type 0} (gave : S → List ℕ) (ended : S → Type 0) (b : Begun)
-    (octets : List ℕ) (f : ImportFile A S) → begun_at f ≡ Some b → IsKnown gave ended f
+    (octets : List ℕ) (f : ImportFile A S) → begun_at f ≡ Some b → HasKnownOctets gave ended f
     → IsReadByFlows f → IsRead b.before (gave_by gave f) (ended_by ended f) octets
     → IsTakenBy b.flows octets
 taken_by_file gave ended b octets (Closed s) begun known kind read = absurd cc
@@ -115,7 +115,7 @@ pub taken_by : {A S : Type 0} (gave : S → List ℕ) (ended : S → Type 0)
     (ways : List (Result Flows Refusal)) (olds mids news : List (Side A S))
     (octets : List (List ℕ)) → AreOpened gave ended ways olds mids
     → begun_each news ≡ begun_each mids
-    → AllByRecursion (λ x. IsKnown gave ended x.file) news
+    → AllByRecursion (λ x. HasKnownOctets gave ended x.file) news
     → AllByRecursion (λ x. IsReadByFlows x.file) news
     → AllZip (SideRead gave ended) (zip olds news) octets → AreTakenBy ways octets
 taken_by gave ended ways [] [] [] [] opened same known kind read = tt
@@ -139,7 +139,7 @@ taken_by gave ended ways (x ∷ xs) (m ∷ ms) (n ∷ ns) (o ∷ os) opened same
 
 -- the text by which a file was begun is that of its octets
 text_file : {A S : Type 0} (gave : S → List ℕ) (ended : S → Type 0) (b : Begun) (octets : List ℕ)
-    (f : ImportFile A S) → begun_at f ≡ Some b → IsKnown gave ended f
+    (f : ImportFile A S) → begun_at f ≡ Some b → HasKnownOctets gave ended f
     → IsRead b.before (gave_by gave f) (ended_by ended f) octets → text_of_file octets ≡ b.text
 text_file gave ended b octets (Closed s) begun known read = absurd cc
 text_file gave ended b octets (Open r) begun known read =
@@ -157,7 +157,8 @@ text_by_text b c is = let same : b ≡ c = cc in ap (λ (x : Begun). x.text) sam
 pub first_said : {A S : Type 0} (gave : S → List ℕ) (ended : S → Type 0)
     (ways : List (Result Flows Refusal)) (text o : List ℕ) (x m n : Side A S)
     (xs ms ns : List (Side A S)) → AreOpened gave ended ways (x ∷ xs) (m ∷ ms)
-    → begun_at n.file ≡ begun_at m.file → IsFirstText text (m ∷ ms) → IsKnown gave ended n.file
+    → begun_at n.file ≡ begun_at m.file → IsFirstText text (m ∷ ms)
+    → HasKnownOctets gave ended n.file
     → SideRead gave ended (x, n) o → text_of_file o ≡ text
 first_said gave ended ways text o x m n xs ms ns opened same first known read =
     let b : Begun = begun_by (flows_in (first_way ways)) (gave_by gave x.file) opened.0.text in

@@ -7,9 +7,9 @@ use Rattle.following.specs.Following.{Handed, frames_in}
 use Rattle.following.specs.Turned.{answer_in, handed_all, handed_in, handed_while, state_behind}
 use Rattle.following.specs.Turned.{turned}
 use Rattle.follow_engine.specs.Events.{Anew, Event, Running, anew, behind, behind_all}
-use Rattle.follow_engine.specs.Events.{events_at, events_end, events_in, events_of}
-use Rattle.follow_engine.specs.Events.{frames_of_events, handed_by, is_anew, late_with, leaving}
-use Rattle.follow_engine.specs.Events.{time_of, time_or_zero, turn_left, turn_taken}
+use Rattle.follow_engine.specs.Events.{datagram_time, events_at, events_end, events_in, events_of}
+use Rattle.follow_engine.specs.Events.{frame_of_event, frames_of_events, is_anew, late_with}
+use Rattle.follow_engine.specs.Events.{leaving, time_or_zero, turn_left, turn_taken}
 use Rattle.follow_engine.specs.Plain.{NoneAnew}
 
 pub leaving_frames : (late : ℕ) (hs : List Handed) → frames_of_events (leaving late hs) ≡ hs
@@ -42,7 +42,7 @@ unfolding events_at
 frames_at eager r octets is =
     ap frames_of_events (plain_events (is_anew r octets) (turn_left eager r octets)
     (leaving (turn_taken eager r octets).late (frames_in (turn_taken eager r octets).follower)
-    ++ Anew (time_or_zero (time_of octets)) ∷ []) is)
+    ++ Anew (time_or_zero (datagram_time octets)) ∷ []) is)
     ∙ leaving_frames (late_with r.late (answer_in r.follower octets))
     (handed_in eager r.follower octets)
 
@@ -50,7 +50,7 @@ frames_while : (eager : Bool) (r : Running) (ds : List (List ℕ)) → NoneAnew 
     → frames_of_events (events_in eager r ds) ≡ handed_while eager r.follower ds
 frames_while eager r [] none = refl
 frames_while eager r (octets ∷ ds) none =
-    filter_map-append handed_by (events_at eager r octets)
+    filter_map-append frame_of_event (events_at eager r octets)
     (events_in eager (behind eager r octets) ds)
     ∙ ap (λ (l : List Handed). l ++ frames_of_events (events_in eager (behind eager r octets) ds))
     (frames_at eager r octets none.0)
@@ -69,7 +69,7 @@ follower_while eager r (octets ∷ ds) none =
 pub plain_frames : (eager : Bool) (r : Running) (ds : List (List ℕ)) → NoneAnew eager r ds
     → frames_of_events (events_of eager r ds) ≡ handed_all eager r.follower ds
 plain_frames eager r ds none =
-    filter_map-append handed_by (events_in eager r ds) (events_end (behind_all eager r ds))
+    filter_map-append frame_of_event (events_in eager r ds) (events_end (behind_all eager r ds))
     ∙ ap (λ (l : List Handed). l ++ frames_of_events (events_end (behind_all eager r ds)))
     (frames_while eager r ds none)
     ∙ ap (λ (l : List Handed). handed_while eager r.follower ds ++ l)

@@ -56,8 +56,8 @@ header_time (Ok rtp) = Some rtp.timestamp
 header_time (Err e) = None
 
 -- the timestamp of a datagram, where its header is one (RFC 3550, 5.1)
-abbrev pub time_of : List ℕ → Option ℕ
-time_of octets = header_time (rtp_walk octets)
+abbrev pub datagram_time : List ℕ → Option ℕ
+datagram_time octets = header_time (rtp_walk octets)
 
 -- how many datagrams came late, with one more that is answered so
 abbrev pub late_with : ℕ → Result Followed Refusal → ℕ
@@ -144,7 +144,7 @@ anew r = record (without r (frames_in r.follower)
 -- a datagram was answered, and the frame left that is due or may go early
 abbrev pub turn_taken : Bool → Running → List ℕ → Running
 turn_taken eager r octets =
-    without (answered r (time_of octets) (answer_in r.follower octets))
+    without (answered r (datagram_time octets) (answer_in r.follower octets))
     (handed_in eager r.follower octets) (turned eager r.follower octets)
 
 -- the frame that leaves by a datagram, if one does
@@ -155,7 +155,7 @@ turn_left eager r octets =
 -- the stream is followed anew behind it
 abbrev pub is_anew : Running → List ℕ → Bool
 is_anew r octets =
-    anew_with r.follower.most_ahead r.since (time_of octets) (answer_in r.follower octets)
+    anew_with r.follower.most_ahead r.since (datagram_time octets) (answer_in r.follower octets)
 
 -- a timestamp, or 0 where there is none
 abbrev pub time_or_zero : Option ℕ → ℕ
@@ -172,7 +172,7 @@ unfoldable pub events_at : Bool → Running → List ℕ → List Event
 events_at eager r octets =
     turn_left eager r octets ++ (if is_anew r octets then
     leaving (turn_taken eager r octets).late (frames_in (turn_taken eager r octets).follower)
-    ++ Anew (time_or_zero (time_of octets)) ∷ [] else [])
+    ++ Anew (time_or_zero (datagram_time octets)) ∷ [] else [])
 
 -- ---- a stream
 
@@ -206,10 +206,10 @@ run_end eager r ds = ended (behind_all eager r ds)
 -- ---- what is seen of it
 
 -- the frame that left, where one did
-abbrev pub handed_by : Event → Option Handed
-handed_by (Left h late) = Some h
-handed_by (Anew timestamp) = None
+abbrev pub frame_of_event : Event → Option Handed
+frame_of_event (Left h late) = Some h
+frame_of_event (Anew timestamp) = None
 
 -- the frames that left, in the order in which they did
 abbrev pub frames_of_events : List Event → List Handed
-frames_of_events events = filter_map handed_by events
+frames_of_events events = filter_map frame_of_event events

@@ -15,8 +15,8 @@ use Rattle.follow_engine.specs.Events.{Event, Running, events_in, events_of, fra
 use Rattle.follow_engine.specs.Events.{run_end, running_from}
 use Rattle.follow_engine.specs.Order.{AreTakenBy, GoesFirst, datagrams_in, most_datagrams}
 use Rattle.follow_engine.specs.Order.{strands_by}
-use Rattle.follow_engine.specs.Running.{Told, steering_of}
-use Rattle.follow_engine.specs.Shown.{GrowsSome, TakesAll, TakesSome}
+use Rattle.follow_engine.specs.Running.{TellsEvents, steering_of}
+use Rattle.follow_engine.specs.Shown.{GrowsSome, TakesEachFrame, TakesSome}
 use Rattle.follow_engine.specs.Telling.{events_text, totals_of, totals_text}
 use Rattle.follow_engine.specs.declared.opening.FollowAsked.{FollowAsked}
 use Rattle.follow_engine.specs.declared.telling.FollowTotals.{FollowTotals}
@@ -59,7 +59,7 @@ pub record FollowsWhole {S K : Type 0} (w : FollowAsked) (sdp : Option (List ℕ
   pub few : length entries < most_datagrams
   pub printed : took' ≡ took ++ (events_text (followed_events w opening entries)
       ++ totals_text (followed_run w opening entries))
-  pub shown : TakesAll takes old (frames_of_events (followed_events w opening entries)) new
+  pub shown : TakesEachFrame takes old (frames_of_events (followed_events w opening entries)) new
   pub told_totals : totals ≡ totals_of (followed_run w opening entries)
 
 -- ---- a run that ends by a fault
@@ -86,7 +86,7 @@ abbrev pub StopsShort : {S K : Type 0} → FollowAsked → Option (List ℕ)
     → (K → Handed → K → Type 0) → K → K → List ℕ → List ℕ → Type 0
 StopsShort w sdp ways told files takes old new took took' =
     ((new ≡ old) × (took' ≡ took)) ⊎ FollowsFirst w sdp ways told files
-    (λ o entries. Told takes old new took took' (first_events w o entries))
+    (λ o entries. TellsEvents takes old new took took' (first_events w o entries))
 
 -- A device failed, or memory was wanted: of what a run prints and shows that ends behind some
 -- record there is a first part.

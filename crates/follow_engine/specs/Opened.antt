@@ -7,7 +7,7 @@ use Rattle.capture_engines.specs.Received.{OneFileIs, StopsFile}
 use Rattle.capture_engines.specs.Taking.{AnnouncesStream}
 use Rattle.following.specs.Follower.{opened}
 use Rattle.path_receiver.specs.Opening.{Opening}
-use Rattle.recording_engines.specs.Files.{IsClosed, IsKnown, ended_by, gave_by}
+use Rattle.recording_engines.specs.Files.{HasKnownOctets, IsClosed, ended_by, gave_by}
 use Rattle.run_outcome.specs.declared.refusal.Refusal.{Refusal}
 use Rattle.side_by_side.specs.Side.{IsNewSide}
 use Rattle.side_by_side.specs.declared.side.Side.{Side}
@@ -35,7 +35,7 @@ pub record IsOpenedBy {A S : Type 0} (gave : S → List ℕ) (ended : S → Type
     (flows : Option Flows) (before : List ℕ) (s : Side A S) : Type 0 where
   pub text : List ℕ
   pub is : IsNewSide flows before text s
-  pub known : IsKnown gave ended s.file
+  pub known : HasKnownOctets gave ended s.file
 
 -- each was opened as it is taken, and nothing was read behind its text
 abbrev pub AreOpened : {A S : Type 0} → (S → List ℕ) → (S → Type 0)

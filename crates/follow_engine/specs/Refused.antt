@@ -10,13 +10,11 @@ use Rattle.path_receiver.specs.declared.fault.OpenFault.TheVariants as open_faul
 use Rattle.recording_reader.specs.Files.{IsFileFault, text_of_file}
 use Rattle.recording_reader.specs.declared.fault.ReadingFault.{ReadingFault}
 use Rattle.run_outcome.specs.Sources.{IsSourceText}
+use Rattle.run_outcome.specs.TextRefusals.{IsDescriptionRefusal}
 use Rattle.run_outcome.specs.declared.fault.Fault.{Fault}
 use Rattle.run_outcome.specs.declared.fault.Fault.TheVariants.{Device, Refused}
 use Rattle.run_outcome.specs.declared.refusal.Refusal.{Refusal}
 use Rattle.run_outcome.specs.declared.refusal.Refusal.TheVariants as refusal
-use Rattle.sdp_format.specs.Bytes.{lines}
-use Rattle.sdp_format.specs.Grammar.{IsTextFault}
-use Rattle.sdp_format.specs.Sections.{video_sections}
 use Rattle.side_by_side.specs.InOrder.{record_count}
 use Rattle.side_by_side.specs.Sides.{OneSideAt, SideGave, strands_of}
 use Rattle.side_by_side.specs.declared.side.Side.{Side}
@@ -34,15 +32,10 @@ IsWordRefusal frames ssrc r = ⊥
 
 -- ---- the SDP text
 
--- the refusals of a text: of what it says
-abbrev pub IsOpeningRefusal : List ℕ → Refusal → Type 0
-IsOpeningRefusal text (refusal.Sdp at) = IsTextFault (video_sections (lines text)) at.fault
-IsOpeningRefusal text r = ⊥
-
--- of the first file's, where none is given: that it has none, too
+-- the refusals of the first file's, where none is given: that it has none, or of what it says
 abbrev pub IsFirstRefusal : List ℕ → Refusal → Type 0
 IsFirstRefusal text r = ((r ≡ refusal.ReceiveNoSdp) × (text ≡ []))
-    ⊎ ((text ≡ [] → ⊥) × IsOpeningRefusal text r)
+    ⊎ ((text ≡ [] → ⊥) × IsDescriptionRefusal text r)
 
 -- so of the first of some files, by what it told; there may be none
 abbrev pub FirstRefuses : {S : Type 0} → (S → List ℕ → Type 0) → List S → Refusal → Type 0
@@ -92,7 +85,7 @@ AreTooMany ways told files = (octets : List (List ℕ)) → AllZip told files oc
 abbrev pub IsFollowRefusal : {S : Type 0} → ℕ → List ℕ → Option (List ℕ)
     → List (Result Flows Refusal) → (S → List ℕ → Type 0) → List S → Refusal → Type 0
 IsFollowRefusal frames ssrc sdp ways told files r = IsWordRefusal frames ssrc r
-    ⊎ (MatchOption sdp ⊥ (λ text. IsOpeningRefusal text r)
+    ⊎ (MatchOption sdp ⊥ (λ text. IsDescriptionRefusal text r)
     ⊎ (OneFileIs (λ w s. StopsFile w (told s) r) ways files
     ⊎ (MatchOption sdp (FirstRefuses told files r) (λ _. ⊥)
     ⊎ (OneFileIs (λ w s. IsFileRefusal (told s) r) ways files

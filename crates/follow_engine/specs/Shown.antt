@@ -3,9 +3,10 @@ use Rattle.std.specs.Prelude.{◌≡◌, ◌⊎◌, ℕ, List, [], ◌∷◌, �
 use Rattle.following.specs.Following.{Handed}
 
 -- a sink took frames, one after the other
-abbrev pub TakesAll : {K : Type 0} → (K → Handed → K → Type 0) → K → List Handed → K → Type 0
-TakesAll takes old [] new = new ≡ old
-TakesAll takes old (h ∷ hs) new = (mid : _) × takes old h mid × TakesAll takes mid hs new
+abbrev pub TakesEachFrame : {K : Type 0} → (K → Handed → K → Type 0) → K → List Handed → K → Type 0
+TakesEachFrame takes old [] new = new ≡ old
+TakesEachFrame takes old (h ∷ hs) new =
+    (mid : _) × takes old h mid × TakesEachFrame takes mid hs new
 
 -- a sink that may be none took a frame: where there is none it stays so
 abbrev pub TakesIn : {K : Type 0} → (K → Handed → K → Type 0) → Option K → Handed → Option K
@@ -41,5 +42,5 @@ pub record TakesSome {K : Type 0} (takes fails : K → Handed → K → Type 0) 
   pub rest : List Handed
   pub parts : frames ≡ shown ++ rest
   pub mid : K
-  pub taken : TakesAll takes old shown mid
+  pub taken : TakesEachFrame takes old shown mid
   pub cut : IsCutAt fails mid rest new

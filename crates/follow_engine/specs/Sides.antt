@@ -14,8 +14,8 @@ use Rattle.follow_engine.specs.Events.{Event, behind_all, ended, events_end, eve
 use Rattle.follow_engine.specs.Events.{frames_of_events}
 use Rattle.follow_engine.specs.Order.{GoesFirst, datagrams_in, most_datagrams}
 use Rattle.follow_engine.specs.Opened.{OpensRun}
-use Rattle.follow_engine.specs.Running.{IsRun, Told, running_of}
-use Rattle.follow_engine.specs.Shown.{GrowsSome, TakesAll, TakesSome}
+use Rattle.follow_engine.specs.Running.{IsSoundRun, TellsEvents, running_of}
+use Rattle.follow_engine.specs.Shown.{GrowsSome, TakesEachFrame, TakesSome}
 use Rattle.follow_engine.specs.Telling.{events_text, totals_of, totals_text}
 use Rattle.follow_engine.specs.declared.opening.FollowAsked.{FollowAsked}
 use Rattle.follow_engine.specs.declared.running.Run.{Run}
@@ -30,7 +30,7 @@ SideRead gave ended z octets =
 -- A stream was begun by an SDP text, as the words ask for it.
 pub record HasBegun {A : Type 0} (w : FollowAsked) (ssrc : Option ℕ) (text : List ℕ) (r : Run A)
     : Type 0 where
-  pub run : IsRun r
+  pub run : IsSoundRun r
   pub eager : r.is_eager ≡ w.is_eager
   pub opens : OpensRun w.frames ssrc text (running_of r)
 
@@ -54,7 +54,7 @@ pub record FollowsSides {A S K : Type 0} (takes : K → Handed → K → Type 0)
   pub few : length (datagrams_since source.came source'.came) < most_datagrams
   pub running : running_of r' ≡ behind_all r.is_eager (running_of r)
       (datagrams_since source.came source'.came)
-  pub told : Told takes old new took took' (events_in r.is_eager (running_of r)
+  pub told : TellsEvents takes old new took took' (events_in r.is_eager (running_of r)
       (datagrams_since source.came source'.came))
 
 -- The datagrams of all records of files went into a stream, in the order in which these go side by
@@ -67,7 +67,7 @@ pub record FollowsEntries {A S K : Type 0} (gave : S → List ℕ) (ended : S �
   pub goes : (octets : List (List ℕ)) → AllZip (SideGave gave ended) sides octets
       → GoesWhole r.steering (strands_of sides octets) entries
   pub running : running_of r' ≡ behind_all r.is_eager (running_of r) (datagrams_in entries)
-  pub told : Told takes old new took took' (events_in r.is_eager (running_of r)
+  pub told : TellsEvents takes old new took took' (events_in r.is_eager (running_of r)
       (datagrams_in entries))
 
 -- Of the datagrams of the records that go first of files this holds, of what happens to a stream of
@@ -92,5 +92,5 @@ pub record EndsStream {A K : Type 0} (takes : K → Handed → K → Type 0) (r 
     (took took' : List ℕ) (totals : FollowTotals) : Type 0 where
   pub printed : took' ≡ took ++ (events_text (events_end (running_of r))
       ++ totals_text (ended (running_of r)))
-  pub shown : TakesAll takes old (frames_of_events (events_end (running_of r))) new
+  pub shown : TakesEachFrame takes old (frames_of_events (events_end (running_of r))) new
   pub totals_are : totals ≡ totals_of (ended (running_of r))

@@ -5,16 +5,16 @@ ghost use Rattle.std.specs.List.{AllByRecursion, zip};
 ghost use Rattle.std.specs.Option.{option_copied};
 ghost use Rattle.follow_engine.specs.Followed.{FollowsPart, FollowsWhole, StopsShort};
 ghost use Rattle.follow_engine.specs.Opened.{AllClosedSides, AreOpened, IsFirstText, StopsOne};
-ghost use Rattle.follow_engine.specs.Refused.{IsFirstRefusal, IsFollowRefusal, IsOpeningRefusal};
-ghost use Rattle.follow_engine.specs.Refused.{StopsRead};
-ghost use Rattle.follow_engine.specs.Running.{IsRun, TellsSome, Told};
+ghost use Rattle.follow_engine.specs.Refused.{IsFirstRefusal, IsFollowRefusal, StopsRead};
+ghost use Rattle.follow_engine.specs.Running.{IsSoundRun, TellsEvents, TellsSome};
 ghost use Rattle.follow_engine.specs.Sides.{EndsSome, EndsStream, FollowsEntries, FollowsUpTo};
 ghost use Rattle.follow_engine.specs.Sides.{HasBegun, HasBegunIn, SideRead, text_by};
 ghost use Rattle.path_receiver.specs.Opening.{IsWindowSize};
-ghost use Rattle.recording_engines.specs.Files.{IsKnown, IsReadByFlows};
+ghost use Rattle.recording_engines.specs.Files.{HasKnownOctets, IsReadByFlows};
 ghost use Rattle.run_outcome.specs.Fault.{Accounts, IfRefused, counts};
 ghost use Rattle.run_outcome.specs.Refusing.{OfRefusal};
-ghost use Rattle.side_by_side.specs.Sides.{IsBegun, begun_each, failures_each};
+ghost use Rattle.run_outcome.specs.TextRefusals.{IsDescriptionRefusal};
+ghost use Rattle.side_by_side.specs.Sides.{IsUnreadSide, begun_each, failures_each};
 
 use crate::opening::{FollowAsked, open_all, open_run, read_words};
 use crate::pictures::PictureSink;
@@ -112,7 +112,7 @@ fn begin<A: Allocator + Copy>(
     ensures begun { IfOk result
         (λ r. HasBegunIn asked.entry ssrc (option_copied sdp.entry) r) }
     ensures refusal { IfErr result (λ f. OfRefusal f (λ r. MatchOption (option_copied sdp.entry) ⊥
-        (λ text. IsOpeningRefusal text r))) }
+        (λ text. IsDescriptionRefusal text r))) }
     ensures failures { Accounts result [] }
 {
     match sdp {
@@ -175,7 +175,7 @@ fn begin_by<A: Allocator + Copy>(
 ) -> Result<Run<A>, Fault>
     requires { IsWindowSize asked.frames }
     ensures begun { IfOk result (λ r. HasBegun asked.entry ssrc said.now r) }
-    ensures refusal { IfErr result (λ f. OfRefusal f (IsOpeningRefusal said.now)) }
+    ensures refusal { IfErr result (λ f. OfRefusal f (IsDescriptionRefusal said.now)) }
     ensures failures { Accounts result [] }
 {
     let run = open_run(alloc, asked.frames, ssrc, asked.is_eager, said)?;
@@ -220,19 +220,19 @@ fn follow_opened<A: Allocator + Copy, S: ByteSource + Drop, P: PictureSink, O: B
     output: &mut O,
 ) -> Result<(), Fault>
     requires room { 65535 ≤ length buf.old }
-    requires run { IsRun run.old }
-    requires begun { AllByRecursion IsBegun sides.old.items }
+    requires run { IsSoundRun run.old }
+    requires begun { AllByRecursion IsUnreadSide sides.old.items }
     ensures len { length sides.new.items ≡ length sides.old.items }
     ensures begun { begun_each sides.new.items ≡ begun_each sides.old.items }
-    ensures known { AllByRecursion (λ s. IsKnown S.gave S.ended s.file) sides.new.items }
+    ensures known { AllByRecursion (λ s. HasKnownOctets S.gave S.ended s.file) sides.new.items }
     ensures by_flows { AllByRecursion (λ s. IsReadByFlows s.file) sides.new.items }
-    ensures run { OnOk result (IsRun run.new) }
+    ensures run { OnOk result (IsSoundRun run.new) }
     ensures followed { OnOk result (FollowsEntries S.gave S.ended P.takes run.old run.new
         pictures.old pictures.new (O.took output.old) (O.took output.new) sides.new.items) }
     ensures stopped { IfErr result (λ f. OfRefusal f
         (StopsRead S.gave S.ended sides.new.items)) }
     ensures before { IfErr result (λ f. IfRefused f (FollowsUpTo S.gave S.ended run.old
-        sides.new.items (Told P.takes pictures.old pictures.new
+        sides.new.items (TellsEvents P.takes pictures.old pictures.new
         (O.took output.old) (O.took output.new)))) }
     ensures part { OnErr result (FollowsUpTo S.gave S.ended run.old sides.new.items
         (TellsSome P.takes P.fails pictures.old pictures.new
@@ -266,7 +266,7 @@ fn end_stream<A: Allocator + Copy, P: PictureSink, O: ByteSink>(
     pictures: &mut P,
     output: &mut O,
 ) -> Result<FollowTotals, Fault>
-    requires { IsRun run.old }
+    requires { IsSoundRun run.old }
     ensures ended { IfOk result (λ t. EndsStream P.takes run.old pictures.old pictures.new
         (O.took output.old) (O.took output.new) t) }
     ensures part { OnErr result (EndsSome P.takes P.fails run.old pictures.old pictures.new

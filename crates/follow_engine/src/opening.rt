@@ -5,14 +5,16 @@ ghost use Rattle.capture_engines.specs.Files.{flows_in};
 ghost use Rattle.capture_engines.specs.Received.{StopsFile};
 ghost use Rattle.follow_engine.specs.Opened.{AllClosedSides, AreOpened, IsFirstText, OpensRun};
 ghost use Rattle.follow_engine.specs.Opened.{StopsOne};
-ghost use Rattle.follow_engine.specs.Refused.{IsOpeningRefusal, IsWordRefusal};
-ghost use Rattle.follow_engine.specs.Running.{IsRun, running_of};
+ghost use Rattle.follow_engine.specs.Refused.{IsWordRefusal};
+ghost use Rattle.follow_engine.specs.Running.{IsSoundRun, running_of};
 ghost use Rattle.path_receiver.specs.Opening.{IsWindowSize};
-ghost use Rattle.recording_engines.specs.Files.{IsClosed, IsKnown, ended_by, failures_by, gave_by};
+ghost use Rattle.recording_engines.specs.Files.{HasKnownOctets, IsClosed, ended_by, failures_by};
+ghost use Rattle.recording_engines.specs.Files.{gave_by};
 ghost use Rattle.recording_reader.specs.Opening.{CountsOpening, IsByFlows, StopsOpening};
 ghost use Rattle.run_outcome.specs.Fault.{Accounts, Blames, counts};
 ghost use Rattle.run_outcome.specs.Refusing.{OfRefusal};
 ghost use Rattle.run_outcome.specs.Sources.{IsSourceText};
+ghost use Rattle.run_outcome.specs.TextRefusals.{IsDescriptionRefusal};
 ghost use Rattle.side_by_side.specs.Side.{IsNewSide};
 ghost use Rattle.side_by_side.specs.Sides.{failures_each};
 ghost use Rattle.st_format.specs.History.{IsRead};
@@ -82,10 +84,10 @@ pub(crate) fn open_run<A: Allocator + Copy>(
     said: &[u8],
 ) -> Result<Run<A>, Fault>
     requires { IsWindowSize frames }
-    ensures run { IfOk result (λ r. IsRun r) }
+    ensures run { IfOk result (λ r. IsSoundRun r) }
     ensures eager { IfOk result (λ r. r.is_eager ≡ is_eager) }
     ensures opened { IfOk result (λ r. OpensRun frames ssrc said.now (running_of r)) }
-    ensures refusal { IfErr result (λ f. OfRefusal f (IsOpeningRefusal said.now)) }
+    ensures refusal { IfErr result (λ f. OfRefusal f (IsDescriptionRefusal said.now)) }
     ensures failures { Accounts result [] }
 {
     let sdp = read_located(alloc, said)?;
@@ -144,7 +146,7 @@ fn open_side<A: Allocator, S: ByteSource + Drop>(
     ensures text { length text.new ≡ length text.old }
     ensures opened { IfOk result (λ count. IsNewSide (flows_in way) (gave_by S.gave side.old.file)
         (take count text.new) side.new) }
-    ensures known { OnOk result (IsKnown S.gave S.ended side.new.file) }
+    ensures known { OnOk result (HasKnownOctets S.gave S.ended side.new.file) }
     ensures few { IfOk result (λ count. count ≤ 65535) }
     ensures refusal { IfErr result (λ f. OfRefusal f (StopsFile way (IsRead
         (gave_by S.gave side.old.file) (gave_by S.gave side.new.file)

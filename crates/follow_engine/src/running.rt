@@ -1,11 +1,11 @@
 //! A stream that is followed.
 ghost use Rattle.std.specs.Prelude.{◌≡◌, ◌≤◌, ◌<◌, ◌∷◌, ◌++◌, [], Some, IfErr, IfOk, IsFalse};
 ghost use Rattle.std.specs.Prelude.{IsTrue, OnErr, OnOk, length};
-ghost use Rattle.follow_engine.specs.Events.{Anew, IsAnewAt, anew_with, events_at, is_anew};
-ghost use Rattle.follow_engine.specs.Events.{late_with, leaving, noted_by, running_from, time_of};
+ghost use Rattle.follow_engine.specs.Events.{Anew, IsAnewAt, anew_with, datagram_time, events_at};
+ghost use Rattle.follow_engine.specs.Events.{is_anew, late_with, leaving, noted_by, running_from};
 ghost use Rattle.follow_engine.specs.Events.{timed, turn_left};
-ghost use Rattle.follow_engine.specs.Running.{BeginsAnew, Finishes, IsRun, LeavesWith, TakesTurn};
-ghost use Rattle.follow_engine.specs.Running.{TellsSome, TellsTurn, running_of};
+ghost use Rattle.follow_engine.specs.Running.{BeginsAnew, Finishes, FollowsDatagram, IsSoundRun};
+ghost use Rattle.follow_engine.specs.Running.{LeavesWith, TellsDatagram, TellsSome, running_of};
 ghost use Rattle.following.specs.Follower.{opened};
 ghost use Rattle.following.specs.Following.{frames_in};
 ghost use Rattle.following.specs.Restarts.{is_restart};
@@ -61,7 +61,7 @@ impl<A: Allocator + Copy> Run<A> {
         is_eager: bool,
     ) -> Result<Run<A>, FollowFault>
         requires { payload_type ≤ 127 }
-        ensures run { IfOk result (λ r. IsRun r) }
+        ensures run { IfOk result (λ r. IsSoundRun r) }
         ensures eager { IfOk result (λ r. r.is_eager ≡ is_eager) }
         ensures running { IfOk result (λ r. running_of r ≡ running_from (opened (record {
           format = format;
@@ -91,9 +91,10 @@ impl<A: Allocator + Copy> Run<A> {
     /// followed anew from it on.
     fn note(&mut self, octets: &[u8], answer: Result<Followed, Refusal>) -> Option<u32>
         ensures noted { running_of self.new
-            ≡ noted_by self.old.restarts.bound (running_of self.old) (time_of octets.now) answer }
+            ≡ noted_by self.old.restarts.bound (running_of self.old) (datagram_time octets.now)
+            answer }
         ensures anew { IsAnewAt (anew_with self.old.restarts.bound self.old.restarts.since
-            (time_of octets.now) answer) (time_of octets.now) result }
+            (datagram_time octets.now) answer) (datagram_time octets.now) result }
         ensures bound { self.new.restarts.bound ≡ self.old.restarts.bound }
         ensures frame { self.new.frame ≡ self.old.frame }
         ensures eager { self.new.is_eager ≡ self.old.is_eager }
@@ -101,7 +102,7 @@ impl<A: Allocator + Copy> Run<A> {
     {
         self.tally.note(answer);
         self.late = late_after(self.late, answer);
-        match time_of(octets) {
+        match datagram_time(octets) {
             None => None,
             Some(timestamp) => self.note_time(timestamp, answer),
         }
@@ -194,7 +195,7 @@ impl<A: Allocator + Copy> Run<A> {
         pictures: &mut P,
         output: &mut O,
     ) -> Result<(), Fault>
-        requires { IsRun self.old }
+        requires { IsSoundRun self.old }
         ensures eager { self.new.is_eager ≡ self.old.is_eager }
         ensures finished { OnOk result (Finishes P.takes self.old self.new pictures.old pictures.new
             (O.took output.old) (O.took output.new)) }
@@ -220,7 +221,7 @@ impl<A: Allocator + Copy> Run<A> {
         pictures: &mut P,
         output: &mut O,
     ) -> Result<(), Fault>
-        requires { IsRun self.old }
+        requires { IsSoundRun self.old }
         ensures eager { self.new.is_eager ≡ self.old.is_eager }
         ensures begun { OnOk result (BeginsAnew P.takes timestamp self.old self.new
             pictures.old pictures.new (O.took output.old) (O.took output.new)) }
@@ -246,17 +247,17 @@ impl<A: Allocator + Copy> Run<A> {
         pictures: &mut P,
         output: &mut O,
     ) -> Result<Option<u32>, Fault>
-        requires { IsRun self.old }
-        ensures run { OnOk result (IsRun self.new) }
+        requires { IsSoundRun self.old }
+        ensures run { OnOk result (IsSoundRun self.new) }
         ensures eager { self.new.is_eager ≡ self.old.is_eager }
-        ensures turned { OnOk result (TellsTurn P.takes self.old.is_eager (running_of self.old)
+        ensures turned { OnOk result (TellsDatagram P.takes self.old.is_eager (running_of self.old)
             (running_of self.new) octets.now pictures.old pictures.new
             (O.took output.old) (O.took output.new)) }
         ensures part { OnErr result (TellsSome P.takes P.fails pictures.old pictures.new
             (O.took output.old) (O.took output.new)
             (turn_left self.old.is_eager (running_of self.old) octets.now)) }
         ensures anew { IfOk result (λ at. IsAnewAt (is_anew (running_of self.old) octets.now)
-            (time_of octets.now) at) }
+            (datagram_time octets.now) at) }
         ensures unrefused { IfErr result (λ f. IfRefused f ⊥) }
         ensures failures { Accounts result (counts (P.failures pictures.old)
             (P.failures pictures.new)
@@ -276,10 +277,10 @@ impl<A: Allocator + Copy> Run<A> {
         pictures: &mut P,
         output: &mut O,
     ) -> Result<(), Fault>
-        requires { IsRun self.old }
+        requires { IsSoundRun self.old }
         ensures eager { self.new.is_eager ≡ self.old.is_eager }
-        ensures run { OnOk result (IsRun self.new) }
-        ensures took { OnOk result (TakesTurn P.takes self.old.is_eager (running_of self.old)
+        ensures run { OnOk result (IsSoundRun self.new) }
+        ensures took { OnOk result (FollowsDatagram P.takes self.old.is_eager (running_of self.old)
             (running_of self.new) octets.now pictures.old pictures.new
             (O.took output.old) (O.took output.new)) }
         ensures part { OnErr result (TellsSome P.takes P.fails pictures.old pictures.new
@@ -299,8 +300,8 @@ impl<A: Allocator + Copy> Run<A> {
 }
 
 /// The timestamp of a datagram's header, where it has one.
-fn time_of(octets: &[u8]) -> Option<u32>
-    ensures { result ≡ time_of octets.now }
+fn datagram_time(octets: &[u8]) -> Option<u32>
+    ensures { result ≡ datagram_time octets.now }
 {
     match read_rtp(octets) {
         Ok(header) => Some(header.timestamp),

@@ -1,7 +1,7 @@
 //! Showing a frame that leaves, and telling it.
 ghost use Rattle.std.specs.Prelude.{◌≡◌, ◌∷◌, [], Err, IfErr, OnErr, OnOk};
 ghost use Rattle.follow_engine.specs.Events.{Left};
-ghost use Rattle.follow_engine.specs.Running.{TellsSome, Told};
+ghost use Rattle.follow_engine.specs.Running.{TellsEvents, TellsSome};
 ghost use Rattle.run_outcome.specs.Fault.{Accounts, IfRefused, counts};
 
 use crate::line::{FollowLine, print};
@@ -20,7 +20,7 @@ pub(crate) fn show_frame<A: Allocator, P: PictureSink, O: ByteSink>(
     pictures: &mut P,
     output: &mut O,
 ) -> Result<(), Fault>
-    ensures told { OnOk result (Told P.takes pictures.old pictures.new
+    ensures told { OnOk result (TellsEvents P.takes pictures.old pictures.new
         (O.took output.old) (O.took output.new)
         (Left (record { timestamp = timestamp; frame = frame.now }) late ∷ [])) }
     ensures part { OnErr result (TellsSome P.takes P.fails pictures.old pictures.new

@@ -2,13 +2,12 @@
 ghost use Rattle.std.specs.Prelude.{◌≡◌, ◌≤◌, ◌∷◌, [], IfErr, OnErr, OnOk, length};
 ghost use Rattle.follow_engine.specs.Events.{events_in};
 ghost use Rattle.follow_engine.specs.Refused.{StopsFollowing, fault_in};
-ghost use Rattle.follow_engine.specs.Running.{IsRun, TellsSome, Told, running_of};
+ghost use Rattle.follow_engine.specs.Running.{IsSoundRun, TellsEvents, TellsSome, running_of};
 ghost use Rattle.follow_engine.specs.Sides.{FollowsSides};
 ghost use Rattle.path_receiver.specs.Took.{datagrams_since};
 ghost use Rattle.run_outcome.specs.Fault.{Accounts, IfRefused, counts};
 ghost use Rattle.run_outcome.specs.Refusing.{OfRefusal};
-ghost use Rattle.side_by_side.specs.Sides.{AllUnfailed, IsStopped, begun_each};
-ghost use Rattle.side_by_side.specs.Sides.{failures_each};
+ghost use Rattle.side_by_side.specs.Sides.{AllUnfailed, IsFaultOfFiles, begun_each, failures_each};
 
 use crate::pictures::PictureSink;
 use crate::running::Run;
@@ -33,19 +32,19 @@ pub(crate) fn follow_sides<A: Allocator + Copy, S: ByteSource, P: PictureSink, O
     output: &mut O,
 ) -> Result<(), Fault>
     requires room { 65535 ≤ length buf.old }
-    requires run { IsRun run.old }
+    requires run { IsSoundRun run.old }
     requires unfailed { AllUnfailed source.old.sides }
     ensures room { length buf.new ≡ length buf.old }
     ensures eager { run.new.is_eager ≡ run.old.is_eager }
     ensures steering { source.new.steering ≡ source.old.steering }
     ensures begun { begun_each source.new.sides ≡ begun_each source.old.sides }
-    ensures run { OnOk result (IsRun run.new) }
+    ensures run { OnOk result (IsSoundRun run.new) }
     ensures followed { OnOk result (FollowsSides P.takes source.old source.new run.old run.new
         pictures.old pictures.new (O.took output.old) (O.took output.new)) }
     ensures stopped { IfErr result (λ f. OfRefusal f (StopsFollowing
         (length (datagrams_since source.old.came source.new.came)) source.new.sides)) }
     // What came before a file's fault is told whole; and where a device failed a first part of it.
-    ensures before { IfErr result (λ f. IfRefused f (Told P.takes pictures.old pictures.new
+    ensures before { IfErr result (λ f. IfRefused f (TellsEvents P.takes pictures.old pictures.new
         (O.took output.old) (O.took output.new) (events_in run.old.is_eager (running_of run.old)
         (datagrams_since source.old.came source.new.came)))) }
     ensures part { OnErr result (TellsSome P.takes P.fails pictures.old pictures.new
@@ -73,7 +72,7 @@ pub(crate) fn follow_sides<A: Allocator + Copy, S: ByteSource, P: PictureSink, O
 /// The fault of a file at which a source stays; where there is none, a device's.
 fn fault_of<A: Allocator, S: ByteSource>(source: &SideBySide<A, S>) -> Fault
     ensures fault { result ≡ fault_in source.now.fault }
-    ensures stopped { IsStopped source.now.fault source.now.sides }
+    ensures stopped { IsFaultOfFiles source.now.fault source.now.sides }
 {
     match source.fault() {
         Some(fault) => of_reading(fault),

@@ -2,7 +2,7 @@
 //! them.
 ghost use Rattle.std.specs.Prelude.{◌≡◌, ◌≤◌, IfOk, IfSome, length};
 ghost use Rattle.std.specs.List.{AllByRecursion};
-ghost use Rattle.side_by_side.specs.Sides.{IsBegun};
+ghost use Rattle.side_by_side.specs.Sides.{IsUnreadSide};
 
 use crate::checks::met;
 use crate::running::{FLOWS, source};
@@ -35,7 +35,7 @@ fn opened(
 ) -> Result<Option<File>, AllocError>
     requires { 65535 ≤ length text.old }
     ensures room { length text.new ≡ length text.old }
-    ensures begun { IfOk result (λ file. IfSome file (λ s. IsBegun s)) }
+    ensures begun { IfOk result (λ file. IfSome file (λ s. IsUnreadSide s)) }
 {
     let mut side = Side::closed(source(alloc, octets, 0)?);
     match side.open(alloc, flows, text) {
@@ -51,9 +51,9 @@ fn three(
     second: File,
     third: File,
 ) -> Result<SideBySide<Global, MemorySource>, AllocError>
-    requires first { IsBegun first }
-    requires second { IsBegun second }
-    requires third { IsBegun third }
+    requires first { IsUnreadSide first }
+    requires second { IsUnreadSide second }
+    requires third { IsUnreadSide third }
 {
     let sides = three_in(alloc, first, second, third)?;
     Ok(SideBySide::new(STREAM, sides))
@@ -61,10 +61,10 @@ fn three(
 
 /// The list of them.
 fn three_in(alloc: Global, first: File, second: File, third: File) -> Result<Vec<File>, AllocError>
-    requires first { IsBegun first }
-    requires second { IsBegun second }
-    requires third { IsBegun third }
-    ensures { IfOk result (λ sides. AllByRecursion IsBegun sides.items) }
+    requires first { IsUnreadSide first }
+    requires second { IsUnreadSide second }
+    requires third { IsUnreadSide third }
+    ensures { IfOk result (λ sides. AllByRecursion IsUnreadSide sides.items) }
 {
     let mut sides = Vec::new(alloc);
     sides.push(first)?;

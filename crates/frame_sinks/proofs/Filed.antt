@@ -1,7 +1,7 @@
 -- The files that a sink of pictures writes, one after the other.
 use Rattle.std.proofs.Common.{◌≡◌, ◌∙◌, ℕ, List, [], ◌∷◌, ◌++◌, Option}
 use Rattle.std.proofs.Common.{ap, append-nil, append_assoc, sym}
-use Rattle.follow_engine.specs.Shown.{TakesAll}
+use Rattle.follow_engine.specs.Shown.{TakesEachFrame}
 use Rattle.following.specs.Following.{Handed}
 use Rattle.frame_sinks.specs.Files.{FilesFrame, file_for, files_for}
 use Rattle.frame_sinks.specs.Pictures.{held_by, picture_of, pictures_of}
@@ -16,7 +16,7 @@ abbrev rest_of : List Handed → Filling → Option (List ℕ) → Option Values
 rest_of hs filling fill held = files_for hs (pictures_of filling fill held hs)
 
 pub all_filed : {F A : Type 0} (files : F → List (List ℕ × List ℕ)) (k l : FilesSink F A)
-    (hs : List Handed) → TakesAll (FilesFrame files) k hs l
+    (hs : List Handed) → TakesEachFrame (FilesFrame files) k hs l
     → files l.files ≡ files k.files
     ++ files_for hs (pictures_of k.settling.filling k.settling.fill k.settling.held hs)
 all_filed files k l [] is =

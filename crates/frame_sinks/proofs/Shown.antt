@@ -3,7 +3,7 @@ use Rattle.std.proofs.Common.{◌≡◌, ◌∙◌, ◌+◌, ◌<◌, ℕ, inl, 
 use Rattle.std.proofs.Common.{ap, append-nil, append_assoc, arith, subst, sym}
 use Rattle.std.proofs.lemmas.Grind.{flat_map-append}
 use Rattle.follow_engine.proofs.Grows.{grows_first, grows_then}
-use Rattle.follow_engine.specs.Shown.{GrowsSome, TakesAll}
+use Rattle.follow_engine.specs.Shown.{GrowsSome, TakesEachFrame}
 use Rattle.following.specs.Following.{Handed}
 use Rattle.frame_sinks.specs.Sinks.{FailsLines, TakesBoth, TakesLines, frames_report, lines_of}
 use Rattle.frame_sinks.specs.declared.both.BothSinks.{BothSinks}
@@ -15,7 +15,7 @@ use Rattle.st_format.specs.Device.{Failed}
 
 -- what each lacks, one behind the other
 pub all_lines : {K : Type 0} (took : K → List ℕ) (k l : ReportSink K) (hs : List Handed)
-    → TakesAll (TakesLines took) k hs l → took l.sink ≡ took k.sink ++ frames_report hs
+    → TakesEachFrame (TakesLines took) k hs l → took l.sink ≡ took k.sink ++ frames_report hs
 all_lines took k l [] is =
     ap (λ (m : ReportSink _). took m.sink) is ∙ sym (append-nil (took k.sink))
 all_lines took k l (h ∷ hs) is =
@@ -25,7 +25,7 @@ all_lines took k l (h ∷ hs) is =
 
 -- of one at which the sink failed a first part came
 pub cut_lines : {K : Type 0} (took : K → List ℕ) (k m l : ReportSink K) (hs : List Handed)
-    (h : Handed) → TakesAll (TakesLines took) k hs m → FailsLines took m h l
+    (h : Handed) → TakesEachFrame (TakesLines took) k hs m → FailsLines took m h l
     → GrowsSome (took k.sink) (took l.sink) (frames_report (hs ++ h ∷ []))
 cut_lines took k m l hs h is cut =
     subst (λ (t : List ℕ). GrowsSome (took k.sink) (took l.sink) t)
@@ -36,8 +36,8 @@ cut_lines took k m l hs h is cut =
 
 -- each of two sinks took them
 pub all_both : {P Q : Type 0} (p : P → Handed → P → Type 0) (q : Q → Handed → Q → Type 0)
-    (k l : BothSinks P Q) (hs : List Handed) → TakesAll (TakesBoth p q) k hs l
-    → TakesAll p k.first hs l.first × TakesAll q k.second hs l.second
+    (k l : BothSinks P Q) (hs : List Handed) → TakesEachFrame (TakesBoth p q) k hs l
+    → TakesEachFrame p k.first hs l.first × TakesEachFrame q k.second hs l.second
 all_both p q k l [] is =
     (ap (λ (m : BothSinks _ _). m.first) is, ap (λ (m : BothSinks _ _). m.second) is)
 all_both p q k l (h ∷ hs) is =

@@ -4,7 +4,7 @@ use Rattle.std.proofs.Common.{ap, append-nil, append_assoc, refl, subst, sym}
 use Rattle.std.proofs.lemmas.Bool.{cond-true}
 use Rattle.std.specs.List.{AllByRecursion, flat_map}
 use Rattle.follow_engine.proofs.Grows.{grows_first, grows_then}
-use Rattle.follow_engine.specs.Shown.{GrowsSome, TakesAll}
+use Rattle.follow_engine.specs.Shown.{GrowsSome, TakesEachFrame}
 use Rattle.following.specs.Following.{Handed}
 use Rattle.frame_sinks.specs.Pictures.{form_head, form_stream, head_as, head_for, held_by}
 use Rattle.frame_sinks.specs.Pictures.{picture_of, pictures_of}
@@ -47,7 +47,7 @@ behind_one took k m h hs is =
     ∙ ap (λ (x : Option Values). rest_of hs (Some h.frame.format) s.filling s.fill x) is.held))
 
 pub all_written : {K A : Type 0} (took : K → List ℕ) (k l : FormSink K A) (hs : List Handed)
-    → TakesAll (TakesFrame took) k hs l
+    → TakesEachFrame (TakesFrame took) k hs l
     → took l.sink ≡ took k.sink
     ++ form_stream k.format (pictures_of k.settling.filling k.settling.fill k.settling.held hs)
 all_written took k l [] is =
@@ -71,7 +71,7 @@ cut_one took k l h is =
     (grows_first (took k.sink) (took l.sink) (text_for k h) [] is)
 
 pub cut_written : {K A : Type 0} (took : K → List ℕ) (k m l : FormSink K A) (hs : List Handed)
-    (h : Handed) → TakesAll (TakesFrame took) k hs m → FailsFrame took m h l
+    (h : Handed) → TakesEachFrame (TakesFrame took) k hs m → FailsFrame took m h l
     → GrowsSome (took k.sink) (took l.sink) (form_stream k.format
     (pictures_of k.settling.filling k.settling.fill k.settling.held (hs ++ h ∷ [])))
 cut_written took k m l [] h is cut =

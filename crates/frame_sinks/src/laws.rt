@@ -4,7 +4,7 @@ ghost use Rattle.std.specs.List.{AllByRecursion, flat_map};
 ghost use Rattle.flow.specs.declared.flows.Flows.{Flows};
 ghost use Rattle.follow_engine.specs.Events.{frames_of_events};
 ghost use Rattle.follow_engine.specs.Followed.{FollowsWhole, followed_events};
-ghost use Rattle.follow_engine.specs.Shown.{GrowsSome, TakesAll};
+ghost use Rattle.follow_engine.specs.Shown.{GrowsSome, TakesEachFrame};
 ghost use Rattle.follow_engine.specs.Sides.{SideRead};
 ghost use Rattle.follow_engine.specs.declared.opening.FollowAsked.{FollowAsked};
 ghost use Rattle.follow_engine.specs.declared.telling.FollowTotals.{FollowTotals};
@@ -31,7 +31,7 @@ use std::alloc::Allocator;
 /// What is written of frames that a sink takes one after the other is the stream of their pictures,
 /// octet for octet.
 pub fn written<K: ByteSink, A: Allocator>()
-    ensures { (k l : FormSink K A) (hs : List Handed) → TakesAll (TakesFrame K.took) k hs l
+    ensures { (k l : FormSink K A) (hs : List Handed) → TakesEachFrame (TakesFrame K.took) k hs l
         → K.took l.sink ≡ K.took k.sink
         ++ form_stream k.format
         (pictures_of k.settling.filling k.settling.fill k.settling.held hs) }
@@ -41,7 +41,7 @@ pub fn written<K: ByteSink, A: Allocator>()
 /// of all of them, that one among them.
 pub fn cut<K: ByteSink, A: Allocator>()
     ensures { (k m l : FormSink K A) (hs : List Handed) (h : Handed) →
-        TakesAll (TakesFrame K.took) k hs m → FailsFrame K.took m h l →
+        TakesEachFrame (TakesFrame K.took) k hs m → FailsFrame K.took m h l →
         GrowsSome (K.took k.sink) (K.took l.sink) (form_stream k.format
         (pictures_of k.settling.filling k.settling.fill k.settling.held (hs ++ h ∷ []))) }
 {}
@@ -72,7 +72,7 @@ pub fn one_format()
 /// What is written of frames that a sink of what they lack takes one after the other is what a
 /// report has of each, octet for octet.
 pub fn reported<K: ByteSink>()
-    ensures { (k l : ReportSink K) (hs : List Handed) → TakesAll (TakesLines K.took) k hs l
+    ensures { (k l : ReportSink K) (hs : List Handed) → TakesEachFrame (TakesLines K.took) k hs l
         → K.took l.sink ≡ K.took k.sink ++ frames_report hs }
 {}
 
@@ -80,14 +80,14 @@ pub fn reported<K: ByteSink>()
 /// them.
 pub fn reported_cut<K: ByteSink>()
     ensures { (k m l : ReportSink K) (hs : List Handed) (h : Handed) →
-        TakesAll (TakesLines K.took) k hs m → FailsLines K.took m h l →
+        TakesEachFrame (TakesLines K.took) k hs m → FailsLines K.took m h l →
         GrowsSome (K.took k.sink) (K.took l.sink) (frames_report (hs ++ h ∷ [])) }
 {}
 
 /// The files that have their names of frames that a sink takes one after the other are those of the
 /// frames' pictures, octet for octet, each by the name of its timestamp.
 pub fn filed<F: PictureFiles + Drop, A: Allocator>()
-    ensures { (k l : FilesSink F A) (hs : List Handed) → TakesAll (FilesFrame F.files) k hs l
+    ensures { (k l : FilesSink F A) (hs : List Handed) → TakesEachFrame (FilesFrame F.files) k hs l
         → F.files l.files ≡ F.files k.files
         ++ files_for hs (pictures_of k.settling.filling k.settling.fill k.settling.held hs) }
 {}
@@ -95,6 +95,6 @@ pub fn filed<F: PictureFiles + Drop, A: Allocator>()
 /// Frames that two sinks take as one are those that each of them takes.
 pub fn both<P: PictureSink + Drop, Q: PictureSink + Drop>()
     ensures { (k l : BothSinks P Q) (hs : List Handed) →
-        TakesAll (TakesBoth P.takes Q.takes) k hs l →
-        TakesAll P.takes k.first hs l.first × TakesAll Q.takes k.second hs l.second }
+        TakesEachFrame (TakesBoth P.takes Q.takes) k hs l →
+        TakesEachFrame P.takes k.first hs l.first × TakesEachFrame Q.takes k.second hs l.second }
 {}

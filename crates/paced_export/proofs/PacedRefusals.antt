@@ -10,6 +10,7 @@ use Rattle.media_file.specs.declared.fault.FileFault.{FileFault}
 use Rattle.pcap_file.specs.Writing.{file_text}
 use Rattle.st_format.proofs.Histories.{since_is}
 use Rattle.run_outcome.specs.Refusing.{OfRefusal}
+use Rattle.run_outcome.specs.TextRefusals.{IsDescriptionRefusal}
 use Rattle.run_outcome.specs.declared.fault.Fault.{Fault}
 use Rattle.run_outcome.specs.declared.fault.Fault.TheVariants as fault
 use Rattle.run_outcome.specs.declared.refusal.Refusal.{Refusal}
@@ -20,7 +21,6 @@ use Rattle.export_engine.specs.Packets.{AreEnvelopes, packets_text, pcap_text}
 use Rattle.export_engine.specs.declared.packets.ExportCounts.{ExportCounts}
 use Rattle.export_engine.specs.declared.places.Envelopes.{Envelopes}
 use Rattle.paced_export.specs.PacedRefused.{IsAheadRefusal, IsPacedRefusal}
-use Rattle.paced_export.specs.PacedRefused.{IsRateRefusal}
 use Rattle.paced_export.specs.Counts.{Counts, counted}
 use Rattle.paced_export.specs.Paced.{count_in_all}
 use Rattle.paced_export.specs.PacedExported.{IsPaceOf, LeavesPacing, PacesCapture, ReadsAhead}
@@ -58,14 +58,14 @@ front_is a b text ended g octets q = (
 one_of_text : (told : List ℕ → Type 0) (text : List ℕ)
     → ((octets : List ℕ) → told octets
     → (x : List ℕ × List ℕ) × (front_at octets ≡ Ok x) × (x.0 ≡ text))
-    → (r : Refusal) → IsRateRefusal text r → IsAheadRefusal told r
+    → (r : Refusal) → IsDescriptionRefusal text r → IsAheadRefusal told r
 one_of_text told text at (why.Sdp l) is = λ octets was.
     let x = at octets was in
-    (x.0, x.1, subst (λ (t : List ℕ). IsRateRefusal t (why.Sdp l)) (sym x.2) is)
+    (x.0, x.1, subst (λ (t : List ℕ). IsDescriptionRefusal t (why.Sdp l)) (sym x.2) is)
 one_of_text told text at r is = absurd is
 
 pub of_text_ahead : (a b text : List ℕ) (ended : Type 0) → GaveValue front_at a b text
-    → (f : Fault) → OfRefusal f (IsRateRefusal text)
+    → (f : Fault) → OfRefusal f (IsDescriptionRefusal text)
     → OfRefusal f (IsAheadRefusal (IsRead a b ended))
 of_text_ahead a b text ended g (fault.Refused r) is =
     one_of_text (IsRead a b ended) text (front_is a b text ended g) r is

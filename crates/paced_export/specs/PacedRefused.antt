@@ -2,24 +2,18 @@
 -- holds of any octets that begin with it, and of no others where the source has ended.
 use Rattle.std.specs.Prelude.{◌≡◌, ◌⊎◌, ℕ, List, Option, Ok}
 use Rattle.media_file.specs.Fronts.{front_at}
-use Rattle.sdp_format.specs.Bytes.{lines}
-use Rattle.sdp_format.specs.Grammar.{IsTextFault}
-use Rattle.sdp_format.specs.Sections.{video_sections}
+use Rattle.run_outcome.specs.TextRefusals.{IsDescriptionRefusal}
 use Rattle.run_outcome.specs.declared.refusal.Refusal.{Refusal}
 use Rattle.run_outcome.specs.declared.refusal.Refusal.TheVariants as refusal
 use Rattle.export_engine.specs.ExportRefused.{IsReadRefusal}
 use Rattle.export_engine.specs.Packets.{AreEnvelopes}
 use Rattle.export_engine.specs.declared.places.Envelopes.{Envelopes}
 
--- the refusal of a text that is to say the rate: it is no SDP of video, by this fault
-abbrev pub IsRateRefusal : List ℕ → Refusal → Type 0
-IsRateRefusal text (refusal.Sdp at) = IsTextFault (video_sections (lines text)) at.fault
-IsRateRefusal text r = ⊥
-
--- so of a capture that was read
+-- the refusal of the text of a capture that was read, which is to say the rate: it is no SDP of
+-- video
 abbrev pub IsFrontRefusal : (List ℕ → Type 0) → Refusal → Type 0
 IsFrontRefusal told r = (octets : List ℕ) → told octets
-    → (x : List ℕ × List ℕ) × (front_at octets ≡ Ok x) × IsRateRefusal x.0 r
+    → (x : List ℕ × List ℕ) × (front_at octets ≡ Ok x) × IsDescriptionRefusal x.0 r
 
 -- the refusals of the first reading: of the capture; of its text
 abbrev pub IsAheadRefusal : (List ℕ → Type 0) → Refusal → Type 0

@@ -5,10 +5,11 @@ ghost use Rattle.media_file.specs.Faults.{CountsDevice};
 ghost use Rattle.media_file.specs.Fields.{GaveFault};
 ghost use Rattle.run_outcome.specs.Fault.{Accounts, counts};
 ghost use Rattle.run_outcome.specs.Refusing.{OfRefusal};
+ghost use Rattle.run_outcome.specs.TextRefusals.{IsDescriptionRefusal};
 ghost use Rattle.st_format.specs.History.{IsRead};
 ghost use Rattle.paced_export.specs.Counts.{Counts};
 ghost use Rattle.paced_export.specs.PacedExported.{CountsRecords, ReadsAhead, SaysActive};
-ghost use Rattle.paced_export.specs.PacedRefused.{IsAheadRefusal, IsRateRefusal};
+ghost use Rattle.paced_export.specs.PacedRefused.{IsAheadRefusal};
 
 use crate::moments::{active_time, timestamp_in};
 use crate::tally::FrameCounts;
@@ -75,7 +76,7 @@ fn read_frames<A: Allocator + Copy, S: ByteSource>(
 fn active_said<A: Allocator + Copy>(alloc: A, text: &[u8]) -> Result<u64, Fault>
     ensures said { IfOk result (SaysActive text.now) }
     ensures short { IfOk result (λ active. active ≤ 960000000) }
-    ensures refusal { IfErr result (λ f. OfRefusal f (IsRateRefusal text.now)) }
+    ensures refusal { IfErr result (λ f. OfRefusal f (IsDescriptionRefusal text.now)) }
     ensures failures { Accounts result [] }
 {
     let sdp = read_located(alloc, text)?;

@@ -6,7 +6,7 @@ use Rattle.std.specs.Option.{option_map}
 use Rattle.std.specs.Prelude.{IfSome}
 use Rattle.media_file.specs.Records.{Entry}
 use Rattle.recording_engines.specs.Files.{IsEarliest, IsSooner, Leads, NextIsLater}
-use Rattle.recording_engines.specs.Files.{NextIsNoSooner, next_of}
+use Rattle.recording_engines.specs.Files.{NextIsNoSooner, next_entry}
 use Rattle.recording_engines.specs.declared.file.ImportFile.{ImportFile}
 
 pub leads_within : {A S : Type 0} (k moment : ℕ) (fs : List (ImportFile A S)) → Leads k moment fs
@@ -36,8 +36,8 @@ next_some (Some e) moment at =
     record { entry = e; is = refl; moment_is = cc }
 
 none_sooner : {A S : Type 0} (moment : ℕ) (fs : List (ImportFile A S))
-    → AllByRecursion (λ f. next_of f ≡ None) fs
-    → AllByRecursion (λ f. NextIsNoSooner moment (next_of f)) fs
+    → AllByRecursion (λ f. next_entry f ≡ None) fs
+    → AllByRecursion (λ f. NextIsNoSooner moment (next_entry f)) fs
 none_sooner moment [] none = tt
 none_sooner moment (f ∷ fs) none =
     (subst (NextIsNoSooner moment) (sym none.0) tt, none_sooner moment fs none.1)
@@ -53,46 +53,46 @@ later_by moment later None le is = tt
 later_by moment later (Some e) le is = omega (arith, le, is)
 
 all_by : {A S : Type 0} (moment later : ℕ) (fs : List (ImportFile A S)) → moment ≤ later
-    → AllByRecursion (λ f. NextIsNoSooner later (next_of f)) fs
-    → AllByRecursion (λ f. NextIsNoSooner moment (next_of f)) fs
+    → AllByRecursion (λ f. NextIsNoSooner later (next_entry f)) fs
+    → AllByRecursion (λ f. NextIsNoSooner moment (next_entry f)) fs
 all_by moment later [] le is = tt
 all_by moment later (f ∷ fs) le is =
-    (no_sooner_by moment later (next_of f) le is.0, all_by moment later fs le is.1)
+    (no_sooner_by moment later (next_entry f) le is.0, all_by moment later fs le is.1)
 
 led_sooner : {A S : Type 0} (moment later k : ℕ) (fs : List (ImportFile A S)) → moment ≤ later
-    → Leads k later fs → AllByRecursion (λ f. NextIsNoSooner moment (next_of f)) fs
+    → Leads k later fs → AllByRecursion (λ f. NextIsNoSooner moment (next_entry f)) fs
 led_sooner moment later k [] le leads = absurd leads
 led_sooner moment later zero (f ∷ fs) le leads =
     let e = leads.0.0 in
     let at : moment ≤ e.moment = omega (arith, le, leads.0.2) in
     (subst (NextIsNoSooner moment) (sym leads.0.1) at, all_by moment later fs le leads.1)
 led_sooner moment later (suc k) (f ∷ fs) le leads =
-    (later_by moment later (next_of f) le leads.0, led_sooner moment later k fs le leads.1)
+    (later_by moment later (next_entry f) le leads.0, led_sooner moment later k fs le leads.1)
 
 one_more : {A S : Type 0} (f : ImportFile A S) (fs : List (ImportFile A S)) (k moment : ℕ)
-    → NextIsLater moment (next_of f) → Leads k moment fs → Leads (k + 1) moment (f ∷ fs)
+    → NextIsLater moment (next_entry f) → Leads k moment fs → Leads (k + 1) moment (f ∷ fs)
 one_more f fs k moment later leads =
     subst (λ (n : ℕ). Leads n moment (f ∷ fs)) (sym (add-one k)) (later, leads)
 
 pub earliest_of : {A S : Type 0} (f : ImportFile A S) (fs : List (ImportFile A S))
-    (first : Option ℕ) (later found : Option (ℕ × ℕ)) → first ≡ moment_in (next_of f)
+    (first : Option ℕ) (later found : Option (ℕ × ℕ)) → first ≡ moment_in (next_entry f)
     → IsEarliest fs later → IsSooner first later found → IsEarliest (f ∷ fs) found
 earliest_of f fs None None found at rest sooner =
-    subst (IsEarliest (f ∷ fs)) (sym sooner) (next_none (next_of f) at, rest)
+    subst (IsEarliest (f ∷ fs)) (sym sooner) (next_none (next_entry f) at, rest)
 earliest_of f fs None (Some x) found at rest sooner =
     subst (IsEarliest (f ∷ fs)) (sym sooner)
-    (one_more f fs x.0 x.1 (subst (NextIsLater x.1) (sym (next_none (next_of f) at)) tt) rest)
+    (one_more f fs x.0 x.1 (subst (NextIsLater x.1) (sym (next_none (next_entry f) at)) tt) rest)
 earliest_of f fs (Some m) None found at rest sooner =
-    let has = next_some (next_of f) m at in
+    let has = next_some (next_entry f) m at in
     subst (IsEarliest (f ∷ fs)) (sym sooner)
     ((has.entry, has.is, has.moment_is), none_sooner m fs rest)
 earliest_of f fs (Some m) (Some x) found at rest (inl sooner) =
-    let has = next_some (next_of f) m at in
+    let has = next_some (next_entry f) m at in
     let lt : x.1 < has.entry.moment = omega (arith, sooner.0, has.moment_is) in
     subst (IsEarliest (f ∷ fs)) (sym sooner.1)
     (one_more f fs x.0 x.1 (subst (NextIsLater x.1) (sym has.is) lt) rest)
 earliest_of f fs (Some m) (Some x) found at rest (inr sooner) =
-    let has = next_some (next_of f) m at in
+    let has = next_some (next_entry f) m at in
     subst (IsEarliest (f ∷ fs)) (sym sooner.1)
     ((has.entry, has.is, has.moment_is), led_sooner m x.1 x.0 fs sooner.0 rest)
 

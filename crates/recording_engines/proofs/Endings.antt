@@ -21,16 +21,16 @@ use Rattle.run_outcome.specs.declared.refusal.Refusal.{Refusal}
 use Rattle.st_format.specs.declared.path.Path.TheVariants.{A, B}
 use Rattle.st_format.specs.Device.{capped}
 use Rattle.recording_reader.specs.declared.fault.ReadingFault.{ReadingFault}
-use Rattle.recording_engines.specs.Files.{AllOpened, AllReady, AreLeftOut, IsAt, IsKnown}
-use Rattle.recording_engines.specs.Files.{IsReadByFlows, IsReady, begun_of, ended_by, gave_by}
-use Rattle.recording_engines.specs.Files.{next_of, standing_of, standings}
+use Rattle.recording_engines.specs.Files.{AllOpened, AllReady, AreLeftOut, HasKnownOctets}
+use Rattle.recording_engines.specs.Files.{IsFailedAt, IsReadByFlows, IsReady, begun_of, ended_by}
+use Rattle.recording_engines.specs.Files.{gave_by, next_entry, standing_of, standings}
 use Rattle.recording_engines.specs.Imported.{AreOver, AsksFlows, Imports, IsJoinRefusal}
 use Rattle.recording_engines.specs.Joining.{ComesLater, ComesNoFault, ComesNoSooner, GoFurther}
-use Rattle.recording_engines.specs.Joining.{GoesOn, IsNext, Joins, JoinsTo, OneAt, OneHasMore}
-use Rattle.recording_engines.specs.Joining.{Strand}
-use Rattle.recording_engines.specs.Opened.{Begins}
-use Rattle.recording_engines.specs.Progress.{JoinsAll, OneComes}
-use Rattle.recording_engines.specs.Progress.{OneFileAt, StopsJoining, count_of}
+use Rattle.recording_engines.specs.Joining.{IsAtNoFault, IsJoinedNext, JoinsByMoment, JoinsTo}
+use Rattle.recording_engines.specs.Joining.{OneAt, OneHasMore, Strand}
+use Rattle.recording_engines.specs.Opened.{BeginsUnrefused}
+use Rattle.recording_engines.specs.Progress.{HasWrittenAll, OneComes}
+use Rattle.recording_engines.specs.Progress.{OneFileAt, StopsJoining, count_of_path}
 use Rattle.recording_engines.specs.Steps.{Ahead, AllFresh, AllLay, Coming, HasJoined, Over, Standing}
 use Rattle.recording_engines.specs.Steps.{left_by, lefts, nothing, whole, wholes}
 use Rattle.recording_engines.specs.Strands.{IsTakenBy, TakesBy, left_out_in, omissions_in}
@@ -76,14 +76,14 @@ pub joins_to : (Ends : List Strand → Type 0) (strands : List Strand) (ss : Lis
     → ((rs : List Strand) → Ends (lefts ss rs)) → JoinsTo Ends strands es
 joins_to Ends strands ss es whole joined ends = record {
   left = lefts ss whole.rs;
-  joins = subst (λ (l : List Strand). Joins l es (lefts ss whole.rs)) (sym whole.same)
+  joins = subst (λ (l : List Strand). JoinsByMoment l es (lefts ss whole.rs)) (sym whole.same)
       (joined.joins whole.rs);
   ends = ends whole.rs;
 }
 
 -- ---- how it ends
 
-over_at : {X S : Type 0} (f : ReadingFault) (x : ImportFile X S) → IsAt f x
+over_at : {X S : Type 0} (f : ReadingFault) (x : ImportFile X S) → IsFailedAt f x
     → (standing_of x).ahead ≡ Over (Some f)
 over_at f (Closed s) at = absurd at
 over_at f (Open r) at = ap (λ (s : Stand). ahead_by s r.at_hand) at
@@ -91,7 +91,7 @@ over_at f Taken at = absurd at
 
 -- files that were read on are at no fault
 going_by : (stand : Stand) (at_hand : Option Entry) (r : Strand) → HasAhead stand at_hand
-    → GoesOn (left_by (ahead_by stand at_hand) r)
+    → IsAtNoFault (left_by (ahead_by stand at_hand) r)
 going_by Reads None r ready = absurd ready
 going_by Reads (Some e) r ready = tt
 going_by Ended None r ready = tt
@@ -100,13 +100,13 @@ going_by (Failed f) None r ready = absurd ready
 going_by (Failed f) (Some e) r ready = absurd ready
 
 pub file_going : {X S : Type 0} (f : ImportFile X S) → IsReady f → (r : Strand)
-    → GoesOn (left_by (standing_of f).ahead r)
+    → IsAtNoFault (left_by (standing_of f).ahead r)
 file_going (Closed s) ready r = absurd ready
 file_going (Open x) ready r = going_by x.standing x.at_hand r ready
 file_going Taken ready r = absurd ready
 
 all_going : {X S : Type 0} (fs : List (ImportFile X S)) → AllByRecursion IsReady fs
-    → (rs : List Strand) → AllByRecursion GoesOn (lefts (standings fs) rs)
+    → (rs : List Strand) → AllByRecursion IsAtNoFault (lefts (standings fs) rs)
 all_going [] ready rs = tt
 all_going (f ∷ fs) ready [] = (file_going f ready.0 nothing, all_going fs ready.1 [])
 all_going (f ∷ fs) ready (r ∷ rs) = (file_going f ready.0 r, all_going fs ready.1 rs)
@@ -143,14 +143,14 @@ over_by Ended (Some e) ready none = absurd ready
 over_by (Failed f) None ready none = absurd ready
 over_by (Failed f) (Some e) ready none = absurd ready
 
-over_one : {X S : Type 0} (f : ImportFile X S) → IsReady f → next_of f ≡ None
+over_one : {X S : Type 0} (f : ImportFile X S) → IsReady f → next_entry f ≡ None
     → (standing_of f).ahead ≡ Over None
 over_one (Closed s) ready none = absurd ready
 over_one (Open r) ready none = over_by r.standing r.at_hand ready none
 over_one Taken ready none = absurd ready
 
 over_all : {X S : Type 0} (fs : List (ImportFile X S)) → AllByRecursion IsReady fs
-    → AllByRecursion (λ f. next_of f ≡ None) fs
+    → AllByRecursion (λ f. next_entry f ≡ None) fs
     → AllByRecursion (λ s. s.ahead ≡ Over None) (standings fs)
 over_all [] ready none = tt
 over_all (f ∷ fs) ready none = (over_one f ready.0 none.0, over_all fs ready.1 none.1)
@@ -196,8 +196,8 @@ pub record HasImported {X S : Type 0} (gave : S → List ℕ) (ended : S → Typ
         → AllZip (WasRead (gave_by gave) (ended_by ended)) (zip olds news) octets
         → AreLeftOut news (omissions_in each octets)
     pub taken : took' ≡ took ++ (front_text Two text ++ records_text entries)
-    pub a : w.a ≡ count_of A entries
-    pub b : w.b ≡ count_of B entries
+    pub a : w.a ≡ count_of_path A entries
+    pub b : w.b ≡ count_of_path B entries
 
 behind_front : (took mid took' front records : List ℕ) → mid ≡ took ++ front
     → took' ≡ mid ++ records → took' ≡ took ++ (front ++ records)
@@ -207,9 +207,9 @@ behind_front took mid took' front records first then =
 pub has_imported : {X S : Type 0} (gave : S → List ℕ) (ended : S → Type 0)
     (each : List (Option Flows)) (olds mids news : List (ImportFile X S))
     (text took mid took' : List ℕ) (w : Written) → AllOpened gave each olds mids
-    → map begun_of news ≡ map begun_of mids → AllByRecursion (IsKnown gave ended) news
+    → map begun_of news ≡ map begun_of mids → AllByRecursion (HasKnownOctets gave ended) news
     → AllByRecursion IsReadByFlows news → mid ≡ took ++ front_text Two text
-    → JoinsAll news mid took' w
+    → HasWrittenAll news mid took' w
     → HasImported gave ended olds news each text took took' w
 has_imported gave ended each olds mids news text took mid took' w opened same known kind front
     joins =
@@ -251,28 +251,29 @@ comes_no_sooner moment [] (Some f) is = absurd is
 comes_no_sooner moment (e ∷ es) f is = tt
 
 all_no_sooner : (moment : ℕ) (ss : List Strand)
-    → AllByRecursion (λ t. ComesNoSooner moment t.entries t.fault) ss → AllByRecursion GoesOn ss
+    → AllByRecursion (λ t. ComesNoSooner moment t.entries t.fault) ss
+    → AllByRecursion IsAtNoFault ss
 all_no_sooner moment [] is = tt
 all_no_sooner moment (s ∷ ss) is =
     (comes_no_sooner moment s.entries s.fault is.0, all_no_sooner moment ss is.1)
 
-next_going : (ss : List Strand) (e : Entry) (left : List Strand) → IsNext ss e left
-    → AllByRecursion GoesOn ss
+next_going : (ss : List Strand) (e : Entry) (left : List Strand) → IsJoinedNext ss e left
+    → AllByRecursion IsAtNoFault ss
 next_going [] e left next = absurd next
 next_going (s ∷ ss) e [] next = absurd next
 next_going (s ∷ ss) e (l ∷ ls) (inl next) =
-    (subst GoesOn (sym next.0) tt, all_no_sooner e.moment ss next.2)
+    (subst IsAtNoFault (sym next.0) tt, all_no_sooner e.moment ss next.2)
 next_going (s ∷ ss) e (l ∷ ls) (inr next) =
     (comes_later e.moment s.entries s.fault next.1, next_going ss e ls next.2)
 
 joins_going : (ss : List Strand) (es : List Entry) (left : List Strand) → 0 < length es
-    → Joins ss es left → AllByRecursion GoesOn ss
+    → JoinsByMoment ss es left → AllByRecursion IsAtNoFault ss
 joins_going ss [] left lt joins = absurd (omega (arith, lt))
 joins_going ss (e ∷ es) left lt joins = next_going ss e joins.0 joins.1
 
 -- so none of the files was refused before its first record
 all_begin : (each : List (Option Flows)) (octets : List (List ℕ)) → AllZip IsTakenBy each octets
-    → AllByRecursion GoesOn (strands_in each octets) → AllZip Begins each octets
+    → AllByRecursion IsAtNoFault (strands_in each octets) → AllZip BeginsUnrefused each octets
 all_begin [] [] taken going = tt
 all_begin [] (o ∷ os) taken going = absurd taken
 all_begin (f ∷ fs) [] taken going = absurd taken
@@ -281,7 +282,7 @@ all_begin (f ∷ fs) (o ∷ os) taken going =
 
 begin_joined : (Ends : List Strand → Type 0) (each : List (Option Flows)) (octets : List (List ℕ))
     (es : List Entry) → 0 < length es → AllZip IsTakenBy each octets
-    → JoinsTo Ends (strands_in each octets) es → AllZip Begins each octets
+    → JoinsTo Ends (strands_in each octets) es → AllZip BeginsUnrefused each octets
 begin_joined Ends each octets es some taken joins =
     all_begin each octets taken
     (joins_going (strands_in each octets) es joins.left some joins.joins)
@@ -289,7 +290,7 @@ begin_joined Ends each octets es some taken joins =
 pub has_stopped : {X S : Type 0} (gave : S → List ℕ) (ended : S → Type 0)
     (each : List (Option Flows)) (olds mids news : List (ImportFile X S))
     (text took mid took' : List ℕ) (r : Refusal) → AllOpened gave each olds mids
-    → map begun_of news ≡ map begun_of mids → AllByRecursion (IsKnown gave ended) news
+    → map begun_of news ≡ map begun_of mids → AllByRecursion (HasKnownOctets gave ended) news
     → AllByRecursion IsReadByFlows news → mid ≡ took ++ front_text Two text
     → StopsJoining r news mid took'
     → IsJoinRefusal (WasRead (gave_by gave) (ended_by ended)) each text (zip olds news) took took' r
@@ -400,7 +401,8 @@ imports gave ended a b Said olds news each flows text took took' shown shown' r 
           total (omissions_in each octets) (left (omissions_in each octets) (has.left octets read)) in
           printed ∙ ap (λ (l : Line). shown ++ (line_text l ++ 10 ∷ []))
           (ap (λ (k : ℕ). line.Recorded k r.b n) has.a
-          ∙ ap (λ (k : ℕ). line.Recorded (count_of A has.entries) k n) has.b
-          ∙ ap (λ (k : ℕ). line.Recorded (count_of A has.entries) (count_of B has.entries) k)
+          ∙ ap (λ (k : ℕ). line.Recorded (count_of_path A has.entries) k n) has.b
+          ∙ ap (λ (k : ℕ). line.Recorded (count_of_path A has.entries)
+          (count_of_path B has.entries) k)
           count);
     }

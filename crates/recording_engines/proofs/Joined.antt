@@ -4,11 +4,11 @@ use Rattle.std.proofs.Common.{Some, refl, sym, ap, subst, ◌∙◌, append_asso
 use Rattle.std.specs.List.{AllByRecursion}
 use Rattle.media_file.specs.Records.{Entry}
 use Rattle.recording_reader.specs.declared.fault.ReadingFault.{ReadingFault}
-use Rattle.recording_engines.specs.Joining.{ComesLater, ComesNoSooner, IsNext, Joins, IsOver}
-use Rattle.recording_engines.specs.Joining.{Strand}
-use Rattle.recording_engines.specs.Steps.{AllFresh, HasJoined, IsLater, IsNoSooner, ReadsMore, Takes}
+use Rattle.recording_engines.specs.Joining.{ComesLater, ComesNoSooner, IsJoinedNext, IsOver}
+use Rattle.recording_engines.specs.Joining.{JoinsByMoment, Strand}
+use Rattle.recording_engines.specs.Steps.{Ahead, AllFresh, Coming, HasJoined, IsLater, IsNoSooner}
+use Rattle.recording_engines.specs.Steps.{Over, ReadsMore, Standing, TakesEarliest, Unknown}
 use Rattle.recording_engines.specs.Steps.{left_by, left_of, lefts, nothing, whole, whole_by, wholes}
-use Rattle.recording_engines.specs.Steps.{Ahead, Coming, Over, Standing}
 
 abbrev strand : List Entry → Option ReadingFault → Strand
 strand es f = record { entries = es; fault = f }
@@ -17,11 +17,13 @@ strand es f = record { entries = es; fault = f }
 
 -- what was to come of it before
 abbrev come : Ahead → Strand → Strand
+come Unknown r = r
 come (Coming e) r = record { entries = e ∷ r.entries; fault = r.fault }
 come (Over f) r = record { entries = []; fault = f }
 
 whole_more : (es es' : List Entry) (e : Entry) (a : Ahead) (r : Strand) → ReadsMore es a es'
     → whole_by es' a r ≡ whole_by es (Coming e) (come a r)
+whole_more es es' e Unknown r more = absurd more
 whole_more es es' e (Coming f) r more =
     ap (λ (l : List Entry). strand l r.fault)
     (ap (λ (l : List Entry). l ++ r.entries) more ∙ append_assoc es (f ∷ []) r.entries)
@@ -31,6 +33,7 @@ whole_more es es' e (Over f) r more =
 left_more : (e : Entry) (a : Ahead) (r : Strand)
     → left_by (Coming e) (come a r)
     ≡ record { entries = e ∷ (left_by a r).entries; fault = (left_by a r).fault }
+left_more e Unknown r = refl
 left_more e (Coming f) r = refl
 left_more e (Over f) r = refl
 
@@ -38,12 +41,14 @@ left_more e (Over f) r = refl
 
 later : (moment : ℕ) (a : Ahead) (r : Strand) → IsLater moment a
     → ComesLater moment (left_by a r).entries (left_by a r).fault
+later moment Unknown r is = absurd is
 later moment (Coming e) r is = is
 later moment (Over None) r is = tt
 later moment (Over (Some f)) r is = absurd is
 
 no_sooner : (moment : ℕ) (a : Ahead) (r : Strand) → IsNoSooner moment a
     → ComesNoSooner moment (left_by a r).entries (left_by a r).fault
+no_sooner moment Unknown r is = absurd is
 no_sooner moment (Coming e) r is = is
 no_sooner moment (Over None) r is = tt
 no_sooner moment (Over (Some f)) r is = absurd is
@@ -63,13 +68,13 @@ none_sooner moment (s ∷ ss) (r ∷ rs) is =
 pub record Came (ss ss' : List Standing) (e : Entry) (rs' : List Strand) : Type 0 where
   pub rs : List Strand
   pub same : wholes ss' rs' ≡ wholes ss rs
-  pub next : IsNext (lefts ss rs) e (lefts ss' rs')
+  pub next : IsJoinedNext (lefts ss rs) e (lefts ss' rs')
 
 here : (s s' : Standing) (ss ss' : List Standing) (e : Entry) (r' : Strand) (rs : List Strand)
     → s.ahead ≡ Coming e → ReadsMore s.entries s'.ahead s'.entries → ss' ≡ ss
     → AllByRecursion (λ t. IsNoSooner e.moment t.ahead) ss
     → (whole s' r' ∷ wholes ss' rs ≡ whole s (come s'.ahead r') ∷ wholes ss rs)
-    × IsNext (left_of s (come s'.ahead r') ∷ lefts ss rs) e (left_of s' r' ∷ lefts ss' rs)
+    × IsJoinedNext (left_of s (come s'.ahead r') ∷ lefts ss rs) e (left_of s' r' ∷ lefts ss' rs)
 here s s' ss ss' e r' rs coming more same all = (
   cons (whole_more s.entries s'.entries e s'.ahead r' more
       ∙ ap (λ (a : Ahead). whole_by s.entries a (come s'.ahead r')) (sym coming))
@@ -86,9 +91,9 @@ here s s' ss ss' e r' rs coming more same all = (
 
 there : (s s' : Standing) (ss ss' : List Standing) (e : Entry) (r : Strand) (rs' rs : List Strand)
     → s' ≡ s → IsLater e.moment s.ahead → wholes ss' rs' ≡ wholes ss rs
-    → IsNext (lefts ss rs) e (lefts ss' rs')
+    → IsJoinedNext (lefts ss rs) e (lefts ss' rs')
     → (whole s' r ∷ wholes ss' rs' ≡ whole s r ∷ wholes ss rs)
-    × IsNext (left_of s r ∷ lefts ss rs) e (left_of s' r ∷ lefts ss' rs')
+    × IsJoinedNext (left_of s r ∷ lefts ss rs) e (left_of s' r ∷ lefts ss' rs')
 there s s' ss ss' e r rs' rs same is wholes_same next = (
   cc,
   inr (
@@ -98,7 +103,7 @@ there s s' ss ss' e r rs' rs same is wholes_same next = (
   ),
 )
 
-pub came : (ss ss' : List Standing) (e : Entry) (rs' : List Strand) → Takes ss e ss'
+pub came : (ss ss' : List Standing) (e : Entry) (rs' : List Strand) → TakesEarliest ss e ss'
     → Came ss ss' e rs'
 came [] ss' e rs' takes = absurd takes
 came (s ∷ ss) [] e rs' takes = absurd takes
@@ -118,25 +123,26 @@ came (s ∷ ss) (s' ∷ ss') e (r ∷ rs) (inr takes) =
     record { rs = r ∷ rest.rs; same = is.0; next = is.1 }
 
 joins_more : (strands left left' : List Strand) (es : List Entry) (e : Entry)
-    → Joins strands es left → IsNext left e left' → Joins strands (es ++ e ∷ []) left'
+    → JoinsByMoment strands es left → IsJoinedNext left e left'
+    → JoinsByMoment strands (es ++ e ∷ []) left'
 joins_more strands left left' [] e joins next =
-    (left', subst (λ (l : List Strand). IsNext l e left') joins next, refl)
+    (left', subst (λ (l : List Strand). IsJoinedNext l e left') joins next, refl)
 joins_more strands left left' (x ∷ xs) e joins next =
     (joins.0, joins.1, joins_more joins.0 left left' xs e joins.2 next)
 
 pub joined_more : (ss ss' : List Standing) (es : List Entry) (e : Entry) → HasJoined ss es
-    → Takes ss e ss' → HasJoined ss' (es ++ e ∷ [])
+    → TakesEarliest ss e ss' → HasJoined ss' (es ++ e ∷ [])
 joined_more ss ss' es e joined takes = record {
   joins = λ rs'.
       let was = came ss ss' e rs' takes in
-      subst (λ (l : List Strand). Joins l (es ++ e ∷ []) (lefts ss' rs')) (sym was.same)
+      subst (λ (l : List Strand). JoinsByMoment l (es ++ e ∷ []) (lefts ss' rs')) (sym was.same)
       (joins_more (wholes ss was.rs) (lefts ss was.rs) (lefts ss' rs') es e
       (joined.joins was.rs) was.next);
 }
 
 -- ---- the beginning and the end
 
-fresh_same : (ss : List Standing) (rs : List Strand) → AllFresh ss → lefts ss rs ≡ wholes ss rs
+pub fresh_same : (ss : List Standing) (rs : List Strand) → AllFresh ss → lefts ss rs ≡ wholes ss rs
 fresh_same [] rs fresh = refl
 fresh_same (s ∷ ss) [] fresh =
     let one = fresh.0 nothing in

@@ -17,9 +17,10 @@ use Rattle.run_outcome.specs.declared.fault.Fault.TheVariants.{Refused}
 use Rattle.run_outcome.specs.declared.refusal.Refusal.{Refusal}
 use Rattle.run_outcome.specs.LowerFaults.{reading_fault}
 use Rattle.st_format.specs.History.{IsRead}
-use Rattle.recording_engines.specs.Files.{AllOpened, AreLeftOut, HasAhead, IsAt, IsKnown, IsReady}
-use Rattle.recording_engines.specs.Files.{ahead_by, begun_of, ended_by, gave_by, left_out_by}
-use Rattle.recording_engines.specs.Files.{IsReadByFlows, next_of, standing_of, standings}
+use Rattle.recording_engines.specs.Files.{AllOpened, AreLeftOut, HasAhead, HasKnownOctets}
+use Rattle.recording_engines.specs.Files.{IsFailedAt, IsReadByFlows, IsReady, ahead_by, begun_of}
+use Rattle.recording_engines.specs.Files.{ended_by, gave_by, left_out_by, next_entry, standing_of}
+use Rattle.recording_engines.specs.Files.{standings}
 use Rattle.recording_engines.specs.Joining.{Strand}
 use Rattle.recording_engines.specs.Progress.{OneFileAt}
 use Rattle.recording_engines.specs.Steps.{AllLay, Lays, Standing, nothing, whole_by}
@@ -79,13 +80,14 @@ file_ready (Open r) ready = told_ready r.standing r.at_hand ready
 file_ready Taken ready = absurd ready
 
 pub file_at : {A S : Type 0} (f : ReadingFault) (r : Refusal) (x : ImportFile A S)
-    → reading_fault f ≡ Refused r → IsAt f x → IsToldFile x
+    → reading_fault f ≡ Refused r → IsFailedAt f x → IsToldFile x
 file_at f r (Closed s) told is = absurd is
 file_at f r (Open x) told is = told_at f r x.standing x.at_hand told is
 file_at f r Taken told is = absurd is
 
 pub lays_file : {A S : Type 0} (gave : S → List ℕ) (ended : S → Type 0) (flows : Option Flows)
-    (before : List ℕ) (f : ImportFile A S) → begun_of f ≡ (flows, before) → IsKnown gave ended f
+    (before : List ℕ) (f : ImportFile A S) → begun_of f ≡ (flows, before)
+    → HasKnownOctets gave ended f
     → IsToldFile f → Lays before (gave_by gave f) (ended_by ended f) flows (standing_of f)
 lays_file gave ended flows before (Closed s) begun known told = absurd told
 lays_file gave ended flows before (Open r) begun known told =
@@ -120,7 +122,7 @@ all_but f r (x ∷ xs) told (inr one) = (file_ready x one.0, all_but f r xs told
 -- files that were opened, and since read on
 pub all_lay : {A S : Type 0} (gave : S → List ℕ) (ended : S → Type 0) (each : List (Option Flows))
     (olds mids news : List (ImportFile A S)) → AllOpened gave each olds mids
-    → map begun_of news ≡ map begun_of mids → AllByRecursion (IsKnown gave ended) news
+    → map begun_of news ≡ map begun_of mids → AllByRecursion (HasKnownOctets gave ended) news
     → AllTold news
     → AllLay (gave_by gave) (ended_by ended) (zip olds news) each (standings news)
 all_lay gave ended [] [] [] [] opened same known told = tt
@@ -142,7 +144,7 @@ all_lay gave ended (f ∷ fs) (o ∷ os) (m ∷ ms) (n ∷ ns) opened same known
 -- a recording of them is taken by flows
 pub taken_file : {A S : Type 0} (gave : S → List ℕ) (ended : S → Type 0) (flows : Option Flows)
     (before octets : List ℕ) (f : ImportFile A S) → begun_of f ≡ (flows, before)
-    → IsKnown gave ended f → IsReadByFlows f → IsToldFile f
+    → HasKnownOctets gave ended f → IsReadByFlows f → IsToldFile f
     → IsRead before (gave_by gave f) (ended_by ended f) octets → IsTakenBy flows octets
 taken_file gave ended flows before octets (Closed s) begun known kind told read = absurd told
 taken_file gave ended flows before octets (Open r) begun known kind told read = λ recording.
@@ -155,7 +157,7 @@ taken_file gave ended flows before octets Taken begun known kind told read = abs
 pub taken_all : {A S : Type 0} (gave : S → List ℕ) (ended : S → Type 0)
     (each : List (Option Flows)) (olds mids news : List (ImportFile A S))
     (octets : List (List ℕ)) → AllOpened gave each olds mids
-    → map begun_of news ≡ map begun_of mids → AllByRecursion (IsKnown gave ended) news
+    → map begun_of news ≡ map begun_of mids → AllByRecursion (HasKnownOctets gave ended) news
     → AllByRecursion IsReadByFlows news → AllTold news
     → AllZip (WasRead (gave_by gave) (ended_by ended)) (zip olds news) octets
     → AllZip IsTakenBy each octets
@@ -195,7 +197,7 @@ left_by_known flows (Failed f) (Some e) es left octets known ready none = absurd
 
 left_file : {A S : Type 0} (gave : S → List ℕ) (ended : S → Type 0) (flows : Option Flows)
     (before octets : List ℕ) (f : ImportFile A S) → begun_of f ≡ (flows, before)
-    → IsKnown gave ended f → IsReady f → next_of f ≡ None
+    → HasKnownOctets gave ended f → IsReady f → next_entry f ≡ None
     → IsRead before (gave_by gave f) (ended_by ended f) octets
     → left_out_by f ≡ left_out_of (omissions_of_file flows octets)
 left_file gave ended flows before octets (Closed s) begun known ready none read = absurd ready
@@ -211,8 +213,8 @@ left_file gave ended flows before octets Taken begun known ready none read = abs
 pub left_all : {A S : Type 0} (gave : S → List ℕ) (ended : S → Type 0)
     (each : List (Option Flows)) (olds mids news : List (ImportFile A S))
     (octets : List (List ℕ)) → AllOpened gave each olds mids
-    → map begun_of news ≡ map begun_of mids → AllByRecursion (IsKnown gave ended) news
-    → AllByRecursion IsReady news → AllByRecursion (λ f. next_of f ≡ None) news
+    → map begun_of news ≡ map begun_of mids → AllByRecursion (HasKnownOctets gave ended) news
+    → AllByRecursion IsReady news → AllByRecursion (λ f. next_entry f ≡ None) news
     → AllZip (WasRead (gave_by gave) (ended_by ended)) (zip olds news) octets
     → AreLeftOut news (omissions_in each octets)
 left_all gave ended [] [] [] [] octets opened same known ready none read = refl

@@ -18,13 +18,13 @@ use Rattle.run_outcome.specs.declared.refusal.Refusal.{Refusal}
 use Rattle.run_outcome.specs.LowerFaults.{reading_fault}
 use Rattle.st_format.specs.History.{IsRead}
 use Rattle.recording_engines.specs.Faults.{opening_fault}
-use Rattle.recording_engines.specs.Files.{AllClosed, AllOpened, IsClosed, IsKnown, IsOpened}
-use Rattle.recording_engines.specs.Files.{ReadsOn, ReadsToFault, begun_of, ended_by, gave_by}
+use Rattle.recording_engines.specs.Files.{AllClosed, AllOpened, HasKnownOctets, IsClosed, IsOpened}
+use Rattle.recording_engines.specs.Files.{ReadsFileOn, ReadsToFault, begun_of, ended_by, gave_by}
 use Rattle.recording_engines.specs.Files.{IsReadByFlows, standing_of}
-use Rattle.recording_engines.specs.Joining.{GoesOn, Strand}
+use Rattle.recording_engines.specs.Joining.{IsAtNoFault, Strand}
 use Rattle.recording_engines.specs.Opened.{AllBegin, IsFirstStop, IsStopRefusal}
 use Rattle.recording_engines.specs.Steps.{Ahead, Coming, IsFresh, Over, ReadsMore, Standing}
-use Rattle.recording_engines.specs.Steps.{left_by, whole_by}
+use Rattle.recording_engines.specs.Steps.{Unknown, left_by, whole_by}
 use Rattle.recording_engines.specs.declared.file.ImportFile.{ImportFile}
 use Rattle.recording_engines.proofs.FileFaults.{front_strand, of_each, of_file, opening_blames}
 use Rattle.recording_engines.proofs.FileFaults.{strand}
@@ -60,7 +60,7 @@ whole_over s f r over none =
 -- a fault before the first record
 pub first_stops : {A S : Type 0} (gave : S → List ℕ) (ended : S → Type 0) (fault : Fault)
     (old new : ImportFile A S) → (standing_of old).entries ≡ [] → ReadsToFault fault old new
-    → IsKnown gave ended new
+    → HasKnownOctets gave ended new
     → OfRefusal fault (IsStopRefusal
     (IsRead (begun_of new).1 (gave_by gave new) (ended_by ended new)) (begun_of new).0)
 first_stops gave ended fault old new none stops known =
@@ -76,7 +76,7 @@ first_stops gave ended fault old new none stops known =
 
 pub first_refused : {A S V : Type 0} (gave : S → List ℕ) (ended : S → Type 0)
     (result : Result V Fault) (old new : ImportFile A S) → (standing_of old).entries ≡ []
-    → IfErr result (λ f. ReadsToFault f old new) → IsKnown gave ended new
+    → IfErr result (λ f. ReadsToFault f old new) → HasKnownOctets gave ended new
     → IfErr result (λ f. OfRefusal f (IsStopRefusal
     (IsRead (begun_of new).1 (gave_by gave new) (ended_by ended new)) (begun_of new).0))
 first_refused gave ended (Ok v) old new none stops known = tt
@@ -86,12 +86,13 @@ first_refused gave ended (Err f) old new none stops known =
 -- a file of which nothing was read is read on to its first record
 fresh_by : (a : Ahead) (es : List Entry) (r : Strand) → ReadsMore [] a es
     → whole_by es a r ≡ left_by a r
+fresh_by Unknown es r more = absurd more
 fresh_by (Coming e) es r more =
     ap (λ (l : List Entry). strand (l ++ r.entries) r.fault) more
 fresh_by (Over f) es r more = ap (λ (l : List Entry). strand l f) more
 
 pub first_fresh : {A S : Type 0} (old new : ImportFile A S) → (standing_of old).entries ≡ []
-    → ReadsOn old new → IsFresh (standing_of new)
+    → ReadsFileOn old new → IsFresh (standing_of new)
 first_fresh old new none reads r =
     fresh_by (standing_of new).ahead (standing_of new).entries r
     (subst (λ (es : List Entry). ReadsMore es (standing_of new).ahead (standing_of new).entries)
@@ -100,7 +101,7 @@ first_fresh old new none reads r =
 -- it begins then, whatever is behind what was read
 pub first_begins : {A S V : Type 0} (gave : S → List ℕ) (ended : S → Type 0)
     (result : Result V Fault) (old new : ImportFile A S) → (standing_of old).entries ≡ []
-    → OnOk result (ReadsOn old new) → IsKnown gave ended new → IsReadByFlows new
+    → OnOk result (ReadsFileOn old new) → HasKnownOctets gave ended new → IsReadByFlows new
     → OnOk result
     (AllBegin (IsRead (begun_of new).1 (gave_by gave new) (ended_by ended new)) (begun_of new).0)
 first_begins gave ended (Ok v) old new none reads known kind = λ octets read.
@@ -108,7 +109,7 @@ first_begins gave ended (Ok v) old new none reads known kind = λ octets read.
     let lays = lays_file gave ended (begun_of new).0 (begun_of new).1 new refl known told in
     let is = lays.says octets read in (
       taken_file gave ended (begun_of new).0 (begun_of new).1 octets new refl known kind told read,
-      subst GoesOn (sym (is.1 ∙ first_fresh old new none reads is.0))
+      subst IsAtNoFault (sym (is.1 ∙ first_fresh old new none reads is.0))
           (file_going new reads.ready is.0),
     )
 first_begins gave ended (Err f) old new none reads known kind = tt

@@ -7,12 +7,11 @@ use Rattle.media_file.specs.Records.{Entry}
 use Rattle.recording_reader.specs.declared.fault.ReadingFault.{ReadingFault}
 use Rattle.recording_reader.specs.declared.way.Standing.{Standing as Stand}
 use Rattle.recording_reader.specs.declared.way.Standing.TheVariants.{Reads, Ended, Failed}
-use Rattle.recording_engines.specs.Files.{AllReady, HasAhead, IsAt, IsReading, IsReady, Leads}
-use Rattle.recording_engines.specs.Files.{NextIsLater, NextIsNoSooner, ahead_by, next_of}
+use Rattle.recording_engines.specs.Files.{AllReady, HasAhead, IsFailedAt, IsReading, IsReady, Leads}
+use Rattle.recording_engines.specs.Files.{NextIsLater, NextIsNoSooner, ahead_by, next_entry}
 use Rattle.recording_engines.specs.Files.{standing_of, standings}
 use Rattle.recording_engines.specs.Progress.{OneFileAt}
-use Rattle.recording_engines.specs.Steps.{Coming, IsLater, IsNoSooner, ReadsMore}
-use Rattle.recording_engines.specs.Steps.{Takes}
+use Rattle.recording_engines.specs.Steps.{Coming, IsLater, IsNoSooner, ReadsMore, TakesEarliest}
 use Rattle.recording_engines.specs.declared.file.ImportFile.{ImportFile}
 use Rattle.recording_engines.specs.declared.file.ImportFile.TheVariants.{Closed, Open, Taken}
 
@@ -37,19 +36,19 @@ no_sooner_by moment (Failed f) None ready later = absurd ready
 no_sooner_by moment (Failed f) (Some e) ready later = absurd ready
 
 next_later : {A S : Type 0} (moment : ℕ) (f : ImportFile A S) → IsReady f
-    → NextIsLater moment (next_of f) → IsLater moment (standing_of f).ahead
+    → NextIsLater moment (next_entry f) → IsLater moment (standing_of f).ahead
 next_later moment (Closed s) ready later = absurd ready
 next_later moment (Open r) ready later = later_by moment r.standing r.at_hand ready later
 next_later moment Taken ready later = absurd ready
 
 next_no_sooner : {A S : Type 0} (moment : ℕ) (f : ImportFile A S) → IsReady f
-    → NextIsNoSooner moment (next_of f) → IsNoSooner moment (standing_of f).ahead
+    → NextIsNoSooner moment (next_entry f) → IsNoSooner moment (standing_of f).ahead
 next_no_sooner moment (Closed s) ready later = absurd ready
 next_no_sooner moment (Open r) ready later = no_sooner_by moment r.standing r.at_hand ready later
 next_no_sooner moment Taken ready later = absurd ready
 
 all_no_sooner : {A S : Type 0} (moment : ℕ) (fs : List (ImportFile A S)) → AllReady fs
-    → AllByRecursion (λ f. NextIsNoSooner moment (next_of f)) fs
+    → AllByRecursion (λ f. NextIsNoSooner moment (next_entry f)) fs
     → AllByRecursion (λ s. IsNoSooner moment s.ahead) (standings fs)
 all_no_sooner moment [] ready is = tt
 all_no_sooner moment (f ∷ fs) ready is =
@@ -65,7 +64,7 @@ coming_by Ended (Some x) e ready is = absurd ready
 coming_by (Failed f) None e ready is = absurd ready
 coming_by (Failed f) (Some x) e ready is = absurd ready
 
-pub coming : {A S : Type 0} (f : ImportFile A S) (e : Entry) → IsReady f → next_of f ≡ Some e
+pub coming : {A S : Type 0} (f : ImportFile A S) (e : Entry) → IsReady f → next_entry f ≡ Some e
     → (standing_of f).ahead ≡ Coming e
 coming (Closed s) e ready is = absurd ready
 coming (Open r) e ready is = coming_by r.standing r.at_hand e ready is
@@ -80,7 +79,7 @@ reads_by Ended (Some x) e ready is = absurd ready
 reads_by (Failed f) None e ready is = absurd ready
 reads_by (Failed f) (Some x) e ready is = absurd ready
 
-reading : {A S : Type 0} (f : ImportFile A S) (e : Entry) → IsReady f → next_of f ≡ Some e
+reading : {A S : Type 0} (f : ImportFile A S) (e : Entry) → IsReady f → next_entry f ≡ Some e
     → IsReading f
 reading (Closed s) e ready is = absurd ready
 reading (Open r) e ready is = reads_by r.standing r.at_hand e ready is
@@ -90,7 +89,7 @@ reading Taken e ready is = absurd ready
 
 pub record HasLead {A S : Type 0} (f : ImportFile A S) (moment : ℕ) : Type 0 where
   pub entry : Entry
-  pub next : next_of f ≡ Some entry
+  pub next : next_entry f ≡ Some entry
   pub moment_is : entry.moment ≡ moment
   pub ready : IsReady f
 
@@ -113,9 +112,9 @@ led_reading k moment fs d ready leads =
 
 -- it is taken, and its file is something else
 takes_by : {A S : Type 0} (k : ℕ) (fs : List (ImportFile A S)) (d f' : ImportFile A S) (e : Entry)
-    → AllReady fs → Leads k e.moment fs → next_of (get_or fs k d) ≡ Some e
+    → AllReady fs → Leads k e.moment fs → next_entry (get_or fs k d) ≡ Some e
     → ReadsMore (standing_of (get_or fs k d)).entries (standing_of f').ahead (standing_of f').entries
-    → Takes (standings fs) e (standings (set fs k f'))
+    → TakesEarliest (standings fs) e (standings (set fs k f'))
 takes_by k [] d f' e ready leads next more = absurd leads
 takes_by zero (f ∷ fs) d f' e ready leads next more =
     inl (coming f e ready.0 next, more, refl, all_no_sooner e.moment fs ready.1 leads.1)
@@ -125,7 +124,7 @@ takes_by (suc k) (f ∷ fs) d f' e ready leads next more =
 pub takes_led : {A S : Type 0} (k moment : ℕ) (fs : List (ImportFile A S)) (d f' : ImportFile A S)
     → (ready : AllReady fs) → (leads : Leads k moment fs)
     → ReadsMore (standing_of (get_or fs k d)).entries (standing_of f').ahead (standing_of f').entries
-    → Takes (standings fs) (led k moment fs d ready leads).entry (standings (set fs k f'))
+    → TakesEarliest (standings fs) (led k moment fs d ready leads).entry (standings (set fs k f'))
 takes_led k moment fs d f' ready leads more =
     let is = led k moment fs d ready leads in
     takes_by k fs d f' is.entry ready
@@ -140,7 +139,8 @@ ready_set zero (f ∷ fs) f' ready is = (is, ready.1)
 ready_set (suc k) (f ∷ fs) f' ready is = (ready.0, ready_set k fs f' ready.1 is)
 
 pub at_set : {A S : Type 0} (f : ReadingFault) (k : ℕ) (fs : List (ImportFile A S))
-    (f' : ImportFile A S) → k < length fs → AllReady fs → IsAt f f' → OneFileAt f (set fs k f')
+    (f' : ImportFile A S) → k < length fs → AllReady fs → IsFailedAt f f'
+    → OneFileAt f (set fs k f')
 at_set f k [] f' lt ready is = absurd (omega (arith, lt))
 at_set f zero (x ∷ xs) f' lt ready is = inl (is, ready.1)
 at_set f (suc k) (x ∷ xs) f' lt ready is =

@@ -14,11 +14,11 @@ use Rattle.run_outcome.specs.declared.fault.Fault.TheVariants.{Refused}
 use Rattle.run_outcome.specs.declared.refusal.Refusal.{Refusal}
 use Rattle.run_outcome.specs.declared.refusal.Refusal.TheVariants.{ImportRecords}
 use Rattle.recording_reader.specs.declared.fault.ReadingFault.{ReadingFault}
-use Rattle.recording_engines.specs.Files.{AllReady, Leads, ReadsOn, ReadsToFault, next_of}
+use Rattle.recording_engines.specs.Files.{AllReady, Leads, ReadsFileOn, ReadsToFault, next_entry}
 use Rattle.recording_engines.specs.Files.{standing_of, standings}
 use Rattle.recording_engines.specs.Progress.{CountsPath, HasWritten}
-use Rattle.recording_engines.specs.Progress.{OneComes, StopsBy, StopsJoining, TakesOne}
-use Rattle.recording_engines.specs.Progress.{Writes, WritesNext, count_of}
+use Rattle.recording_engines.specs.Progress.{OneComes, StopsBy, StopsJoining, WritesEarliest}
+use Rattle.recording_engines.specs.Progress.{WritesNext, WritesRecords, count_of_path}
 use Rattle.recording_engines.specs.Steps.{Ahead, AllFresh, Over, ReadsMore, Standing}
 use Rattle.recording_engines.specs.declared.file.ImportFile.{ImportFile}
 use Rattle.recording_engines.specs.declared.joining.Written.{Written}
@@ -27,7 +27,7 @@ use Rattle.recording_engines.proofs.Taken.{at_set, coming, led, ready_set, takes
 
 -- ---- what was written
 
-pub writes_none : (old : List ℕ) (w : Written) → Writes [] old old w w
+pub writes_none : (old : List ℕ) (w : Written) → WritesRecords [] old old w w
 writes_none old w = record {
   text = sym (append-nil old);
   a = omega arith;
@@ -35,7 +35,8 @@ writes_none old w = record {
 }
 
 pub writes_more : (es fs : List Entry) (old now new : List ℕ) (w w' w'' : Written)
-    → Writes es old now w w' → Writes fs now new w' w'' → Writes (es ++ fs) old new w w''
+    → WritesRecords es old now w w' → WritesRecords fs now new w' w''
+    → WritesRecords (es ++ fs) old new w w''
 writes_more es fs old now new w w' w'' first more = record {
   text =
       more.text ∙ ap (λ (l : List ℕ). l ++ records_text fs) first.text
@@ -45,15 +46,16 @@ writes_more es fs old now new w w' w'' first more = record {
   b = omega (arith, first.b, more.b, counts B);
 }
   where
-    counts : (path : Path) → count_of path (es ++ fs) ≡ count_of path es + count_of path fs
+    counts : (path : Path)
+        → count_of_path path (es ++ fs) ≡ count_of_path path es + count_of_path path fs
     counts path = sum_by-append _ es fs
 
 -- ---- one record
 
 pub takes_at : {X S : Type 0} (fs : List (ImportFile X S)) (k moment : ℕ) (d f' : ImportFile X S)
     (old new : List ℕ) (w w' : Written) → AllReady fs → Leads k moment fs
-    → WritesNext (get_or fs k d) old new w w' → ReadsOn (get_or fs k d) f'
-    → TakesOne fs (set fs k f') old new w w'
+    → WritesNext (get_or fs k d) old new w w' → ReadsFileOn (get_or fs k d) f'
+    → WritesEarliest fs (set fs k f') old new w w'
 takes_at fs k moment d f' old new w w' ready leads writes reads =
     let is = led k moment fs d ready leads in
     record {
@@ -99,7 +101,8 @@ written_none fs old w fresh = record {
 }
 
 pub written_more : {X S : Type 0} (fs fs' : List (ImportFile X S)) (old now new : List ℕ)
-    (w w' w'' : Written) (n : ℕ) → HasWritten fs old now w w' n → TakesOne fs fs' now new w' w''
+    (w w' w'' : Written) (n : ℕ) → HasWritten fs old now w w' n
+    → WritesEarliest fs fs' now new w' w''
     → HasWritten fs' old new w w'' (n + 1)
 written_more fs fs' old now new w w' w'' n had one = record {
   entries = had.entries ++ one.entry ∷ [];
@@ -155,16 +158,16 @@ many_joined fs old new w w' n k moment had most ready leads = inr (
 -- ---- the next record of a file
 
 pub next_none : {X S : Type 0} (f : ImportFile X S) (old new : List ℕ) (w w' : Written)
-    → next_of f ≡ None → WritesNext f old new w w'
+    → next_entry f ≡ None → WritesNext f old new w w'
 next_none f old new w w' none e some = let both : None ≡ Some e = sym none ∙ some in absurd cc
 
 pub next_written : {X S : Type 0} (f : ImportFile X S) (x : Entry) (old new : List ℕ)
-    (w w' : Written) → next_of f ≡ Some x → Writes (x ∷ []) old new w w'
+    (w w' : Written) → next_entry f ≡ Some x → WritesRecords (x ∷ []) old new w w'
     → WritesNext f old new w w'
 next_written f x old new w w' is writes e some =
     let both : Some x ≡ Some e = sym is ∙ some in
     let equal : x ≡ e = cc in
-    subst (λ (y : Entry). Writes (y ∷ []) old new w w') equal writes
+    subst (λ (y : Entry). WritesRecords (y ∷ []) old new w w') equal writes
 
 counts_a : (path : Path) (w w' : Written) → CountsPath path w w'
     → w'.a ≡ w.a + (0 + cond (is_path A path) 1 0)
@@ -177,7 +180,7 @@ counts_b A w w' counts = omega (arith, counts.1)
 counts_b B w w' counts = omega (arith, counts.1)
 
 pub one_writes : (e : Entry) (old new : List ℕ) (w w' : Written)
-    → new ≡ old ++ record_text e → CountsPath e.path w w' → Writes (e ∷ []) old new w w'
+    → new ≡ old ++ record_text e → CountsPath e.path w w' → WritesRecords (e ∷ []) old new w w'
 one_writes e old new w w' took counts = record {
   text = took ∙ ap (λ (l : List ℕ). old ++ l) (sym (append-nil (record_text e)));
   a = counts_a e.path w w' counts;

@@ -66,10 +66,10 @@ begun_of (Open r) = (r.flows, r.before.gave)
 begun_of Taken = (None, [])
 
 -- the record that comes next
-abbrev pub next_of : {A S : Type 0} → ImportFile A S → Option Entry
-next_of (Closed s) = None
-next_of (Open r) = r.at_hand
-next_of Taken = None
+abbrev pub next_entry : {A S : Type 0} → ImportFile A S → Option Entry
+next_entry (Closed s) = None
+next_entry (Open r) = r.at_hand
+next_entry Taken = None
 
 -- the packets that were left out of it so far
 abbrev pub left_out_by : {A S : Type 0} → ImportFile A S → LeftOut
@@ -117,16 +117,16 @@ abbrev pub AllReady : {A S : Type 0} → List (ImportFile A S) → Type 0
 AllReady files = AllByRecursion IsReady files
 
 -- the reader of a file came to this fault, at which it stays
-abbrev pub IsAt : {A S : Type 0} → ReadingFault → ImportFile A S → Type 0
-IsAt f (Closed s) = ⊥
-IsAt f (Open r) = r.standing ≡ Failed f
-IsAt f Taken = ⊥
+abbrev pub IsFailedAt : {A S : Type 0} → ReadingFault → ImportFile A S → Type 0
+IsFailedAt f (Closed s) = ⊥
+IsFailedAt f (Open r) = r.standing ≡ Failed f
+IsFailedAt f Taken = ⊥
 
 -- what is known of the octets that it has
-abbrev pub IsKnown : {A S : Type 0} → (S → List ℕ) → (S → Type 0) → ImportFile A S → Type 0
-IsKnown gave ended (Closed s) = ⊤
-IsKnown gave ended (Open r) = HasGivenFile gave ended r
-IsKnown gave ended Taken = ⊤
+abbrev pub HasKnownOctets : {A S : Type 0} → (S → List ℕ) → (S → Type 0) → ImportFile A S → Type 0
+HasKnownOctets gave ended (Closed s) = ⊤
+HasKnownOctets gave ended (Open r) = HasGivenFile gave ended r
+HasKnownOctets gave ended Taken = ⊤
 
 -- a recording is read by flows
 abbrev pub IsReadByFlows : {A S : Type 0} → ImportFile A S → Type 0
@@ -137,7 +137,7 @@ IsReadByFlows Taken = ⊤
 -- ---- reading on
 
 -- It was read on, to the next record or to the end.
-pub record ReadsOn {A S : Type 0} (old new : ImportFile A S) : Type 0 where
+pub record ReadsFileOn {A S : Type 0} (old new : ImportFile A S) : Type 0 where
   pub ready : IsReady new
   pub more : ReadsMore (standing_of old).entries (standing_of new).ahead (standing_of new).entries
 
@@ -145,7 +145,7 @@ pub record ReadsOn {A S : Type 0} (old new : ImportFile A S) : Type 0 where
 pub record ReadsToFault {A S : Type 0} (fault : Fault) (old new : ImportFile A S) : Type 0 where
   pub reading : ReadingFault
   pub told : fault ≡ reading_fault reading
-  pub at : IsAt reading new
+  pub at : IsFailedAt reading new
   pub over : (standing_of new).ahead ≡ Over (Some reading)
   pub same : (standing_of new).entries ≡ (standing_of old).entries
 
@@ -203,9 +203,9 @@ NextIsNoSooner moment (Some e) = moment ≤ e.moment
 abbrev pub Leads : {A S : Type 0} → ℕ → ℕ → List (ImportFile A S) → Type 0
 Leads k moment [] = ⊥
 Leads zero moment (f ∷ fs) =
-    ((e : Entry) × (next_of f ≡ Some e) × (e.moment ≡ moment))
-    × AllByRecursion (λ g. NextIsNoSooner moment (next_of g)) fs
-Leads (suc k) moment (f ∷ fs) = NextIsLater moment (next_of f) × Leads k moment fs
+    ((e : Entry) × (next_entry f ≡ Some e) × (e.moment ≡ moment))
+    × AllByRecursion (λ g. NextIsNoSooner moment (next_entry g)) fs
+Leads (suc k) moment (f ∷ fs) = NextIsLater moment (next_entry f) × Leads k moment fs
 
 -- so at some moment
 abbrev pub IsLed : {A S : Type 0} → ℕ → List (ImportFile A S) → Type 0
@@ -213,7 +213,7 @@ IsLed k files = (moment : ℕ) × Leads k moment files
 
 -- the place and the moment of the record that comes first; none where no file has one
 abbrev pub IsEarliest : {A S : Type 0} → List (ImportFile A S) → Option (ℕ × ℕ) → Type 0
-IsEarliest fs None = AllByRecursion (λ f. next_of f ≡ None) fs
+IsEarliest fs None = AllByRecursion (λ f. next_entry f ≡ None) fs
 IsEarliest fs (Some x) = Leads x.0 x.1 fs
 
 -- the sooner of a first one's moment, and of the place and moment of the one behind it that comes

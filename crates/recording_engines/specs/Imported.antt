@@ -25,8 +25,8 @@ use Rattle.st_format.specs.declared.path.Path.TheVariants.{A, B}
 use Rattle.st_format.specs.Device.{capped}
 use Rattle.recording_reader.specs.declared.fault.ReadingFault.{ReadingFault}
 use Rattle.recording_engines.specs.Joining.{GoFurther, IsOver, JoinsTo, OneAt, Strand}
-use Rattle.recording_engines.specs.Opened.{Begins, IsFirstStop}
-use Rattle.recording_engines.specs.Progress.{count_of}
+use Rattle.recording_engines.specs.Opened.{BeginsUnrefused, IsFirstStop}
+use Rattle.recording_engines.specs.Progress.{count_of_path}
 use Rattle.recording_engines.specs.Strands.{IsTakenBy, TakesBy, left_out_in, omissions_in}
 use Rattle.recording_engines.specs.Strands.{strands_in}
 use Rattle.recording_engines.specs.declared.importing.ImportCounts.{ImportCounts}
@@ -83,12 +83,12 @@ pub record Imports {S : Type 0} (a b : Option (List ℕ)) (Said : List ℕ → T
         → JoinsTo AreOver (strands_in each octets) entries
     pub few : length entries ≤ 16777216
     pub taken : took' ≡ took ++ (front_text Two text ++ records_text entries)
-    pub by_a : counts.a ≡ count_of A entries
-    pub by_b : counts.b ≡ count_of B entries
+    pub by_a : counts.a ≡ count_of_path A entries
+    pub by_b : counts.b ≡ count_of_path B entries
     pub left_out : (octets : List (List ℕ)) → AllZip told files octets
         → counts.left_out ≡ left_out_of (omissions_in each octets)
     pub printed : (octets : List (List ℕ)) → AllZip told files octets → shown' ≡ shown
-        ++ (line_text (line.Recorded (count_of A entries) (count_of B entries)
+        ++ (line_text (line.Recorded (count_of_path A entries) (count_of_path B entries)
         (capped (left_out_in each octets))) ++ 10 ∷ [])
 
 -- ---- refusals
@@ -117,7 +117,8 @@ IsPlacesRefusal flows count r = (r ≡ refusal.ImportPlaces) × IsOnePlace flows
 pub record StopsImport {S : Type 0} (Ends : List Strand → Type 0) (Number : ℕ → Type 0)
     (told : S → List ℕ → Type 0) (each : List (Option Flows)) (text : List ℕ) (files : List S)
     (took took' : List ℕ) : Type 0 where
-  pub begun : (octets : List (List ℕ)) → AllZip told files octets → AllZip Begins each octets
+  pub begun : (octets : List (List ℕ)) → AllZip told files octets
+      → AllZip BeginsUnrefused each octets
   pub entries : List Entry
   pub joined : (octets : List (List ℕ)) → AllZip told files octets
       → JoinsTo Ends (strands_in each octets) entries

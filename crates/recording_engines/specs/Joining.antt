@@ -24,19 +24,19 @@ ComesNoSooner moment (e ∷ es) fault = moment ≤ e.moment
 
 -- A record is the first of one strand, and comes before the first of each strand before that one,
 -- and not behind the first of each strand behind it. Without it, these strands are left.
-abbrev pub IsNext : List Strand → Entry → List Strand → Type 0
-IsNext [] e left = ⊥
-IsNext (s ∷ ss) e [] = ⊥
-IsNext (s ∷ ss) e (l ∷ ls) =
+abbrev pub IsJoinedNext : List Strand → Entry → List Strand → Type 0
+IsJoinedNext [] e left = ⊥
+IsJoinedNext (s ∷ ss) e [] = ⊥
+IsJoinedNext (s ∷ ss) e (l ∷ ls) =
     ((s ≡ record { entries = e ∷ l.entries; fault = l.fault }) × (ls ≡ ss)
     × AllByRecursion (λ t. ComesNoSooner e.moment t.entries t.fault) ss)
-    ⊎ ((l ≡ s) × ComesLater e.moment s.entries s.fault × IsNext ss e ls)
+    ⊎ ((l ≡ s) × ComesLater e.moment s.entries s.fault × IsJoinedNext ss e ls)
 
 -- Strands are joined to these records, always the earliest next; these strands are left.
-abbrev pub Joins : List Strand → List Entry → List Strand → Type 0
-Joins strands [] left = left ≡ strands
-Joins strands (e ∷ es) left =
-    (behind : List Strand) × IsNext strands e behind × Joins behind es left
+abbrev pub JoinsByMoment : List Strand → List Entry → List Strand → Type 0
+JoinsByMoment strands [] left = left ≡ strands
+JoinsByMoment strands (e ∷ es) left =
+    (behind : List Strand) × IsJoinedNext strands e behind × JoinsByMoment behind es left
 
 -- nothing is left, and no fault
 abbrev pub IsOver : Strand → Type 0
@@ -49,15 +49,15 @@ ComesNoFault [] (Some f) = ⊥
 ComesNoFault (e ∷ es) fault = ⊤
 
 -- so it is of a strand: it is at no fault
-abbrev pub GoesOn : Strand → Type 0
-GoesOn s = ComesNoFault s.entries s.fault
+abbrev pub IsAtNoFault : Strand → Type 0
+IsAtNoFault s = ComesNoFault s.entries s.fault
 
 -- one of some strands is at this fault, and no other is at a fault
 abbrev pub OneAt : ReadingFault → List Strand → Type 0
 OneAt f [] = ⊥
 OneAt f (s ∷ ss) =
-    ((s ≡ record { entries = []; fault = Some f }) × AllByRecursion GoesOn ss)
-    ⊎ (GoesOn s × OneAt f ss)
+    ((s ≡ record { entries = []; fault = Some f }) × AllByRecursion IsAtNoFault ss)
+    ⊎ (IsAtNoFault s × OneAt f ss)
 
 -- one has a record more
 abbrev pub OneHasMore : List Strand → Type 0
@@ -66,11 +66,11 @@ OneHasMore (s ∷ ss) = ((e : Entry) × (es : List Entry) × (s.entries ≡ e �
 
 -- one has, and none is at a fault
 abbrev pub GoFurther : List Strand → Type 0
-GoFurther ss = AllByRecursion GoesOn ss × OneHasMore ss
+GoFurther ss = AllByRecursion IsAtNoFault ss × OneHasMore ss
 
 -- Strands are joined to these records, and what is left is so.
 pub record JoinsTo (Ends : List Strand → Type 0) (strands : List Strand) (entries : List Entry)
     : Type 0 where
   pub left : List Strand
-  pub joins : Joins strands entries left
+  pub joins : JoinsByMoment strands entries left
   pub ends : Ends left

@@ -2,7 +2,7 @@
 use Rattle.std.specs.Prelude.{◌≡◌, ℕ, ◌⊎◌, List, [], ◌∷◌, ◌++◌, Option, None, Some, true}
 use Rattle.std.specs.List.{AllByRecursion}
 use Rattle.flow.specs.declared.flows.Flows.{Flows}
-use Rattle.recording_engines.specs.Joining.{GoesOn}
+use Rattle.recording_engines.specs.Joining.{IsAtNoFault}
 use Rattle.recording_engines.specs.Strands.{IsTakenBy, strand_in}
 use Rattle.recording_reader.specs.Kinds.{is_recording}
 use Rattle.recording_reader.specs.declared.fault.ReadingFault.{ReadingFault}
@@ -23,12 +23,12 @@ IsStopRefusal told flows r =
 
 -- a file that is read by these flows isn't refused so: it is no recording without flows, and its
 -- first record comes, or its end
-abbrev pub Begins : Option Flows → List ℕ → Type 0
-Begins flows octets = IsTakenBy flows octets × GoesOn (strand_in flows octets)
+abbrev pub BeginsUnrefused : Option Flows → List ℕ → Type 0
+BeginsUnrefused flows octets = IsTakenBy flows octets × IsAtNoFault (strand_in flows octets)
 
 -- so whatever was read of it
 abbrev pub AllBegin : (List ℕ → Type 0) → Option Flows → Type 0
-AllBegin told flows = (octets : List ℕ) → told octets → Begins flows octets
+AllBegin told flows = (octets : List ℕ) → told octets → BeginsUnrefused flows octets
 
 -- The refusal of files that are opened in turn, each by flows of its own, is that of one of them,
 -- and the first: none before it is refused so.

@@ -10,8 +10,8 @@ use Rattle.run_outcome.specs.declared.fault.Fault.TheVariants.{Refused}
 use Rattle.run_outcome.specs.declared.refusal.Refusal.{Refusal}
 use Rattle.run_outcome.specs.declared.refusal.Refusal.TheVariants.{ImportRecords}
 use Rattle.run_outcome.specs.LowerFaults.{reading_fault}
-use Rattle.recording_engines.specs.Files.{IsAt, IsReady, next_of, standings}
-use Rattle.recording_engines.specs.Steps.{Coming, HasJoined, Standing, Takes}
+use Rattle.recording_engines.specs.Files.{IsFailedAt, IsReady, next_entry, standings}
+use Rattle.recording_engines.specs.Steps.{Coming, HasJoined, Standing, TakesEarliest}
 use Rattle.recording_engines.specs.declared.file.ImportFile.{ImportFile}
 use Rattle.recording_engines.specs.declared.joining.Written.{Written}
 use Rattle.recording_reader.specs.declared.fault.ReadingFault.{ReadingFault}
@@ -19,8 +19,8 @@ use Rattle.recording_reader.specs.declared.fault.ReadingFault.{ReadingFault}
 -- ---- how many records of each path
 
 -- how many records are of this path
-abbrev pub count_of : Path → List Entry → ℕ
-count_of path entries = count_by (λ e. is_path path e.path) entries
+abbrev pub count_of_path : Path → List Entry → ℕ
+count_of_path path entries = count_by (λ e. is_path path e.path) entries
 
 -- one record more of this path is counted, and none of the other
 abbrev pub CountsPath : Path → Written → Written → Type 0
@@ -28,36 +28,37 @@ CountsPath A w w' = (w'.a ≡ w.a + 1) × (w'.b ≡ w.b)
 CountsPath B w w' = (w'.a ≡ w.a) × (w'.b ≡ w.b + 1)
 
 -- these records were written and counted
-pub record Writes (entries : List Entry) (old new : List ℕ) (w w' : Written) : Type 0 where
+pub record WritesRecords (entries : List Entry) (old new : List ℕ) (w w' : Written) : Type 0 where
   pub text : new ≡ old ++ records_text entries
-  pub a : w'.a ≡ w.a + count_of A entries
-  pub b : w'.b ≡ w.b + count_of B entries
+  pub a : w'.a ≡ w.a + count_of_path A entries
+  pub b : w'.b ≡ w.b + count_of_path B entries
 
 -- the record that comes next of a file was written
 abbrev pub WritesNext : {X S : Type 0} → ImportFile X S → List ℕ → List ℕ → Written → Written
     → Type 0
-WritesNext f old new w w' = (e : Entry) → next_of f ≡ Some e → Writes (e ∷ []) old new w w'
+WritesNext f old new w w' =
+    (e : Entry) → next_entry f ≡ Some e → WritesRecords (e ∷ []) old new w w'
 
 -- ---- one record
 
 -- The earliest record was written, and its file read on.
-pub record TakesOne {X S : Type 0} (files files' : List (ImportFile X S)) (old new : List ℕ)
+pub record WritesEarliest {X S : Type 0} (files files' : List (ImportFile X S)) (old new : List ℕ)
     (w w' : Written) : Type 0 where
   pub entry : Entry
-  pub takes : Takes (standings files) entry (standings files')
+  pub takes : TakesEarliest (standings files) entry (standings files')
   pub ready : AllByRecursion IsReady files'
-  pub writes : Writes (entry ∷ []) old new w w'
+  pub writes : WritesRecords (entry ∷ []) old new w w'
 
 -- one file is at this fault, and each other is read on
 abbrev pub OneFileAt : {X S : Type 0} → ReadingFault → List (ImportFile X S) → Type 0
 OneFileAt f [] = ⊥
-OneFileAt f (x ∷ xs) = (IsAt f x × AllByRecursion IsReady xs) ⊎ (IsReady x × OneFileAt f xs)
+OneFileAt f (x ∷ xs) = (IsFailedAt f x × AllByRecursion IsReady xs) ⊎ (IsReady x × OneFileAt f xs)
 
 -- The earliest record was written, and behind it its file is at a fault.
 pub record StopsOne {X S : Type 0} (f : ReadingFault) (files files' : List (ImportFile X S))
     (old new : List ℕ) : Type 0 where
   pub entry : Entry
-  pub takes : Takes (standings files) entry (standings files')
+  pub takes : TakesEarliest (standings files) entry (standings files')
   pub stopped : OneFileAt f files'
   pub text : new ≡ old ++ records_text (entry ∷ [])
 
@@ -74,7 +75,7 @@ pub record HasWritten {X S : Type 0} (files : List (ImportFile X S)) (old new : 
     (w w' : Written) (n : ℕ) : Type 0 where
   pub entries : List Entry
   pub joined : HasJoined (standings files) entries
-  pub writes : Writes entries old new w w'
+  pub writes : WritesRecords entries old new w w'
   pub number : length entries ≡ n
 
 -- none of a path yet
@@ -82,16 +83,16 @@ abbrev pub none_written : Written
 none_written = record { a = 0; b = 0 }
 
 -- All records were written, and counted.
-pub record JoinsAll {X S : Type 0} (files' : List (ImportFile X S)) (old new : List ℕ)
+pub record HasWrittenAll {X S : Type 0} (files' : List (ImportFile X S)) (old new : List ℕ)
     (w : Written) : Type 0 where
   pub number : ℕ
   pub written : HasWritten files' old new none_written w number
   pub ready : AllByRecursion IsReady files'
-  pub over : AllByRecursion (λ f. next_of f ≡ None) files'
+  pub over : AllByRecursion (λ f. next_entry f ≡ None) files'
   pub few : number ≤ 16777216
 
 -- Files were joined to these records, which were written, and it ended so.
-pub record HasEnded {X S : Type 0} (Ends : List Entry → List (ImportFile X S) → Type 0)
+pub record EndsJoining {X S : Type 0} (Ends : List Entry → List (ImportFile X S) → Type 0)
     (files : List (ImportFile X S)) (old new : List ℕ) : Type 0 where
   pub entries : List Entry
   pub joined : HasJoined (standings files) entries
@@ -119,5 +120,5 @@ abbrev pub StopsJoining : {X S : Type 0} → Refusal → List (ImportFile X S) �
     → Type 0
 StopsJoining r files' old new =
     ((f : ReadingFault) × (reading_fault f ≡ Refused r)
-    × HasEnded (HasStopped f) files' old new)
-    ⊎ ((r ≡ ImportRecords) × HasEnded HasMore files' old new)
+    × EndsJoining (HasStopped f) files' old new)
+    ⊎ ((r ≡ ImportRecords) × EndsJoining HasMore files' old new)

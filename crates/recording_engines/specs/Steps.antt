@@ -1,15 +1,17 @@
--- How far a run of `import` has joined files, whatever is still to come of them.
+-- How far files were read, and how far a run of `import` has joined them, whatever is still to come
+-- of them.
 use Rattle.std.specs.Prelude.{◌≡◌, ℕ, ◌<◌, ◌≤◌, ◌⊎◌, List, [], ◌∷◌, ◌++◌, Option, None, Some, ⊤}
 use Rattle.std.specs.List.{AllByRecursion}
 use Rattle.st_format.specs.History.{IsRead}
 use Rattle.flow.specs.declared.flows.Flows.{Flows}
 use Rattle.media_file.specs.Records.{Entry}
-use Rattle.recording_engines.specs.Joining.{Joins, Strand}
+use Rattle.recording_engines.specs.Joining.{JoinsByMoment, Strand}
 use Rattle.recording_engines.specs.Strands.{strand_in}
 use Rattle.recording_reader.specs.declared.fault.ReadingFault.{ReadingFault}
 
--- what comes next of a file: this record; or its end, or its fault
+-- what comes next of a file: it isn't read; this record; or its end, or its fault
 pub data Ahead : Type 0 where
+  Unknown : Ahead
   Coming : Entry → Ahead
   Over : Option ReadingFault → Ahead
 
@@ -20,6 +22,7 @@ pub record Standing : Type 0 where
 
 -- all of a file, where this is still to come of it behind what was read
 abbrev pub whole_by : List Entry → Ahead → Strand → Strand
+whole_by es Unknown r = record { entries = es ++ r.entries; fault = r.fault }
 whole_by es (Coming e) r = record { entries = es ++ r.entries; fault = r.fault }
 whole_by es (Over f) r = record { entries = es; fault = f }
 
@@ -29,6 +32,7 @@ whole s r = whole_by s.entries s.ahead r
 
 -- what is left of it from the next record on
 abbrev pub left_by : Ahead → Strand → Strand
+left_by Unknown r = r
 left_by (Coming e) r = record { entries = e ∷ r.entries; fault = r.fault }
 left_by (Over f) r = record { entries = []; fault = f }
 
@@ -54,7 +58,7 @@ lefts (s ∷ ss) (r ∷ rs) = left_of s r ∷ lefts ss rs
 
 -- files are joined to these records so far, whatever is still to come
 pub record HasJoined (ss : List Standing) (entries : List Entry) : Type 0 where
-  pub joins : (rs : List Strand) → Joins (wholes ss rs) entries (lefts ss rs)
+  pub joins : (rs : List Strand) → JoinsByMoment (wholes ss rs) entries (lefts ss rs)
 
 -- of a file nothing was read but what comes next
 abbrev pub IsFresh : Standing → Type 0
@@ -66,31 +70,35 @@ AllFresh ss = AllByRecursion IsFresh ss
 
 -- ---- a record more
 
--- what comes next of a file comes later than this moment; not before it
+-- What comes next of a file is a record later than this moment, or its end. Where that isn't read,
+-- and where it is a fault, it isn't known.
 abbrev pub IsLater : ℕ → Ahead → Type 0
+IsLater moment Unknown = ⊥
 IsLater moment (Coming e) = moment < e.moment
 IsLater moment (Over None) = ⊤
 IsLater moment (Over (Some f)) = ⊥
 
 -- what comes next of a file comes at this moment or later
 abbrev pub IsNoSooner : ℕ → Ahead → Type 0
+IsNoSooner moment Unknown = ⊥
 IsNoSooner moment (Coming e) = moment ≤ e.moment
 IsNoSooner moment (Over None) = ⊤
 IsNoSooner moment (Over (Some f)) = ⊥
 
--- behind these records one more was read, if one comes
+-- behind these records one more was read, or the end or a fault
 abbrev pub ReadsMore : List Entry → Ahead → List Entry → Type 0
+ReadsMore es Unknown es' = ⊥
 ReadsMore es (Coming e) es' = es' ≡ es ++ e ∷ []
 ReadsMore es (Over f) es' = es' ≡ es
 
 -- this record was the earliest next, and its file was read on
-abbrev pub Takes : List Standing → Entry → List Standing → Type 0
-Takes [] e ss' = ⊥
-Takes (s ∷ ss) e [] = ⊥
-Takes (s ∷ ss) e (s' ∷ ss') =
+abbrev pub TakesEarliest : List Standing → Entry → List Standing → Type 0
+TakesEarliest [] e ss' = ⊥
+TakesEarliest (s ∷ ss) e [] = ⊥
+TakesEarliest (s ∷ ss) e (s' ∷ ss') =
     ((s.ahead ≡ Coming e) × ReadsMore s.entries s'.ahead s'.entries × (ss' ≡ ss)
     × AllByRecursion (λ t. IsNoSooner e.moment t.ahead) ss)
-    ⊎ ((s' ≡ s) × IsLater e.moment s.ahead × Takes ss e ss')
+    ⊎ ((s' ≡ s) × IsLater e.moment s.ahead × TakesEarliest ss e ss')
 
 -- ---- what was read
 

@@ -2,8 +2,9 @@
 ghost use Rattle.std.specs.Prelude.{◌≡◌, ◌≤◌, ◌∷◌, [], None, Some, IfErr, IfSome, MatchOption};
 ghost use Rattle.std.specs.Prelude.{OnOk, length};
 ghost use Rattle.std.specs.Option.{option_map};
-ghost use Rattle.recording_engines.specs.Files.{IsReading, ReadsOn, ReadsToFault, begun_of};
-ghost use Rattle.recording_engines.specs.Files.{failures_by, is_recording_file, next_of, source_of};
+ghost use Rattle.recording_engines.specs.Files.{IsReading, ReadsFileOn, ReadsToFault, begun_of};
+ghost use Rattle.recording_engines.specs.Files.{failures_by, is_recording_file, next_entry};
+ghost use Rattle.recording_engines.specs.Files.{source_of};
 ghost use Rattle.recording_reader.specs.FileReader.{record_seen};
 ghost use Rattle.run_outcome.specs.Fault.{Accounts, counts};
 
@@ -50,7 +51,7 @@ impl<A: Allocator, S: ByteSource> ImportFile<A, S> {
 
     /// The record that its reader has at hand, where it has one; none before it is opened.
     pub(crate) fn next(&self) -> Option<RecordView<'_>>
-        ensures seen { record_seen result ≡ next_of self.now }
+        ensures seen { record_seen result ≡ next_entry self.now }
         ensures few { IfSome result (λ r. length r.octets.now ≤ 65535) }
     {
         match self {
@@ -61,7 +62,7 @@ impl<A: Allocator, S: ByteSource> ImportFile<A, S> {
     }
 
     pub(crate) fn next_moment(&self) -> Option<u64>
-        ensures { result ≡ option_map (λ e. e.moment) (next_of self.now) }
+        ensures { result ≡ option_map (λ e. e.moment) (next_entry self.now) }
     {
         match self {
             ImportFile::Closed(_) => None,
@@ -79,7 +80,7 @@ impl<A: Allocator, S: ByteSource> ImportFile<A, S> {
     pub(crate) fn go_on(&mut self) -> Result<(), Fault>
         requires { IsReading self.old }
         ensures begun { begun_of self.new ≡ begun_of self.old }
-        ensures read { OnOk result (ReadsOn self.old self.new) }
+        ensures read { OnOk result (ReadsFileOn self.old self.new) }
         ensures stopped { IfErr result (λ f. ReadsToFault f self.old self.new) }
         ensures failures { Accounts result (counts (failures_by S.failures self.old)
             (failures_by S.failures self.new) ∷ []) }

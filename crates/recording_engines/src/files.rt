@@ -3,7 +3,7 @@ ghost use Rattle.std.specs.Prelude.{◌≡◌, ◌≤◌, ◌+◌, IfSome, List}
 ghost use Rattle.std.specs.List.{AllByRecursion};
 ghost use Rattle.recording_counts.specs.LeftOut.{left_out_of};
 ghost use Rattle.recording_counts.specs.declared.omission.Omission.{Omission as Reason};
-ghost use Rattle.recording_engines.specs.Files.{AreLeftOut, IsEarliest, IsKnown, IsSooner};
+ghost use Rattle.recording_engines.specs.Files.{AreLeftOut, HasKnownOctets, IsEarliest, IsSooner};
 ghost use Rattle.recording_engines.specs.Files.{IsReadByFlows, left_out_by};
 
 use crate::file::ImportFile;
@@ -69,7 +69,7 @@ pub(crate) fn left_out<A: Allocator, S: ByteSource>(files: &[ImportFile<A, S>]) 
 /// from here; nothing is done.
 #[inline(always)]
 pub fn know<A: Allocator, S: ByteSource>(file: &ImportFile<A, S>)
-    ensures known { IsKnown S.gave S.ended file.now }
+    ensures known { HasKnownOctets S.gave S.ended file.now }
     ensures by_flows { IsReadByFlows file.now }
 {
     match file {
@@ -81,7 +81,7 @@ pub fn know<A: Allocator, S: ByteSource>(file: &ImportFile<A, S>)
 
 /// The same of files.
 pub(crate) fn know_all<A: Allocator, S: ByteSource>(files: &[ImportFile<A, S>])
-    ensures known { AllByRecursion (IsKnown S.gave S.ended) files.now }
+    ensures known { AllByRecursion (HasKnownOctets S.gave S.ended) files.now }
     ensures by_flows { AllByRecursion IsReadByFlows files.now }
 {
     let Some((first, rest)) = files.split_first() else {

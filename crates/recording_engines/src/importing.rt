@@ -10,13 +10,13 @@ ghost use Rattle.run_outcome.specs.Moments.{WasRead};
 ghost use Rattle.run_outcome.specs.Refusing.{OfRefusal};
 ghost use Rattle.run_outcome.specs.Text.{GivesText};
 ghost use Rattle.st_format.specs.History.{IsRead};
-ghost use Rattle.recording_engines.specs.Files.{AllClosed, AllReady, AreLeftOut, IsKnown};
+ghost use Rattle.recording_engines.specs.Files.{AllClosed, AllReady, AreLeftOut, HasKnownOctets};
 ghost use Rattle.recording_engines.specs.Files.{IsReadByFlows, begun_of, ended_by, failures_by};
 ghost use Rattle.recording_engines.specs.Files.{gave_by, standings};
 ghost use Rattle.recording_engines.specs.Imported.{AsksFlows, Imports, IsAsked, IsFlowsRefusal};
 ghost use Rattle.recording_engines.specs.Imported.{IsImportRefusal, IsPlacesRefusal};
 ghost use Rattle.recording_engines.specs.Imported.{IsSaidRefusal, IsWordRefusal, SaysFlows};
-ghost use Rattle.recording_engines.specs.Progress.{JoinsAll, StopsJoining};
+ghost use Rattle.recording_engines.specs.Progress.{HasWrittenAll, StopsJoining};
 ghost use Rattle.recording_engines.specs.Steps.{AllFresh};
 ghost use Rattle.recording_engines.specs.Strands.{TakesBy, TellsPaths, only_a, only_b};
 
@@ -130,10 +130,10 @@ fn join_all<A: Allocator, S: ByteSource, K: ByteSink>(
     requires fresh { AllFresh (standings files.old) }
     ensures files { length files.new ≡ length files.old }
     ensures begun { map begun_of files.new ≡ map begun_of files.old }
-    ensures known { AllByRecursion (IsKnown S.gave S.ended) files.new }
+    ensures known { AllByRecursion (HasKnownOctets S.gave S.ended) files.new }
     ensures by_flows { AllByRecursion IsReadByFlows files.new }
-    ensures joined { IfOk result (λ r. JoinsAll files.new (K.took capture.old) (K.took capture.new)
-        (record { a = r.a; b = r.b })) }
+    ensures joined { IfOk result (λ r. HasWrittenAll files.new (K.took capture.old)
+        (K.took capture.new) (record { a = r.a; b = r.b })) }
     ensures left { IfOk result (λ r. (omissions : List Reason) → AreLeftOut files.new omissions
         → r.left_out ≡ left_out_of omissions) }
     ensures stopped { IfErr result (λ f. OfRefusal f (λ r. StopsJoining r files.new

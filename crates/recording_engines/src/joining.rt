@@ -5,8 +5,8 @@ ghost use Rattle.run_outcome.specs.Fault.{Accounts, IfRefused, counts};
 ghost use Rattle.run_outcome.specs.Refusing.{OfRefusal};
 ghost use Rattle.recording_engines.specs.Files.{AllReady, IsLed, begun_of, failures_by};
 ghost use Rattle.recording_engines.specs.Files.{standings};
-ghost use Rattle.recording_engines.specs.Progress.{CountsPath, JoinsAll, StopsBy, StopsJoining};
-ghost use Rattle.recording_engines.specs.Progress.{TakesOne, WritesNext};
+ghost use Rattle.recording_engines.specs.Progress.{CountsPath, HasWrittenAll, StopsBy};
+ghost use Rattle.recording_engines.specs.Progress.{StopsJoining, WritesEarliest, WritesNext};
 ghost use Rattle.recording_engines.specs.Steps.{AllFresh};
 
 use crate::file::ImportFile;
@@ -70,7 +70,7 @@ fn take_at<A: Allocator, S: ByteSource, K: ByteSink>(
     requires few { written.old.a + written.old.b < 16777216 }
     ensures files { length files.new ≡ length files.old }
     ensures begun { map begun_of files.new ≡ map begun_of files.old }
-    ensures taken { OnOk result (TakesOne files.old files.new
+    ensures taken { OnOk result (WritesEarliest files.old files.new
         (K.took capture.old) (K.took capture.new) written.old written.new) }
     ensures one { OnOk result
         (written.new.a + written.new.b ≤ written.old.a + written.old.b + 1) }
@@ -101,8 +101,8 @@ pub(crate) fn join<A: Allocator, S: ByteSource, K: ByteSink>(
     requires fresh { AllFresh (standings files.old) }
     ensures files { length files.new ≡ length files.old }
     ensures begun { map begun_of files.new ≡ map begun_of files.old }
-    ensures joined { IfOk result (λ w. JoinsAll files.new (K.took capture.old) (K.took capture.new)
-        w) }
+    ensures joined { IfOk result (λ w. HasWrittenAll files.new (K.took capture.old)
+        (K.took capture.new) w) }
     ensures stopped { IfErr result (λ f. OfRefusal f (λ r. StopsJoining r files.new
         (K.took capture.old) (K.took capture.new))) }
     ensures failures { Accounts result (counts (sum_by (failures_by S.failures) files.old)

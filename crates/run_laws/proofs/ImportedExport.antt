@@ -23,7 +23,7 @@ use Rattle.export_engine.specs.Packets.{IsSecondText, pcap_text}
 use Rattle.export_engine.specs.declared.packets.ExportCounts.{ExportCounts}
 use Rattle.export_engine.specs.declared.places.IpEnvelope.{IpEnvelope}
 use Rattle.recording_engines.specs.Imported.{AreOver, AsksFlows, Imports, IsAsked}
-use Rattle.recording_engines.specs.Joining.{IsNext, Joins, JoinsTo, Strand}
+use Rattle.recording_engines.specs.Joining.{IsJoinedNext, JoinsByMoment, JoinsTo, Strand}
 use Rattle.recording_engines.specs.Strands.{TakesBy, strand_in, strands_in}
 use Rattle.recording_engines.specs.declared.importing.ImportCounts.{ImportCounts}
 use Rattle.run_laws.specs.Exported.{HaveTwoPlaces, address_of, port_of, sent_records}
@@ -37,24 +37,24 @@ use Rattle.run_laws.proofs.Receiving.{same_file}
 
 -- from one record on, where that is so of what is behind it
 joined_on : (e : Entry) (es : List Entry) (left : List Strand) (s : Strand)
-    → ((l : Strand) → Joins (l ∷ []) es left → es ≡ l.entries)
-    → (behind : List Strand) → IsNext (s ∷ []) e behind → Joins behind es left
+    → ((l : Strand) → JoinsByMoment (l ∷ []) es left → es ≡ l.entries)
+    → (behind : List Strand) → IsJoinedNext (s ∷ []) e behind → JoinsByMoment behind es left
     → e ∷ es ≡ s.entries
 joined_on e es left s more [] next later = absurd next
 joined_on e es left s more (l ∷ ls) (inl here) later =
-    let rest : Joins (l ∷ []) es left =
-    subst (λ (x : List Strand). Joins (l ∷ x) es left) here.1 later in
+    let rest : JoinsByMoment (l ∷ []) es left =
+    subst (λ (x : List Strand). JoinsByMoment (l ∷ x) es left) here.1 later in
     ap (λ (x : List Entry). e ∷ x) (more l rest)
     ∙ sym (ap (λ (t : Strand). t.entries) here.0)
 joined_on e es left s more (l ∷ ls) (inr there) later = absurd there.2
 
-one_joined : (s : Strand) (es : List Entry) (left : List Strand) → Joins (s ∷ []) es left
+one_joined : (s : Strand) (es : List Entry) (left : List Strand) → JoinsByMoment (s ∷ []) es left
     → AreOver left → es ≡ s.entries
 one_joined s [] left joins over =
     let all : AreOver (s ∷ []) = subst (λ (l : List Strand). AreOver l) joins over in
     sym (ap (λ (t : Strand). t.entries) all.0)
 one_joined s (e ∷ es) left joins over =
-    joined_on e es left s (λ (l : Strand) (rest : Joins (l ∷ []) es left).
+    joined_on e es left s (λ (l : Strand) (rest : JoinsByMoment (l ∷ []) es left).
     one_joined l es left rest over) joins.0 joins.1 joins.2
 
 -- ---- flows to two places are two flows

@@ -22,7 +22,7 @@ use Rattle.run_outcome.specs.declared.refusal.Refusal.TheVariants as why
 use Rattle.recording_engines.specs.Imported.{AreOf, AreOver, AsksFlows, Imports, IsAsked}
 use Rattle.recording_engines.specs.Imported.{IsFilesRefusal, IsFlowsRefusal, IsImportRefusal}
 use Rattle.recording_engines.specs.Imported.{IsJoinRefusal, IsSaidRefusal, IsWordRefusal}
-use Rattle.recording_engines.specs.Joining.{IsNext, Joins, JoinsTo, OneAt, OneHasMore}
+use Rattle.recording_engines.specs.Joining.{IsJoinedNext, JoinsByMoment, JoinsTo, OneAt, OneHasMore}
 use Rattle.recording_engines.specs.Joining.{Strand}
 use Rattle.recording_engines.specs.Opened.{IsFirstStop, IsStopRefusal}
 use Rattle.recording_engines.specs.Strands.{IsTakenBy, TakesBy, strand_in, strands_in}
@@ -172,7 +172,7 @@ total [] = 0
 total (s ∷ ss) = length s.entries + total ss
 
 -- one record more is joined
-next_faults : (ss : List Strand) (e : Entry) (ls : List Strand) → IsNext ss e ls
+next_faults : (ss : List Strand) (e : Entry) (ls : List Strand) → IsJoinedNext ss e ls
     → faults ls ≡ faults ss
 next_faults [] e ls next = absurd next
 next_faults (s ∷ ss) e [] next = absurd next
@@ -183,7 +183,7 @@ next_faults (s ∷ ss) e (l ∷ ls) (inr there) =
     ap (λ (t : Strand). t.fault ∷ faults ls) there.0
     ∙ ap (λ (fs : List Fault). s.fault ∷ fs) (next_faults ss e ls there.2)
 
-next_total : (ss : List Strand) (e : Entry) (ls : List Strand) → IsNext ss e ls
+next_total : (ss : List Strand) (e : Entry) (ls : List Strand) → IsJoinedNext ss e ls
     → total ss ≡ suc (total ls)
 next_total [] e ls next = absurd next
 next_total (s ∷ ss) e [] next = absurd next
@@ -197,13 +197,13 @@ next_total (s ∷ ss) e (l ∷ ls) (inr there) =
     ap (λ (t : Strand). length t.entries) there.0 in
     omega (arith, first, next_total ss e ls there.2)
 
-joined_faults : (ss : List Strand) (es : List Entry) (left : List Strand) → Joins ss es left
+joined_faults : (ss : List Strand) (es : List Entry) (left : List Strand) → JoinsByMoment ss es left
     → faults left ≡ faults ss
 joined_faults ss [] left joins = ap (λ (ts : List Strand). faults ts) joins
 joined_faults ss (e ∷ es) left joins =
     joined_faults joins.0 es left joins.2 ∙ next_faults ss e joins.0 joins.1
 
-joined_total : (ss : List Strand) (es : List Entry) (left : List Strand) → Joins ss es left
+joined_total : (ss : List Strand) (es : List Entry) (left : List Strand) → JoinsByMoment ss es left
     → total ss ≡ length es + total left
 joined_total ss [] left joins = omega (arith, ap (λ (ts : List Strand). total ts) joins)
 joined_total ss (e ∷ es) left joins =

@@ -3,16 +3,16 @@ use Rattle.std.proofs.Common.{◌≡◌, ℕ, zero, suc, inl, inr, List, [], ◌
 use Rattle.std.proofs.Common.{Some, refl, sym, ap, subst, ◌∙◌, append_assoc, append-nil}
 use Rattle.std.specs.List.{AllByRecursion}
 use Rattle.media_file.specs.Records.{Entry}
-use Rattle.recording_engines.specs.Joining.{IsOver, Strand}
+use Rattle.recording_engines.proofs.Joined.{fresh_same}
+use Rattle.recording_engines.specs.Joining.{ComesNoFault, Strand}
+use Rattle.recording_engines.specs.Steps.{Ahead, AllFresh, Coming, Over, ReadsMore, Standing}
+use Rattle.recording_engines.specs.Steps.{Unknown, left_by, left_of, lefts, nothing, whole}
+use Rattle.recording_engines.specs.Steps.{whole_by, wholes}
 use Rattle.recording_reader.specs.declared.fault.ReadingFault.{ReadingFault}
 use Rattle.side_by_side.specs.Going.{first_place, going_by}
 use Rattle.side_by_side.specs.Steering.{stamp_of}
-use Rattle.side_by_side.specs.Steps.{Ahead, AllFresh, Coming, GivesAt, HasGone, HasReadOn}
-use Rattle.side_by_side.specs.Steps.{HaveReadOn}
-use Rattle.side_by_side.specs.Steps.{Over, ReadsMore, Standing, Unknown, left_by, left_of, lefts}
-use Rattle.side_by_side.specs.Steps.{nothing, whole, whole_by, wholes}
-use Rattle.side_by_side.specs.Strands.{AllRunning, Goes, GoesNext, IsRunning, TakesAt, going_in}
-use Rattle.side_by_side.specs.Strands.{goings_in}
+use Rattle.side_by_side.specs.Steps.{GivesAt, HasGone, HasReadOn, HaveReadOn}
+use Rattle.side_by_side.specs.Strands.{AllRunning, Goes, GoesNext, TakesAt, going_in, goings_in}
 use Rattle.side_by_side.specs.declared.going.Going.{Going}
 use Rattle.side_by_side.specs.declared.going.Going.TheVariants.{Unread, Never}
 use Rattle.side_by_side.specs.declared.steering.Steering.{Steering}
@@ -161,7 +161,7 @@ going_left st (Coming e) r known = refl
 going_left st (Over f) r known = refl
 
 running_left : (a : Ahead) (r : Strand) → IsKnownAhead a
-    → IsRunning (left_by a r).entries (left_by a r).fault
+    → ComesNoFault (left_by a r).entries (left_by a r).fault
 running_left Unknown r known = absurd known
 running_left (Coming e) r known = tt
 running_left (Over None) r known = tt
@@ -249,20 +249,7 @@ gone_more st k w ss ss' es e known first gives gone = record {
       }));
 }
 
--- ---- the beginning and the end
-
-fresh_same : (ss : List Standing) (rs : List Strand) → AllFresh ss → lefts ss rs ≡ wholes ss rs
-fresh_same [] rs fresh = refl
-fresh_same (s ∷ ss) [] fresh = cons (sym (fresh.0 nothing)) (fresh_same ss [] fresh.1)
-fresh_same (s ∷ ss) (r ∷ rs) fresh = cons (sym (fresh.0 r)) (fresh_same ss rs fresh.1)
+-- ---- the beginning
 
 pub gone_none : (st : Steering) (ss : List Standing) → AllFresh ss → HasGone st ss []
 gone_none st ss fresh = record { goes = λ rs. fresh_same ss rs fresh }
-
-pub all_over : (ss : List Standing) (rs : List Strand)
-    → AllByRecursion (λ s. s.ahead ≡ Over None) ss → AllByRecursion IsOver (lefts ss rs)
-all_over [] rs over = tt
-all_over (s ∷ ss) [] over =
-    (ap (λ (a : Ahead). left_by a nothing) over.0, all_over ss [] over.1)
-all_over (s ∷ ss) (r ∷ rs) over =
-    (ap (λ (a : Ahead). left_by a r) over.0, all_over ss rs over.1)

@@ -3,10 +3,11 @@ use Rattle.std.proofs.Common.{◌≡◌, ℕ, zero, suc, ◌+◌, ◌-◌, List,
 use Rattle.std.proofs.Common.{◌∙◌, arith, length}
 use Rattle.media_file.specs.Records.{Entry}
 use Rattle.recording_engines.specs.Joining.{Strand}
+use Rattle.recording_engines.specs.Steps.{Standing, lefts, wholes}
 use Rattle.side_by_side.specs.InOrder.{before_rest, first_entry, first_entry_at, first_in_order}
 use Rattle.side_by_side.specs.InOrder.{gone_of}
 use Rattle.side_by_side.specs.InOrder.{next_first, record_count, tail_of, without_at}
-use Rattle.side_by_side.specs.Steps.{HasGone, Standing, lefts, wholes}
+use Rattle.side_by_side.specs.Steps.{HasGone}
 use Rattle.side_by_side.specs.Strands.{Goes, TakesAt}
 use Rattle.side_by_side.specs.declared.going.Going.{Going}
 use Rattle.side_by_side.specs.declared.steering.Steering.{Steering}

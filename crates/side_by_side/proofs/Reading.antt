@@ -6,7 +6,8 @@ use Rattle.std.proofs.Common.{get_or, set, length, take}
 use Rattle.std.specs.List.{AllByRecursion, sum_by}
 use Rattle.std.proofs.lemmas.List.Sums.{sum_by-set}
 use Rattle.media_file.specs.Records.{Entry}
-use Rattle.recording_engines.specs.Files.{IsAt}
+use Rattle.recording_engines.specs.Files.{IsFailedAt}
+use Rattle.recording_engines.specs.Steps.{Ahead, Coming, Over, ReadsMore, Standing}
 use Rattle.recording_engines.specs.declared.file.ImportFile.{ImportFile}
 use Rattle.recording_engines.specs.declared.file.ImportFile.TheVariants.{Closed, Open, Taken}
 use Rattle.flow.specs.declared.flows.Flows.{Flows}
@@ -20,15 +21,13 @@ use Rattle.recording_reader.specs.declared.fault.ReadingFault.{ReadingFault}
 use Rattle.recording_reader.specs.declared.way.Standing.{Standing as Stand}
 use Rattle.recording_reader.specs.declared.way.Standing.TheVariants.{Reads, Ended, Failed}
 use Rattle.side_by_side.specs.Going.{IsReadBy, going_by}
-use Rattle.side_by_side.specs.Side.{Begun, HasRead, IsAtHand, IsNewSide, IsSoundBy, IsSoundFile}
-use Rattle.side_by_side.specs.Side.{IsSoundSide}
-use Rattle.side_by_side.specs.Side.{IsUnfailed, IsUnfailedFile, ReadsFile, ReadsReader}
+use Rattle.side_by_side.specs.Side.{Begun, IsAtHand, IsNewSide, IsSoundBy, IsSoundFile, IsSoundSide}
+use Rattle.side_by_side.specs.Side.{IsUnfailed, IsUnfailedFile, ReadsFile, ReadsReader, ReadsSide}
 use Rattle.side_by_side.specs.Side.{StopsFile, StopsReader, StopsSide, ahead_by, ahead_of_hand}
 use Rattle.side_by_side.specs.Side.{going_found, goings, reader_standing, standing_by, standing_of}
 use Rattle.side_by_side.specs.Sides.{AllRead, AllSound, AllUnfailed, OneSideAt, standings}
 use Rattle.side_by_side.specs.Steering.{stamp_of}
-use Rattle.side_by_side.specs.Steps.{Ahead, Coming, HasReadOn, HaveReadOn, Over, ReadsMore}
-use Rattle.side_by_side.specs.Steps.{Standing}
+use Rattle.side_by_side.specs.Steps.{HasReadOn, HaveReadOn}
 use Rattle.side_by_side.specs.declared.going.Going.{Going}
 use Rattle.side_by_side.specs.declared.going.Going.TheVariants.{Unread, AtOnce, By, Never}
 use Rattle.side_by_side.specs.declared.side.Side.{Side}
@@ -305,7 +304,7 @@ file_read st w Taken new reads =
     (record { sound = inr refl; read = tt; goes_on = inl refl }))
 
 pub has_read : {A S : Type 0} (st : Steering) (old new : Side A S) → old.going ≡ Unread
-    → ReadsFile st new.going old.file new.file → HasRead st old new
+    → ReadsFile st new.going old.file new.file → ReadsSide st old new
 has_read st old new was reads =
     let so = file_read st new.going old.file new.file reads in
     record {
@@ -317,7 +316,7 @@ has_read st old new was reads =
     }
 
 stops_at : {A S : Type 0} (f : ReadingFault) (old new : ImportFile A S) → StopsFile f old new
-    → IsAt f new × HasReadOn (standing_by Unread old) (standing_by Unread new)
+    → IsFailedAt f new × HasReadOn (standing_by Unread old) (standing_by Unread new)
 stops_at f (Closed s) new stops = absurd stops
 stops_at f (Open r) (Closed s) stops = absurd stops
 stops_at f (Open r) (Open r') stops = (stops.at, stops.goes_on)
@@ -353,7 +352,7 @@ new_side flows gave text r count new before at is = record {
 
 -- one of which what comes next is read stays
 pub read_stays : {A S : Type 0} (st : Steering) (s : Side A S) → IsSoundSide st s
-    → IsReadBy s.going → HasRead st s s
+    → IsReadBy s.going → ReadsSide st s s
 read_stays st s sound read = record { sound = sound; read = read; goes_on = inl refl }
 
 -- ---- all of them
@@ -402,7 +401,7 @@ on_set (s ∷ ss) zero d s' on = (on, all_stay (standings ss))
 on_set (s ∷ ss) (suc k) d s' on = (inl refl, on_set ss k d s' on)
 
 pub stopped_set : {A S : Type 0} (f : ReadingFault) (sides : List (Side A S)) (k : ℕ)
-    (s' : Side A S) → k < length sides → IsAt f s'.file → OneSideAt f (set sides k s')
+    (s' : Side A S) → k < length sides → IsFailedAt f s'.file → OneSideAt f (set sides k s')
 stopped_set f [] k s' lt at = absurd (omega (arith, lt))
 stopped_set f (s ∷ ss) zero s' lt at = inl at
 stopped_set f (s ∷ ss) (suc k) s' lt at = inr (stopped_set f ss k s' (omega (arith, lt)) at)

@@ -4,7 +4,7 @@ use Rattle.std.proofs.Common.{sym, ap, ◌∙◌, arith, drop, length, take, app
 use Rattle.std.proofs.lemmas.List.{take_at}
 use Rattle.std.specs.List.{AllByRecursion}
 use Rattle.media_file.specs.Records.{Entry}
-use Rattle.recording_engines.specs.Files.{IsAt}
+use Rattle.recording_engines.specs.Files.{IsFailedAt}
 use Rattle.recording_engines.specs.declared.file.ImportFile.{ImportFile}
 use Rattle.recording_engines.specs.declared.file.ImportFile.TheVariants.{Closed, Open, Taken}
 use Rattle.recording_reader.proofs.Telling.{datagrams_more}
@@ -18,8 +18,8 @@ use Rattle.st_format.specs.declared.device.Turn.{Turn}
 use Rattle.st_format.specs.declared.device.Turn.TheVariants.{Datagram, Quiet, End}
 use Rattle.st_format.specs.declared.path.Path.{Path}
 use Rattle.side_by_side.specs.Side.{IsUnfailedFile}
-use Rattle.side_by_side.specs.Sides.{AllUnfailed, IsBegun, IsSideBySide, IsStopped, OneSideAt}
-use Rattle.side_by_side.specs.Sides.{Sides, StopsAll, StopsSides, TellsNext, TellsOne}
+use Rattle.side_by_side.specs.Sides.{AllUnfailed, IsFaultOfFiles, IsSideBySide, IsUnreadSide}
+use Rattle.side_by_side.specs.Sides.{OneSideAt, Sides, StopsAll, StopsSides, TellsNext, TellsOne}
 use Rattle.side_by_side.specs.Sides.{TellsSides, given_of, standings}
 use Rattle.side_by_side.specs.Steps.{HasGone}
 use Rattle.side_by_side.specs.declared.side.Side.{Side}
@@ -47,12 +47,12 @@ given_is st sides es gone = ap datagrams_of (gone_is st (standings sides) es gon
 
 -- where nothing was read yet
 pub given_none : {A S : Type 0} (st : Steering) (sides : List (Side A S))
-    → AllByRecursion IsBegun sides → given_of st sides ≡ []
+    → AllByRecursion IsUnreadSide sides → given_of st sides ≡ []
 given_none st sides begun =
     given_is st sides [] (gone_none st (standings sides) (all_fresh sides begun))
 
 pub sound_new : {A S : Type 0} (st : Steering) (sides : List (Side A S))
-    → AllByRecursion IsBegun sides → IsSideBySide (seen st sides 0 0 None)
+    → AllByRecursion IsUnreadSide sides → IsSideBySide (seen st sides 0 0 None)
 sound_new st sides begun = record {
   sound = begun_sound st sides begun;
   entries = [];
@@ -81,7 +81,7 @@ given_same st olds news es gone goes =
 
 -- ---- the fault at which it stays
 
-at_unfailed : {A S : Type 0} (f : ReadingFault) (file : ImportFile A S) → IsAt f file
+at_unfailed : {A S : Type 0} (f : ReadingFault) (file : ImportFile A S) → IsFailedAt f file
     → IsUnfailedFile file → ⊥
 at_unfailed f (Closed s) at unfailed = at
 at_unfailed f (Open r) at unfailed =
@@ -96,7 +96,7 @@ one_unfailed f (s ∷ ss) (inr at) unfailed = one_unfailed f ss at unfailed.1
 
 -- where none was at a fault, it stays at none
 stopped_none : {A S : Type 0} (fault : Option ReadingFault) (olds news : List (Side A S))
-    → IsStopped fault olds → AllUnfailed olds → IsStopped fault news
+    → IsFaultOfFiles fault olds → AllUnfailed olds → IsFaultOfFiles fault news
 stopped_none None olds news stopped unfailed = tt
 stopped_none (Some f) olds news stopped unfailed = absurd (one_unfailed f olds stopped unfailed)
 

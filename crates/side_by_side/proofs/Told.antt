@@ -5,22 +5,21 @@ use Rattle.std.proofs.Common.{get_or, set, length, inl, inr}
 use Rattle.std.specs.List.{AllByRecursion}
 use Rattle.std.specs.Prelude.{IfSome}
 use Rattle.media_file.specs.Records.{Entry}
-use Rattle.recording_engines.specs.Files.{next_of}
+use Rattle.recording_engines.specs.Files.{next_entry}
+use Rattle.recording_engines.specs.Steps.{Ahead, AllFresh, Coming, IsFresh, Over, Standing, Unknown}
 use Rattle.recording_engines.specs.declared.file.ImportFile.{ImportFile}
 use Rattle.recording_engines.specs.declared.file.ImportFile.TheVariants.{Closed, Open, Taken}
 use Rattle.recording_reader.specs.FileReader.{TellsTurn, fault_of}
 use Rattle.recording_reader.specs.declared.way.Standing.{Standing as Stand}
 use Rattle.recording_reader.specs.declared.way.Standing.TheVariants.{Reads, Ended, Failed}
 use Rattle.side_by_side.specs.Going.{IsReadBy, first_place, going_by, goes, is_later}
-use Rattle.side_by_side.specs.Side.{IsGiven, IsSoundSide, ahead_by, ahead_of_hand, goings}
+use Rattle.side_by_side.specs.Side.{GivesDatagram, IsSoundSide, ahead_by, ahead_of_hand, goings}
 use Rattle.side_by_side.specs.Side.{IsUnfailedFile, standing_by, standing_of}
-use Rattle.side_by_side.specs.Sides.{AllOver, AllRead, AllSound, AllUnfailed, GivesHand, IsBegun}
-use Rattle.side_by_side.specs.Sides.{IsFreshFile, ReadsAll}
-use Rattle.side_by_side.specs.Sides.{TellsEnd, TellsNext, standings}
+use Rattle.side_by_side.specs.Sides.{AllOver, AllRead, AllSound, AllUnfailed, GivesHand}
+use Rattle.side_by_side.specs.Sides.{IsFreshFile, IsUnreadSide, ReadsAll, TellsEnd, TellsNext}
+use Rattle.side_by_side.specs.Sides.{standings}
 use Rattle.side_by_side.specs.Steering.{stamp_of}
-use Rattle.side_by_side.specs.Steps.{Ahead, AllFresh, Coming, GivesAt, HasGone, HasReadOn}
-use Rattle.side_by_side.specs.Steps.{HaveReadOn}
-use Rattle.side_by_side.specs.Steps.{IsFresh, Over, Standing, Unknown}
+use Rattle.side_by_side.specs.Steps.{GivesAt, HasGone, HasReadOn, HaveReadOn}
 use Rattle.side_by_side.specs.declared.going.Going.{Going}
 use Rattle.side_by_side.specs.declared.going.Going.TheVariants.{Unread, AtOnce, By, Never}
 use Rattle.side_by_side.specs.declared.side.Side.{Side}
@@ -36,7 +35,7 @@ use Rattle.side_by_side.proofs.Reading.{known_side, sound_given}
 
 pub record HasHand {A S : Type 0} (s : Side A S) : Type 0 where
   pub entry : Entry
-  pub hand : next_of s.file ≡ Some entry
+  pub hand : next_entry s.file ≡ Some entry
   pub coming : (standing_of s).ahead ≡ Coming entry
 
 -- what goes is a record
@@ -64,7 +63,7 @@ hand_by Ended w h e is = absurd cc
 hand_by (Failed f) w h e is = absurd cc
 
 hand_file : {A S : Type 0} (w : Going) (f : ImportFile A S) (e : Entry)
-    → (standing_by w f).ahead ≡ Coming e → next_of f ≡ Some e
+    → (standing_by w f).ahead ≡ Coming e → next_entry f ≡ Some e
 hand_file w (Closed s) e is = absurd cc
 hand_file w (Open r) e is = hand_by r.standing w r.at_hand e is
 hand_file w Taken e is = absurd cc
@@ -127,7 +126,7 @@ given_file w (Open r) e is =
 given_file w Taken e is = absurd cc
 
 pub given_standing : {A S : Type 0} (s s' : Side A S) (e : Entry)
-    → (standing_of s).ahead ≡ Coming e → IsGiven s s'
+    → (standing_of s).ahead ≡ Coming e → GivesDatagram s s'
     → standing_of s' ≡ record { entries = (standing_of s).entries; ahead = Unknown }
 given_standing s s' e coming given =
     ap (λ (w : Going). standing_by w s'.file) given.unread
@@ -136,7 +135,8 @@ given_standing s s' e coming given =
 
 pub gives_at : {A S : Type 0} (sides : List (Side A S)) (k : ℕ) (d s' : Side A S) (e : Entry)
     → k < length sides → (standing_of (get_or sides k d)).ahead ≡ Coming e
-    → IsGiven (get_or sides k d) s' → GivesAt k (standings sides) e (standings (set sides k s'))
+    → GivesDatagram (get_or sides k d) s'
+    → GivesAt k (standings sides) e (standings (set sides k s'))
 gives_at [] k d s' e lt coming given = absurd (omega (arith, lt))
 gives_at (s ∷ ss) zero d s' e lt coming given =
     (coming, given_standing s s' e coming given, refl)
@@ -175,7 +175,7 @@ told_hand st End buf e olds news turn sound gone left = absurd turn
 pub told_first : {A S : Type 0} (st : Steering) (t : Turn) (buf : List ℕ)
     (olds mids : List (Side A S)) (k : ℕ) (w : Going) (d s' : Side A S) → ReadsAll st olds mids
     → first_place (goings mids) ≡ Some (k, w)
-    → TellsTurn (next_of (get_or mids k d).file) t buf → IsGiven (get_or mids k d) s'
+    → TellsTurn (next_entry (get_or mids k d).file) t buf → GivesDatagram (get_or mids k d) s'
     → TellsNext st t buf olds (set mids k s')
 told_first st t buf olds mids k w d s' reads first turn given =
     let has = has_hand st mids k w d reads.sound reads.read first in
@@ -276,7 +276,7 @@ fresh_file (Open r) is =
     (λ r. refl))
 fresh_file Taken is = λ r. refl
 
-pub all_fresh : {A S : Type 0} (sides : List (Side A S)) → AllByRecursion IsBegun sides
+pub all_fresh : {A S : Type 0} (sides : List (Side A S)) → AllByRecursion IsUnreadSide sides
     → AllFresh (standings sides)
 all_fresh [] begun = tt
 all_fresh (s ∷ ss) begun = (
@@ -286,6 +286,6 @@ all_fresh (s ∷ ss) begun = (
 )
 
 pub begun_sound : {A S : Type 0} (st : Steering) (sides : List (Side A S))
-    → AllByRecursion IsBegun sides → AllSound st sides
+    → AllByRecursion IsUnreadSide sides → AllSound st sides
 begun_sound st [] begun = tt
 begun_sound st (s ∷ ss) begun = (sound_given st s begun.0.0, begun_sound st ss begun.1)

@@ -3,8 +3,10 @@ use Rattle.std.proofs.Common.{◌≡◌, ℕ, List, [], ◌∷◌, Option, None,
 use Rattle.std.specs.List.{AllByRecursion, AllZip}
 use Rattle.media_file.specs.Records.{Entry}
 use Rattle.recording_engines.proofs.FileFaults.{fault_none, strand_by}
-use Rattle.recording_engines.specs.Files.{IsKnown}
+use Rattle.recording_engines.proofs.Joined.{all_over}
+use Rattle.recording_engines.specs.Files.{HasKnownOctets}
 use Rattle.recording_engines.specs.Joining.{Strand}
+use Rattle.recording_engines.specs.Steps.{Ahead, Over, lefts, nothing, whole, whole_by, wholes}
 use Rattle.recording_engines.specs.Strands.{strand_in}
 use Rattle.recording_engines.specs.declared.file.ImportFile.{ImportFile}
 use Rattle.recording_engines.specs.declared.file.ImportFile.TheVariants.{Closed, Open, Taken}
@@ -15,13 +17,10 @@ use Rattle.st_format.specs.History.{IsRead}
 use Rattle.side_by_side.specs.Side.{ahead_by, coming_by, reader_standing, standing_by}
 use Rattle.side_by_side.specs.Sides.{AllOver, FileGave, HasGivenAll, IsSideBySide, SideGave, Sides}
 use Rattle.side_by_side.specs.Sides.{standings, strand_of, strands_of}
-use Rattle.side_by_side.specs.Steps.{Ahead, Over, lefts, nothing, whole, whole_by}
-use Rattle.side_by_side.specs.Steps.{wholes}
 use Rattle.side_by_side.specs.Strands.{Goes}
 use Rattle.side_by_side.specs.declared.going.Going.{Going}
 use Rattle.side_by_side.specs.declared.going.Going.TheVariants.{Unread, AtOnce, By, Never}
 use Rattle.side_by_side.specs.declared.side.Side.{Side}
-use Rattle.side_by_side.proofs.Gone.{all_over}
 
 no_coming : (h : Option Entry) → coming_by h ≡ Over None → ⊥
 no_coming None is = absurd cc
@@ -49,7 +48,7 @@ over_reader gave ended w r octets known over read =
     ∙ sym (ap (λ (a : Ahead). whole_by r.records a nothing) over)
 
 over_file : {A S : Type 0} (gave : S → List ℕ) (ended : S → Type 0) (w : Going)
-    (f : ImportFile A S) (octets : List ℕ) → IsKnown gave ended f
+    (f : ImportFile A S) (octets : List ℕ) → HasKnownOctets gave ended f
     → (standing_by w f).ahead ≡ Over None → FileGave gave ended f octets
     → strand_of f octets ≡ whole (standing_by w f) nothing
 over_file gave ended w (Closed s) octets known over read = refl
@@ -61,7 +60,7 @@ cons : {x y : Strand} {xs ys : List Strand} → x ≡ y → xs ≡ ys → x ∷ 
 cons one rest = cc
 
 all_strands : {A S : Type 0} (gave : S → List ℕ) (ended : S → Type 0) (sides : List (Side A S))
-    (octets : List (List ℕ)) → AllByRecursion (λ s. IsKnown gave ended s.file) sides
+    (octets : List (List ℕ)) → AllByRecursion (λ s. HasKnownOctets gave ended s.file) sides
     → AllOver sides → AllZip (SideGave gave ended) sides octets
     → strands_of sides octets ≡ wholes (standings sides) []
 all_strands gave ended [] octets known over read = refl
@@ -76,7 +75,8 @@ over_standings [] over = tt
 over_standings (s ∷ ss) over = (over.0, over_standings ss over.1)
 
 pub given_all : {A S : Type 0} (gave : S → List ℕ) (ended : S → Type 0) (s : Sides A S)
-    → IsSideBySide s → AllByRecursion (λ x. IsKnown gave ended x.file) s.sides → AllOver s.sides
+    → IsSideBySide s → AllByRecursion (λ x. HasKnownOctets gave ended x.file) s.sides
+    → AllOver s.sides
     → HasGivenAll gave ended s
 given_all gave ended s is known over = record {
   entries = is.entries;

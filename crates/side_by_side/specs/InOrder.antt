@@ -2,8 +2,8 @@
 use Rattle.std.specs.Prelude.{ℕ, zero, suc, ◌+◌, ◌-◌, List, [], ◌∷◌, length, Option, None, Some}
 use Rattle.media_file.specs.Records.{Entry}
 use Rattle.recording_engines.specs.Joining.{Strand}
+use Rattle.recording_engines.specs.Steps.{Standing, lefts, wholes}
 use Rattle.side_by_side.specs.Going.{first_place}
-use Rattle.side_by_side.specs.Steps.{Standing, lefts, wholes}
 use Rattle.side_by_side.specs.Strands.{goings_in}
 use Rattle.side_by_side.specs.declared.going.Going.{Going}
 use Rattle.side_by_side.specs.declared.steering.Steering.{Steering}

@@ -3,7 +3,8 @@ use Rattle.std.specs.Prelude.{◌≡◌, ℕ, ◌⊎◌, ⊤, List, [], ◌∷�
 use Rattle.std.specs.Prelude.{map, Bool, true, false}
 use Rattle.flow.specs.declared.flows.Flows.{Flows}
 use Rattle.media_file.specs.Records.{Entry}
-use Rattle.recording_engines.specs.Files.{IsAt, IsUnread}
+use Rattle.recording_engines.specs.Files.{IsFailedAt, IsUnread}
+use Rattle.recording_engines.specs.Steps.{Ahead, Coming, Over, Standing, Unknown}
 use Rattle.recording_engines.specs.declared.file.ImportFile.{ImportFile}
 use Rattle.recording_engines.specs.declared.file.ImportFile.TheVariants.{Closed, Open, Taken}
 use Rattle.recording_reader.specs.FileReader.{FileReader, fault_of}
@@ -13,7 +14,7 @@ use Rattle.recording_reader.specs.declared.way.Standing.TheVariants.{Reads, Ende
 use Rattle.run_outcome.specs.Fault.{Blames, counts}
 use Rattle.side_by_side.specs.Going.{IsReadBy, going_by}
 use Rattle.side_by_side.specs.Steering.{stamp_of}
-use Rattle.side_by_side.specs.Steps.{Ahead, Coming, HasReadOn, Over, Standing, Unknown}
+use Rattle.side_by_side.specs.Steps.{HasReadOn}
 use Rattle.side_by_side.specs.declared.going.Going.{Going}
 use Rattle.side_by_side.specs.declared.going.Going.TheVariants.{Unread, AtOnce, By, Never}
 use Rattle.side_by_side.specs.declared.side.Side.{Side}
@@ -139,7 +140,7 @@ StopsFile f (Open r) Taken = ⊥
 StopsFile f Taken new = ⊥
 
 -- It was read on, to its next datagram or to its end.
-pub record HasRead {A S : Type 0} (steering : Steering) (old new : Side A S) : Type 0 where
+pub record ReadsSide {A S : Type 0} (steering : Steering) (old new : Side A S) : Type 0 where
   pub sound : IsSoundSide steering new
   pub read : IsReadBy new.going
   pub goes_on : HasReadOn (standing_of old) (standing_of new)
@@ -147,11 +148,11 @@ pub record HasRead {A S : Type 0} (steering : Steering) (old new : Side A S) : T
 -- It was read on, to a fault, at which it stays.
 pub record StopsSide {A S : Type 0} (f : ReadingFault) (old new : Side A S) : Type 0 where
   pub unread : new.going ≡ Unread
-  pub at : IsAt f new.file
+  pub at : IsFailedAt f new.file
   pub goes_on : HasReadOn (standing_of old) (standing_of new)
 
 -- Its datagram was given.
-pub record IsGiven {A S : Type 0} (old new : Side A S) : Type 0 where
+pub record GivesDatagram {A S : Type 0} (old new : Side A S) : Type 0 where
   pub file : new.file ≡ old.file
   pub unread : new.going ≡ Unread
 

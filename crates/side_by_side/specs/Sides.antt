@@ -4,7 +4,8 @@ use Rattle.std.specs.Prelude.{Option, None, Some}
 use Rattle.std.specs.List.{AllByRecursion, AllZip, sum_by}
 use Rattle.std.specs.Option.{option_map}
 use Rattle.media_file.specs.Records.{Entry}
-use Rattle.recording_engines.specs.Files.{IsAt, failures_by, next_of}
+use Rattle.recording_engines.specs.Files.{IsFailedAt, failures_by, next_entry}
+use Rattle.recording_engines.specs.Steps.{Over, Standing, nothing}
 use Rattle.recording_engines.specs.declared.file.ImportFile.{ImportFile}
 use Rattle.recording_engines.specs.declared.file.ImportFile.TheVariants.{Closed, Open, Taken}
 use Rattle.recording_engines.specs.Joining.{Strand}
@@ -23,8 +24,9 @@ use Rattle.st_format.specs.declared.device.Turn.TheVariants.{Datagram, Quiet, En
 use Rattle.st_format.specs.declared.path.Path.{Path}
 use Rattle.side_by_side.specs.Going.{IsReadBy}
 use Rattle.side_by_side.specs.InOrder.{gone_of}
-use Rattle.side_by_side.specs.Side.{Begun, IsGiven, IsSoundSide, IsUnfailed, begun_at, standing_of}
-use Rattle.side_by_side.specs.Steps.{HasGone, HaveReadOn, Over, Standing, nothing}
+use Rattle.side_by_side.specs.Side.{Begun, GivesDatagram, IsSoundSide, IsUnfailed, begun_at}
+use Rattle.side_by_side.specs.Side.{standing_of}
+use Rattle.side_by_side.specs.Steps.{HasGone, HaveReadOn}
 use Rattle.side_by_side.specs.Strands.{GoesWhole}
 use Rattle.side_by_side.specs.declared.going.Going.TheVariants.{Unread}
 use Rattle.side_by_side.specs.declared.side.Side.{Side}
@@ -64,7 +66,7 @@ AllOver sides = AllByRecursion (λ s. (standing_of s).ahead ≡ Over None) sides
 -- one of the files came to this fault
 abbrev pub OneSideAt : {A S : Type 0} → ReadingFault → List (Side A S) → Type 0
 OneSideAt f [] = ⊥
-OneSideAt f (s ∷ ss) = IsAt f s.file ⊎ OneSideAt f ss
+OneSideAt f (s ∷ ss) = IsFailedAt f s.file ⊎ OneSideAt f ss
 
 -- nothing was read of a file behind what stands before its records, if it is opened
 abbrev pub IsFreshFile : {A S : Type 0} → ImportFile A S → Type 0
@@ -73,8 +75,8 @@ IsFreshFile (Open r) = (r.standing ≡ Reads) × (r.records ≡ [])
 IsFreshFile Taken = ⊤
 
 -- a file of which no datagram was read yet
-abbrev pub IsBegun : {A S : Type 0} → Side A S → Type 0
-IsBegun s = (s.going ≡ Unread) × IsFreshFile s.file
+abbrev pub IsUnreadSide : {A S : Type 0} → Side A S → Type 0
+IsUnreadSide s = (s.going ≡ Unread) × IsFreshFile s.file
 
 -- ---- what calls do
 
@@ -98,8 +100,8 @@ pub record GivesHand {A S : Type 0} (place : ℕ) (t : Turn) (buf : List ℕ)
     (olds news : List (Side A S)) : Type 0 where
   pub other : Side A S
   pub given : Side A S
-  pub told : TellsTurn (next_of (get_or olds place other).file) t buf
-  pub is : IsGiven (get_or olds place other) given
+  pub told : TellsTurn (next_entry (get_or olds place other).file) t buf
+  pub is : GivesDatagram (get_or olds place other) given
   pub now : news ≡ set olds place given
 
 -- The datagram of the one that goes first was told, whose octets stand at the front of a buffer.
@@ -150,9 +152,9 @@ abbrev pub last_fault_of : Option ReadingFault → Option SourceFault
 last_fault_of fault = option_map source_fault fault
 
 -- where it came to a fault, one of the files is at it
-abbrev pub IsStopped : {A S : Type 0} → Option ReadingFault → List (Side A S) → Type 0
-IsStopped None sides = ⊤
-IsStopped (Some f) sides = OneSideAt f sides
+abbrev pub IsFaultOfFiles : {A S : Type 0} → Option ReadingFault → List (Side A S) → Type 0
+IsFaultOfFiles None sides = ⊤
+IsFaultOfFiles (Some f) sides = OneSideAt f sides
 
 -- What is so of each: the datagrams that it gave are those of the files' records, each file's in
 -- its order, always that of the file that goes first.
@@ -161,7 +163,7 @@ pub record IsSideBySide {A S : Type 0} (s : Sides A S) : Type 0 where
   pub entries : List Entry
   pub gone : HasGone s.steering (standings s.sides) entries
   pub came_is : s.came ≡ datagrams_of entries
-  pub stopped : IsStopped s.fault s.sides
+  pub stopped : IsFaultOfFiles s.fault s.sides
 
 -- a turn tells a datagram, or the end
 abbrev pub IsDatagramOrEnd : Turn → Type 0
@@ -189,7 +191,7 @@ pub record StopsSides {A S : Type 0} (f : ReadingFault) (old new : Sides A S) : 
 
 -- What a source of datagrams says of a call that failed: by which fault, at which it stays; and
 -- where no file was at a fault before, whether a device failed.
-pub record FailsBy {A S : Type 0} (failures : S → ℕ) (e : SourceFault) (old new : Sides A S)
+pub record FailsByReading {A S : Type 0} (failures : S → ℕ) (e : SourceFault) (old new : Sides A S)
     : Type 0 where
   pub reading : ReadingFault
   pub told : e ≡ source_fault reading

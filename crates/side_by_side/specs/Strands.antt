@@ -1,10 +1,9 @@
 -- Records of files in the order in which they go side by side (own).
-use Rattle.std.specs.Prelude.{◌≡◌, ℕ, zero, suc, ⊤, List, [], ◌∷◌, map, Option, None, Some}
+use Rattle.std.specs.Prelude.{◌≡◌, ℕ, zero, suc, List, [], ◌∷◌, map, Some}
 use Rattle.std.specs.List.{AllByRecursion}
 use Rattle.media_file.specs.Records.{Entry}
 use Rattle.recording_engines.specs.Imported.{AreOver}
-use Rattle.recording_engines.specs.Joining.{Strand}
-use Rattle.recording_reader.specs.declared.fault.ReadingFault.{ReadingFault}
+use Rattle.recording_engines.specs.Joining.{ComesNoFault, Strand}
 use Rattle.side_by_side.specs.Going.{first_place, going_by}
 use Rattle.side_by_side.specs.Steering.{stamp_of}
 use Rattle.side_by_side.specs.declared.going.Going.{Going}
@@ -20,15 +19,9 @@ going_in s (e ∷ es) = going_by (stamp_of s e.octets)
 abbrev pub goings_in : Steering → List Strand → List Going
 goings_in s strands = map (λ x. going_in s x.entries) strands
 
--- a file isn't at its fault: a record is left of it, or it has none
-abbrev pub IsRunning : List Entry → Option ReadingFault → Type 0
-IsRunning [] None = ⊤
-IsRunning [] (Some f) = ⊥
-IsRunning (e ∷ es) fault = ⊤
-
--- no file is at its fault
+-- no file is at its fault: a record is left of it, or it has none
 abbrev pub AllRunning : List Strand → Type 0
-AllRunning strands = AllByRecursion (λ x. IsRunning x.entries x.fault) strands
+AllRunning strands = AllByRecursion (λ x. ComesNoFault x.entries x.fault) strands
 
 -- A record is the first that is left of the file of a place. Without it, these are left.
 abbrev pub TakesAt : ℕ → List Strand → Entry → List Strand → Type 0

@@ -2,13 +2,13 @@
 ghost use Rattle.std.specs.Prelude.{◌≡◌, ◌≤◌, ◌<◌, None, Some, IfErr, IfOk, MatchOption, OnErr};
 ghost use Rattle.std.specs.Prelude.{OnOk};
 ghost use Rattle.std.specs.Prelude.{IfSome, length, take};
-ghost use Rattle.recording_engines.specs.Files.{IsClosed, IsKnown, ended_by, failures_by, gave_by};
-ghost use Rattle.recording_engines.specs.Files.{is_recording_file, next_of, source_of};
+ghost use Rattle.recording_engines.specs.Files.{HasKnownOctets, IsClosed, ended_by, failures_by};
+ghost use Rattle.recording_engines.specs.Files.{gave_by, is_recording_file, next_entry, source_of};
 ghost use Rattle.recording_reader.specs.FileReader.{IsSameFile, TellsTurn, fault_of, record_seen};
 ghost use Rattle.recording_reader.specs.Opening.{CountsOpening, IsByFlows, StopsOpening};
-ghost use Rattle.side_by_side.specs.Side.{AccountsFor, HasRead, IsGiven, IsNewSide, IsSoundSide};
+ghost use Rattle.side_by_side.specs.Side.{AccountsFor, GivesDatagram, IsNewSide, IsSoundSide};
 ghost use Rattle.side_by_side.specs.Side.{IsUnfailed, IsUnfailedFile, ReadsFile, ReadsReader};
-ghost use Rattle.side_by_side.specs.Side.{StopsFile, StopsReader, StopsSide, begun_at};
+ghost use Rattle.side_by_side.specs.Side.{ReadsSide, StopsFile, StopsReader, StopsSide, begun_at};
 ghost use Rattle.side_by_side.specs.Side.{closed_side, going_found};
 
 use crate::going::Going;
@@ -65,7 +65,7 @@ impl<A: Allocator, S: ByteSource> Side<A, S> {
     pub(crate) fn read_on(&mut self, steering: Steering) -> Result<(), ReadingFault>
         requires { IsSoundSide steering self.old }
         ensures begun { begun_at self.new.file ≡ begun_at self.old.file }
-        ensures read { OnOk result (HasRead steering self.old self.new) }
+        ensures read { OnOk result (ReadsSide steering self.old self.new) }
         ensures fault { IfErr result (λ f. StopsSide f self.old self.new) }
         ensures device { IsUnfailed self.old → AccountsFor result
             (failures_by S.failures self.old.file) (failures_by S.failures self.new.file) }
@@ -80,7 +80,7 @@ impl<A: Allocator, S: ByteSource> Side<A, S> {
     fn read_unread(&mut self, steering: Steering) -> Result<(), ReadingFault>
         requires unread { self.old.going ≡ Going.Unread }
         ensures begun { begun_at self.new.file ≡ begun_at self.old.file }
-        ensures read { OnOk result (HasRead steering self.old self.new) }
+        ensures read { OnOk result (ReadsSide steering self.old self.new) }
         ensures fault { IfErr result (λ f. StopsSide f self.old self.new) }
         ensures device { IsUnfailed self.old → AccountsFor result
             (failures_by S.failures self.old.file) (failures_by S.failures self.new.file) }
@@ -93,7 +93,7 @@ impl<A: Allocator, S: ByteSource> Side<A, S> {
     /// The datagram that its reader has at hand, where it has one; none before it is opened.
     fn at_hand(&self) -> Option<RecordView<'_>>
         ensures seen { record_seen result
-            ≡ next_of self.now.file }
+            ≡ next_entry self.now.file }
         ensures few { IfSome result (λ r. length r.octets.now ≤ 65535) }
     {
         match &self.file {
@@ -108,7 +108,7 @@ impl<A: Allocator, S: ByteSource> Side<A, S> {
     fn tell(&self, buf: &mut [u8]) -> Turn
         requires { 65535 ≤ length buf.old }
         ensures room { length buf.new ≡ length buf.old }
-        ensures told { TellsTurn (next_of self.now.file) result buf.new }
+        ensures told { TellsTurn (next_entry self.now.file) result buf.new }
     {
         match self.at_hand() {
             Some(record) => {
@@ -125,8 +125,8 @@ impl<A: Allocator, S: ByteSource> Side<A, S> {
     pub(crate) fn give(&mut self, buf: &mut [u8]) -> Turn
         requires { 65535 ≤ length buf.old }
         ensures room { length buf.new ≡ length buf.old }
-        ensures told { TellsTurn (next_of self.old.file) result buf.new }
-        ensures given { IsGiven self.old self.new }
+        ensures told { TellsTurn (next_entry self.old.file) result buf.new }
+        ensures given { GivesDatagram self.old self.new }
     {
         let turn = self.tell(buf);
         self.going = Going::Unread;
@@ -153,7 +153,7 @@ impl<A: Allocator, S: ByteSource + Drop> Side<A, S> {
         ensures opened { IfOk result (λ count. IsNewSide flows (gave_by S.gave self.old.file)
             (take count text.new) self.new) }
         ensures few { IfOk result (λ count. count < 65536) }
-        ensures known { OnOk result (IsKnown S.gave S.ended self.new.file) }
+        ensures known { OnOk result (HasKnownOctets S.gave S.ended self.new.file) }
         ensures stays { OnErr result (IsClosed self.new.file) }
         ensures fault { IfErr result (λ f. StopsOpening flows (gave_by S.gave self.old.file)
             (gave_by S.gave self.new.file) (ended_by S.ended self.new.file) f) }
@@ -186,7 +186,7 @@ fn open_source<A: Allocator, S: ByteSource>(
     ensures opened { IfOk result.1 (λ count. IsNewSide flows (S.gave source)
         (take count text.new) (record { file = result.0; going = Going.Unread })) }
     ensures few { IfOk result.1 (λ count. count < 65536) }
-    ensures known { OnOk result.1 (IsKnown S.gave S.ended result.0) }
+    ensures known { OnOk result.1 (HasKnownOctets S.gave S.ended result.0) }
     ensures stays { OnErr result.1 (IsClosed result.0) }
     ensures fault { IfErr result.1 (λ f. StopsOpening flows (S.gave source)
         (gave_by S.gave result.0) (ended_by S.ended result.0) f) }

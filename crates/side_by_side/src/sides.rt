@@ -2,11 +2,12 @@
 ghost use Rattle.std.specs.Prelude.{◌≡◌, ◌≤◌, ◌↔◌, ◌++◌, None, Some, IfErr, IfOk, OnErr, OnOk};
 ghost use Rattle.std.specs.Prelude.{MatchResult, [], length};
 ghost use Rattle.std.specs.List.{AllByRecursion};
-ghost use Rattle.recording_engines.specs.Files.{IsKnown, IsReadByFlows};
+ghost use Rattle.recording_engines.specs.Files.{HasKnownOctets, IsReadByFlows};
 ghost use Rattle.side_by_side.specs.Side.{AccountsFor};
-ghost use Rattle.side_by_side.specs.Sides.{AllOver, AllUnfailed, FailsBy, HasGivenAll, IsBegun};
-ghost use Rattle.side_by_side.specs.Sides.{IsDatagramOrEnd, IsSideBySide, IsStopped, StopsSides};
-ghost use Rattle.side_by_side.specs.Sides.{TellsSides, begun_each, failures_each, last_fault_of};
+ghost use Rattle.side_by_side.specs.Sides.{AllOver, AllUnfailed, FailsByReading, HasGivenAll};
+ghost use Rattle.side_by_side.specs.Sides.{IsDatagramOrEnd, IsFaultOfFiles, IsSideBySide};
+ghost use Rattle.side_by_side.specs.Sides.{IsUnreadSide, StopsSides, TellsSides, begun_each};
+ghost use Rattle.side_by_side.specs.Sides.{failures_each, last_fault_of};
 ghost use Rattle.st_format.specs.Device.{CountsFaults};
 ghost use Rattle.st_format.specs.Turns.{CountsTurn, IsEnd, IsWithin, TakesTurn, arrived};
 
@@ -66,7 +67,7 @@ impl<A: Allocator, S: ByteSource> Model for SideBySide<A, S> {
 impl<A: Allocator, S: ByteSource> SideBySide<A, S> {
     /// Over files of which nothing was read behind what stands before their records.
     pub fn new(steering: Steering, sides: Vec<Side<A, S>, A>) -> SideBySide<A, S>
-        requires { AllByRecursion IsBegun sides.items }
+        requires { AllByRecursion IsUnreadSide sides.items }
         ensures { result ≡ record {
           steering = steering;
           sides = sides.items;
@@ -100,7 +101,7 @@ impl<A: Allocator, S: ByteSource> SideBySide<A, S> {
     #[doc(hidden)]
     #[inline(always)]
     pub fn history(&self)
-        ensures known { AllByRecursion (λ s. IsKnown S.gave S.ended s.file) self.now.sides }
+        ensures known { AllByRecursion (λ s. HasKnownOctets S.gave S.ended s.file) self.now.sides }
         ensures by_flows { AllByRecursion (λ s. IsReadByFlows s.file) self.now.sides }
         ensures all { AllOver self.now.sides → HasGivenAll S.gave S.ended self.now }
     {
@@ -110,7 +111,7 @@ impl<A: Allocator, S: ByteSource> SideBySide<A, S> {
     /// The fault of a file at which it stays, if it came to one.
     pub fn fault(&self) -> Option<ReadingFault>
         ensures fault { result ≡ self.now.fault }
-        ensures stopped { IsStopped result self.now.sides }
+        ensures stopped { IsFaultOfFiles result self.now.sides }
     {
         self.fault
     }
@@ -157,7 +158,7 @@ impl<A: Allocator, S: ByteSource> SideBySide<A, S> {
 
 /// What is known of the octets of files.
 fn know_all<A: Allocator, S: ByteSource>(sides: &[Side<A, S>])
-    ensures known { AllByRecursion (λ s. IsKnown S.gave S.ended s.file) sides.now }
+    ensures known { AllByRecursion (λ s. HasKnownOctets S.gave S.ended s.file) sides.now }
     ensures by_flows { AllByRecursion (λ s. IsReadByFlows s.file) sides.now }
 {
     let Some((first, rest)) = sides.split_first() else {
@@ -203,7 +204,7 @@ impl<A: Allocator, S: ByteSource> DatagramSource for SideBySide<A, S> {
         ensures steering { self.new.steering ≡ self.old.steering }
         ensures begun { begun_each self.new.sides ≡ begun_each self.old.sides }
         ensures unfailed { OnOk result (AllUnfailed self.new.sides) }
-        ensures fault { IfErr result (λ e. FailsBy S.failures e self.old self.new) }
+        ensures fault { IfErr result (λ e. FailsByReading S.failures e self.old self.new) }
         ensures device { OnOk result (AllUnfailed self.old.sides
             → failures_each S.failures self.new.sides ≡ failures_each S.failures self.old.sides) }
     {

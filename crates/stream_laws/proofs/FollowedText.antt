@@ -20,7 +20,7 @@ use Rattle.follow_engine.specs.Followed.{FollowsWhole, followed_events}
 use Rattle.follow_engine.specs.Order.{datagrams_in}
 use Rattle.follow_engine.specs.Plain.{NoneAnew}
 use Rattle.follow_engine.specs.Running.{steering_of}
-use Rattle.follow_engine.specs.Shown.{TakesAll}
+use Rattle.follow_engine.specs.Shown.{TakesEachFrame}
 use Rattle.follow_engine.specs.Sides.{SideRead}
 use Rattle.follow_engine.specs.declared.opening.FollowAsked.{FollowAsked}
 use Rattle.follow_engine.specs.declared.telling.FollowTotals.{FollowTotals}
@@ -186,7 +186,7 @@ module _ {S K A : Type 0} (told : S → List ℕ → Type 0) (took : K → List 
 -- ---- into the command's file
 
 -- frames that are listed are those that were shown
-all_listed : (hs old new : List Handed) → TakesAll IsListed old hs new → new ≡ old ++ hs
+all_listed : (hs old new : List Handed) → TakesEachFrame IsListed old hs new → new ≡ old ++ hs
 all_listed [] old new is = is ∙ sym (append-nil old)
 all_listed (h ∷ hs) old new is =
     all_listed hs is.0 new is.2 ∙ ap (λ (l : List Handed). l ++ hs) is.1

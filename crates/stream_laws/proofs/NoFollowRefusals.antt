@@ -10,6 +10,7 @@ use Rattle.path_receiver.specs.declared.fault.OpenFault.TheVariants as open_faul
 use Rattle.recording_engines.specs.Imported.{AreOver}
 use Rattle.recording_engines.specs.Joining.{Strand}
 use Rattle.recording_reader.specs.Files.{text_of_file}
+use Rattle.run_outcome.specs.TextRefusals.{IsDescriptionRefusal}
 use Rattle.run_outcome.specs.declared.refusal.Refusal.{Refusal}
 use Rattle.run_outcome.specs.declared.refusal.Refusal.TheVariants as why
 use Rattle.capture_engines.specs.Files.{first_way, other_ways}
@@ -22,7 +23,7 @@ use Rattle.following.specs.Following.{Handed}
 use Rattle.follow_engine.specs.Followed.{FollowsWhole}
 use Rattle.follow_engine.specs.Order.{AreTakenBy, strands_by}
 use Rattle.follow_engine.specs.Refused.{FirstRefuses, IsFileRefusal, IsFirstRefusal}
-use Rattle.follow_engine.specs.Refused.{IsFollowRefusal, IsOpeningRefusal, IsWordRefusal}
+use Rattle.follow_engine.specs.Refused.{IsFollowRefusal, IsWordRefusal}
 use Rattle.follow_engine.specs.Running.{steering_of}
 use Rattle.follow_engine.specs.declared.opening.FollowAsked.{FollowAsked}
 use Rattle.follow_engine.specs.declared.telling.FollowTotals.{FollowTotals}
@@ -102,7 +103,7 @@ module _ {F : Type 0} (told : F → List ℕ → Type 0) where
 -- ---- the text
 
 text_not : (o : Opening) (text : List ℕ) (r : Refusal) → AnnouncesStream text o
-    → IsOpeningRefusal text r → ⊥
+    → IsDescriptionRefusal text r → ⊥
 text_not o text (why.Sdp at) says wrong =
     no_text_fault text says.description at.fault says.described wrong
 text_not o text r says wrong = absurd wrong
@@ -132,7 +133,7 @@ module _ {F K : Type 0} (told : F → List ℕ → Type 0) (w : FollowAsked)
 
     given_not : (sdp : Option (List ℕ)) (files : List F) (octets : List (List ℕ)) (r : Refusal)
         → Run sdp files → AllZip told files octets
-        → MatchOption sdp ⊥ (λ text. IsOpeningRefusal text r) → ⊥
+        → MatchOption sdp ⊥ (λ text. IsDescriptionRefusal text r) → ⊥
     given_not None files octets r run read wrong = wrong
     given_not (Some text) files octets r run read wrong =
         text_not run.opening text r (run.announced octets text read refl) wrong

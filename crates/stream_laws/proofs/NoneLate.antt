@@ -3,7 +3,7 @@ use Rattle.std.proofs.Common.{◌≡◌, ◌∙◌, ◌&&◌, ℕ, Bool, true, f
 use Rattle.std.proofs.Common.{None, Some, Result, Ok, Err, ap, arith, refl, subst, sym}
 use Rattle.std.proofs.lemmas.Bool.{false≢true}
 use Rattle.follow_engine.specs.Events.{Running, anew, anew_with, behind, behind_all, is_anew}
-use Rattle.follow_engine.specs.Events.{running_from, time_of, turn_taken}
+use Rattle.follow_engine.specs.Events.{datagram_time, running_from, turn_taken}
 use Rattle.follow_engine.specs.Followed.{followed_run}
 use Rattle.follow_engine.specs.Order.{datagrams_in}
 use Rattle.follow_engine.specs.Plain.{NoneAnew}
@@ -90,7 +90,7 @@ first_kept eager r octets ds is =
 first_plain : (eager : Bool) (r : Running) (octets : List ℕ) (ds : List (List ℕ))
     → IsClear (behind_all eager (behind eager r octets) ds).tally → is_anew r octets ≡ false
 first_plain eager r octets ds is =
-    not_anew r.follower.most_ahead r.since (time_of octets) (answer_in r.follower octets)
+    not_anew r.follower.most_ahead r.since (datagram_time octets) (answer_in r.follower octets)
     (first_kept eager r octets ds is)
 
 none_anew : (eager : Bool) (r : Running) (ds : List (List ℕ))
@@ -126,7 +126,7 @@ pub none_counted : (r : Running) (xs : List Timed) → IsClear r.tally
 none_counted r [] is none = is
 none_counted r (x ∷ xs) is none =
     let plain : is_anew r x.octets ≡ false =
-    not_anew r.follower.most_ahead r.since (time_of x.octets) (answer_in r.follower x.octets)
+    not_anew r.follower.most_ahead r.since (datagram_time x.octets) (answer_in r.follower x.octets)
     none.0 in
     none_counted (behind false r x.octets) xs
     (subst IsClear (sym (tally_behind false r x.octets))

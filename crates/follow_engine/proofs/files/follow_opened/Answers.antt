@@ -1,6 +1,6 @@
 use Rattle.std.proofs.Common.{◌∙◌, ◌∷◌, [], List, ap, subst, sym}
 use Rattle.std.specs.List.{AllByRecursion}
-use Rattle.recording_engines.specs.Files.{IsKnown, IsReadByFlows}
+use Rattle.recording_engines.specs.Files.{HasKnownOctets, IsReadByFlows}
 use Rattle.path_receiver.specs.Took.{datagrams_since}
 use Rattle.run_outcome.proofs.Printed.{on_err, on_ok}
 use Rattle.run_outcome.proofs.Refusals.{if_err_map, of_refusal_map}
@@ -8,7 +8,7 @@ use Rattle.run_outcome.specs.Fault.{Accounts, counts}
 use Rattle.side_by_side.specs.Sides.{Sides, begun_each, failures_each}
 use Rattle.side_by_side.specs.declared.side.Side.{Side}
 use Rattle.follow_engine.specs.Events.{Event, events_in}
-use Rattle.follow_engine.specs.Running.{TellsSome, Told, running_of}
+use Rattle.follow_engine.specs.Running.{TellsEvents, TellsSome, running_of}
 use Rattle.follow_engine.specs.Sides.{FollowsEntries, FollowsSides, FollowsUpTo}
 use Rattle.follow_engine.proofs.Counted.{stops_read}
 use Rattle.follow_engine.proofs.Cut.{refused_map}
@@ -39,7 +39,7 @@ returns-clause-len g c =
 pub returns-clause-known : goal.returns-clause-known
 returns-clause-known g c =
     subst (λ (ss : List (Side _ _)).
-    AllByRecursion (λ s. IsKnown g.S.ByteSource.gave g.S.ByteSource.ended s.file) ss)
+    AllByRecursion (λ s. HasKnownOctets g.S.ByteSource.gave g.S.ByteSource.ended s.file) ss)
     (sym c.into_sides.ensures.sides) c.history.ensures.known
 
 pub returns-clause-by_flows : goal.returns-clause-by_flows
@@ -105,7 +105,8 @@ returns-clause-before g c =
     let from = c.new-source.result in
     let to = c.follow_sides-followed.new.source in
     let Tells : List Event → Type 0 =
-    Told takes c.args.pictures.now c.follow_sides-followed.new.pictures (took c.args.output.now)
+    TellsEvents takes c.args.pictures.now c.follow_sides-followed.new.pictures
+    (took c.args.output.now)
     (took c.follow_sides-followed.new.output) in
     if_err_map c.follow_sides-followed.result
     (λ f. refused_map (Tells (events_in was.is_eager (running_of was)

@@ -4,7 +4,7 @@ use Rattle.run_outcome.proofs.Printed.{are_counts, on_err, on_ok}
 use Rattle.following.specs.Following.{Handed}
 use Rattle.follow_engine.specs.Events.{Left}
 use Rattle.follow_engine.specs.Line.{ended_line}
-use Rattle.follow_engine.specs.Running.{TellsSome, Told}
+use Rattle.follow_engine.specs.Running.{TellsEvents, TellsSome}
 use Rattle.follow_engine.specs.declared.line.FollowLine.TheVariants as line
 use Rattle.follow_engine.proofs.Blamed.{accounts_output, blames_pictures}
 use Rattle.follow_engine.proofs.Cut.{left_cut, left_failed, no_memory}
@@ -22,7 +22,7 @@ returns-clause-told g c =
     let old = took c.args.output.now in
     let new = took c.print.new.output in
     on_ok c.print.result (new ≡ old ++ ended_line (line.Left c.args.timestamp counts c.args.late))
-    (Told takes c.args.pictures.now c.show.new.self old new (Left h c.args.late ∷ []))
+    (TellsEvents takes c.args.pictures.now c.show.new.self old new (Left h c.args.late ∷ []))
     (told_left takes c.args.pictures.now c.show.new.self old new h counts c.args.late
     (are_counts counts c.args.frame.now is.present is.missing is.contested)
     c.in_ok-show.ensures.taken) c.print.ensures.printed

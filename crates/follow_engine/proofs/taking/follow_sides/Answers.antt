@@ -6,7 +6,7 @@ use Rattle.st_format.specs.declared.device.Turn.{Turn}
 use Rattle.side_by_side.specs.Sides.{AllOver, IsDatagramOrEnd, failures_each}
 use Rattle.path_receiver.specs.Took.{datagrams_since}
 use Rattle.follow_engine.specs.Events.{events_at, events_in}
-use Rattle.follow_engine.specs.Running.{TakesTurn, TellsSome, running_of}
+use Rattle.follow_engine.specs.Running.{FollowsDatagram, TellsSome, running_of}
 use Rattle.follow_engine.proofs.Blamed.{blames_end, fails_by}
 use Rattle.follow_engine.proofs.Cut.{if_refused, so_stops, so_told, tells_all, unrefused_if}
 use Rattle.follow_engine.proofs.Stopped.{stops_at}
@@ -56,7 +56,7 @@ loop-preserved-in-Ok-Datagram g c =
           (running_of c.take.new.self) c.args.pictures.now c.loop.pictures c.take.new.pictures
           (took c.args.output.now) (took c.loop.output) (took c.take.new.output) w.field-0-0
           (take w.count c.next.new.buf) i.so arrives
-          (subst (λ (b : Bool). TakesTurn takes b (running_of c.loop.run)
+          (subst (λ (b : Bool). FollowsDatagram takes b (running_of c.loop.run)
           (running_of c.take.new.self) (take w.count c.next.new.buf) c.loop.pictures
           c.take.new.pictures (took c.loop.output) (took c.take.new.output)) i.eager taken.took);
       count =

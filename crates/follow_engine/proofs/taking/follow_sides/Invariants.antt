@@ -1,7 +1,7 @@
 use Rattle.std.proofs.Common.{◌≡◌, length}
 use Rattle.side_by_side.specs.Sides.{AllUnfailed, begun_each, failures_each}
 use Rattle.path_receiver.specs.Took.{datagrams_since}
-use Rattle.follow_engine.specs.Running.{IsRun, running_of}
+use Rattle.follow_engine.specs.Running.{IsSoundRun, running_of}
 use Rattle.follow_engine.proofs.Turns.{FollowedSo}
 use Rattle.follow_engine.proofs.taking.follow_sides.Given as goal
 
@@ -9,7 +9,7 @@ use Rattle.follow_engine.proofs.taking.follow_sides.Given as goal
 abbrev pub invariant-loop : goal.invariant-loop
 invariant-loop g l = record {
   room : length l.buf ≡ length l.initial.buf;
-  run : IsRun l.run;
+  run : IsSoundRun l.run;
   eager : l.run.is_eager ≡ l.initial.run.is_eager;
   steering : l.source.steering ≡ l.initial.source.steering;
   begun : begun_each l.source.sides ≡ begun_each l.initial.source.sides;

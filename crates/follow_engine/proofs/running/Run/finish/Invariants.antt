@@ -1,12 +1,12 @@
 use Rattle.std.proofs.Common.{◌≡◌, [], length}
 use Rattle.path_receiver.specs.Sliding.{with_window}
-use Rattle.follow_engine.specs.Running.{IsRun, running_of}
+use Rattle.follow_engine.specs.Running.{IsSoundRun, running_of}
 use Rattle.follow_engine.proofs.Leaving.{HasLeft}
 use Rattle.follow_engine.proofs.running.Run.finish.Given as goal
 
 abbrev pub invariant-loop-self : goal.invariant-loop-self
 invariant-loop-self g l = record {
-  run : IsRun l.self;
+  run : IsSoundRun l.self;
   eager : l.self.is_eager ≡ l.initial.self.is_eager;
   opening : with_window l.self.follower.opening []
       ≡ with_window l.initial.self.follower.opening [];

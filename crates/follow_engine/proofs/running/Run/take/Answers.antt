@@ -2,8 +2,9 @@ use Rattle.std.proofs.Common.{◌++◌, ◌∷◌, []}
 use Rattle.std.proofs.lemmas.Result.{err_from_is_err_and}
 use Rattle.run_outcome.proofs.Printed.{on_err, on_ok}
 use Rattle.following.specs.Following.{frames_in}
-use Rattle.follow_engine.specs.Events.{Anew, events_at, is_anew, leaving, time_of}
-use Rattle.follow_engine.specs.Running.{BeginsAnew, IsRun, TakesTurn, TellsSome, running_of}
+use Rattle.follow_engine.specs.Events.{Anew, datagram_time, events_at, is_anew, leaving}
+use Rattle.follow_engine.specs.Running.{BeginsAnew, FollowsDatagram, IsSoundRun, TellsSome}
+use Rattle.follow_engine.specs.Running.{running_of}
 use Rattle.follow_engine.proofs.Blamed.{accounts_both}
 use Rattle.follow_engine.proofs.Cut.{anew_stops, turn_stops}
 use Rattle.follow_engine.proofs.Turns.{not_anew, some_anew, turn_anew, turn_plain}
@@ -15,7 +16,7 @@ returns-in-Some-clause-run g c =
     on_ok c.begin_anew.result
     (BeginsAnew g.P.PictureSink.takes c.in-Some.timestamp c.turn.new.self c.begin_anew.new.self
     c.turn.new.pictures c.begin_anew.new.pictures (took c.turn.new.output)
-    (took c.begin_anew.new.output)) (IsRun c.begin_anew.new.self) (λ is. is.run)
+    (took c.begin_anew.new.output)) (IsSoundRun c.begin_anew.new.self) (λ is. is.run)
     c.begin_anew.ensures.begun
 
 pub returns-in-Some-clause-took : goal.returns-in-Some-clause-took
@@ -26,12 +27,13 @@ returns-in-Some-clause-took g c =
     let mid = c.turn.new.self in
     let now = c.begin_anew.new.self in
     let octets = c.args.octets.now in
-    let said = some_anew (is_anew (running_of was) octets) (time_of octets) c.in-Some.timestamp
+    let said =
+    some_anew (is_anew (running_of was) octets) (datagram_time octets) c.in-Some.timestamp
     (rw c.in-Some.is at c.in_ok-anew.ensures.anew) in
     on_ok c.begin_anew.result
     (BeginsAnew takes c.in-Some.timestamp mid now c.turn.new.pictures c.begin_anew.new.pictures
     (took c.turn.new.output) (took c.begin_anew.new.output))
-    (TakesTurn takes was.is_eager (running_of was) (running_of now) octets c.args.pictures.now
+    (FollowsDatagram takes was.is_eager (running_of was) (running_of now) octets c.args.pictures.now
     c.begin_anew.new.pictures (took c.args.output.now) (took c.begin_anew.new.output))
     (λ is. turn_anew takes was.is_eager (running_of was) (running_of mid) (running_of now) octets
     c.in-Some.timestamp c.args.pictures.now c.turn.new.pictures c.begin_anew.new.pictures
@@ -66,7 +68,8 @@ returns-in-Some-clause-part g c =
     let was = c.args.self.now in
     let mid = c.turn.new.self in
     let octets = c.args.octets.now in
-    let said = some_anew (is_anew (running_of was) octets) (time_of octets) c.in-Some.timestamp
+    let said =
+    some_anew (is_anew (running_of was) octets) (datagram_time octets) c.in-Some.timestamp
     (rw c.in-Some.is at c.in_ok-anew.ensures.anew) in
     on_err c.begin_anew.result
     (TellsSome takes fails c.turn.new.pictures c.begin_anew.new.pictures

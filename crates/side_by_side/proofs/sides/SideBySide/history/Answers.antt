@@ -1,6 +1,6 @@
 use Rattle.std.proofs.Common.{◌∙◌, List, ap, subst}
 use Rattle.std.specs.List.{AllByRecursion}
-use Rattle.recording_engines.specs.Files.{IsKnown, IsReadByFlows}
+use Rattle.recording_engines.specs.Files.{HasKnownOctets, IsReadByFlows}
 use Rattle.side_by_side.specs.declared.side.Side.{Side}
 use Rattle.side_by_side.specs.Sides.{AllOver, HasGivenAll, Sides}
 use Rattle.side_by_side.proofs.Sound.{seen}
@@ -10,7 +10,7 @@ use Rattle.side_by_side.proofs.sides.SideBySide.history.Goals as goal
 pub returns-clause-known : goal.returns-clause-known
 returns-clause-known g c =
     subst (λ (ss : List (Side _ _)).
-    AllByRecursion (λ s. IsKnown g.S.ByteSource.gave g.S.ByteSource.ended s.file) ss)
+    AllByRecursion (λ s. HasKnownOctets g.S.ByteSource.gave g.S.ByteSource.ended s.file) ss)
     (c.deref.ensures.value ∙ ap (λ (s : Sides _ _). s.sides) c.self.view_is)
     c.know_all.ensures.known
 

@@ -1,6 +1,6 @@
 use Rattle.std.proofs.Common.{ap, sym}
 use Rattle.follow_engine.specs.Events.{header_time}
-use Rattle.follow_engine.proofs.running.time_of.Goals as goal
+use Rattle.follow_engine.proofs.running.datagram_time.Goals as goal
 
 pub returns-in-Ok : goal.returns-in-Ok
 returns-in-Ok c = sym (ap header_time c.in-Ok.ensures.exact)
