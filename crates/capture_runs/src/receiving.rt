@@ -12,11 +12,12 @@ ghost use Rattle.capture_runs.specs.Refused.{IsOpeningRefusal};
 ghost use Rattle.capture_runs.specs.Replayed.{ReplayedRead, replayed_ended, replayed_failures};
 ghost use Rattle.capture_runs.specs.Replayed.{replayed_gave};
 ghost use Rattle.capture_runs.specs.Window.{IsWindow, window_text};
+ghost use Rattle.command_end.specs.Untouched.{AreUntouched};
 ghost use Rattle.devices.specs.Passed.{HasNoPart, IsInPlace, IsUnplaced, LeavesNoPart};
 ghost use Rattle.devices.specs.Passed.{file_took, output_failures, output_took, sink_failures};
 ghost use Rattle.devices.specs.Passed.{sink_took, writing_failures};
 ghost use Rattle.recording_engines.specs.Ways.{AreWaysBy};
-ghost use Rattle.run_outcome.specs.Fault.{Accounts, Blames, counts};
+ghost use Rattle.run_outcome.specs.Fault.{Accounts, Blames, IfRefused, counts};
 ghost use Rattle.run_outcome.specs.Refusing.{OfRefusal};
 ghost use Rattle.run_outcome.specs.declared.fault.Fault.{Fault as Cause};
 ghost use Rattle.run_outcome.specs.declared.fault.Fault.TheVariants.{Refused};
@@ -138,6 +139,10 @@ fn take(
         (IsReceivingRefusal (window_text files.old.found wanted.entry.window.now)
         wanted.entry.ssrc.now (said_text files.old.said) files.old.ways.items ReplayedRead
         (zip files.old.recordings.items files.new.recordings.items))) }
+    // Refused, it prints and writes nothing, but what came before a fault, where that is saved.
+    ensures kept { IfErr result (λ f. IfRefused f (IsFalse is_sound → state.new ≡ state.old)) }
+    ensures quiet { IfErr result (λ f. IfRefused f (IsFalse is_sound
+        → output.new ≡ output.old)) }
     ensures owed { Accounts result
         (counts (sum_by replayed_failures files.old.recordings.items)
         (sum_by replayed_failures files.new.recordings.items)
@@ -222,11 +227,13 @@ impl<'a> Command for ReceiveCommand<'a> {
         (said_text old.files.said) old.files.ways.items ReplayedRead
         (zip old.files.recordings.items new.files.recordings.items)) };
 
-    // A refusal before datagrams were taken, or one of the words or of what was read.
-    ghost is_refused = { λ old new r. (old.opened ≡ Err (Refused r))
+    // A refusal before datagrams were taken, or one of the words or of what was read. Then nothing
+    // is printed or written, but what came before a fault, where that is saved.
+    ghost is_refused = { λ old new r. ((old.opened ≡ Err (Refused r))
         ⊎ IsReceivingRefusal (window_text old.files.found old.asked.wanted.window.now)
         old.asked.wanted.ssrc.now (said_text old.files.said) old.files.ways.items ReplayedRead
-        (zip old.files.recordings.items new.files.recordings.items) r };
+        (zip old.files.recordings.items new.files.recordings.items) r)
+        × (IsFalse old.is_sound → AreUntouched old.state new.state old.output new.output) };
 
     ghost is_placed = { λ c. IsInPlace c.state × IsFalse c.is_input };
 

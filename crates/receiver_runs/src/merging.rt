@@ -10,7 +10,7 @@ ghost use Rattle.run_outcome.specs.Fault.{Accounts, IfRefused, counts};
 ghost use Rattle.run_outcome.specs.Moments.{WasRead};
 ghost use Rattle.run_outcome.specs.Refusing.{OfRefusal};
 ghost use Rattle.receiver_runs.specs.Asked.{IsMergeOf};
-ghost use Rattle.receiver_runs.specs.Untouched.{AreUntouched};
+ghost use Rattle.command_end.specs.Untouched.{AreUntouched};
 
 use command_end::{Command, Devices, Hints, Ran};
 use command_line::MergeWords;

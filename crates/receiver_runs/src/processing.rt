@@ -14,7 +14,7 @@ ghost use Rattle.run_outcome.specs.declared.refusal.Refusal.TheVariants.{OutputI
 ghost use Rattle.run_outcome.specs.declared.refusal.Writer.TheVariants.{Process};
 ghost use Rattle.run_outcome.specs.TextRefusals.{SaysText};
 ghost use Rattle.receiver_runs.specs.Asked.{IsProcessOf, IsProcessingOf};
-ghost use Rattle.receiver_runs.specs.Untouched.{AreUntouched};
+ghost use Rattle.command_end.specs.Untouched.{AreUntouched};
 
 use command_end::{Command, Devices, Hints, Ran, find_output};
 use command_line::ProcessWords;

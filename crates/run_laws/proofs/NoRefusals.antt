@@ -32,9 +32,9 @@ use Rattle.run_outcome.specs.declared.refusal.Refusal.TheVariants as why
 use Rattle.capture_engines.specs.Looped.{IsLoopRefusal}
 use Rattle.capture_engines.specs.Looping.{Link, Loops}
 use Rattle.receiver_engines.specs.MergeAllRefused.{IsMergeAllRefusal, StopsMerge, StopsMergeBehind}
-use Rattle.receiver_engines.specs.MergeRefused.{AreUnlike}
+use Rattle.receiver_engines.specs.MergeRefused.{AreUnlike, IsMergeRefusal}
 use Rattle.receiver_engines.specs.MergedAll.{AreAlike, MergesAll}
-use Rattle.receiver_engines.specs.Merging.{GivesReceiver, SaysReceiver}
+use Rattle.receiver_engines.specs.Merging.{GivesReceiver, MergesFiles, SaysReceiver}
 use Rattle.receiver_engines.specs.Reading.{SayReceivers}
 use Rattle.receiver_engines.specs.Reporting.{Reports}
 use Rattle.receiver_engines.specs.States.{IsStateRefusal}
@@ -172,6 +172,35 @@ module _ {S : Type 0} (gave : S → List ℕ) (ended : S → Type 0) (first : S 
     merge_not (why.State f) (inr behind) = of_file f behind
     merge_not why.MergeUnlike wrong = unlike wrong
     merge_not refusal wrong = absurd wrong
+
+-- so of two
+module _ {L R : Type 0} (gave : L → List ℕ) (ended : L → Type 0) (gave' : R → List ℕ)
+    (ended' : R → Type 0) (left left_later : L) (right right_later : R) (old new : List ℕ)
+  where
+    pub two_not : (refusal : Refusal)
+        → MergesFiles (WasRead gave ended (left, left_later))
+        (WasRead gave' ended' (right, right_later)) old new
+        → AreOctets (read_of gave (left, left_later))
+        → AreOctets (read_of gave' (right, right_later))
+        → IsMergeRefusal (WasRead gave ended (left, left_later))
+        (WasRead gave' ended' (right, right_later)) refusal → ⊥
+    two_not (why.State f) merges bytes bytes' (inl wrong) =
+        not_state (WasRead gave ended (left, left_later)) (read_of gave (left, left_later))
+        merges.first (why.State f) (was_read gave ended (left, left_later)) bytes merges.first_is
+        wrong
+    two_not (why.State f) merges bytes bytes' (inr wrong) =
+        not_state (WasRead gave' ended' (right, right_later))
+        (read_of gave' (right, right_later)) merges.second (why.State f)
+        (was_read gave' ended' (right, right_later)) bytes' merges.second_is wrong.2
+    two_not why.MergeUnlike merges bytes bytes' wrong =
+        wrong.unlike merges.first merges.second
+        (gives (WasRead gave ended (left, left_later)) (read_of gave (left, left_later))
+        merges.first (was_read gave ended (left, left_later)) merges.first_is)
+        (gives (WasRead gave' ended' (right, right_later))
+        (read_of gave' (right, right_later)) merges.second
+        (was_read gave' ended' (right, right_later)) merges.second_is)
+        merges.taken.alike
+    two_not refusal merges bytes bytes' wrong = absurd wrong
 
 -- ---- a picture that goes through a link
 

@@ -18,6 +18,7 @@ use Rattle.capture_engines.specs.Sending.{SayPictures, SendsAll, TakesPictures, 
 use Rattle.capture_engines.specs.Sent.{IsFirstPictureRefusal, IsLaterPictureRefusal}
 use Rattle.capture_engines.specs.Sent.{IsPicturesRefusal, IsRestRefusal, IsSaidRefusal}
 use Rattle.capture_engines.specs.Sent.{IsSendRefusal}
+use Rattle.capture_engines.specs.Typed.{SendsTyped}
 use Rattle.capture_engines.specs.declared.sender.Sending.{Sending}
 use Rattle.run_laws.specs.Received.{read_of}
 use Rattle.run_laws.proofs.NoProcessRefusals.{text_not}
@@ -173,3 +174,22 @@ send_not gave ended wanted sdp sdp_later us vs old new printed printed_new r sen
     (inr wrong) =
     pictures_not gave ended wanted sent.text us vs old new sent.count bytes
     sent.pictures.pictures r sent.pictures.say sent.pictures.taken wrong.2
+
+-- so with the payload type of the text
+pub typed_not : {S : Type 0} (gave : S → List ℕ) (ended : S → Type 0) (wanted : Sending)
+    (sdp sdp_later : Option S) (us vs : List S) (old new printed printed_new : List ℕ)
+    (r : Refusal)
+    → SendsTyped gave ended wanted sdp sdp_later us vs old new printed printed_new
+    → ((s : S × S) → IsMember s (zip us vs) → AreOctets (read_of gave s))
+    → IsSendRefusal wanted.max_octets (length us) sdp sdp_later (WasRead gave ended) (zip us vs) r
+    → ⊥
+typed_not gave ended wanted sdp sdp_later us vs old new printed printed_new r sent bytes
+    (inl wrong) =
+    said_not gave ended sent.typed sent.text us vs old new sent.count bytes sdp sdp_later
+    sent.pictures.pictures r sent.pictures.say sent.pictures.taken sent.says wrong
+typed_not gave ended wanted sdp sdp_later us vs old new printed printed_new r sent bytes
+    (inr wrong) =
+    pictures_not gave ended sent.typed sent.text us vs old new sent.count bytes
+    sent.pictures.pictures r sent.pictures.say sent.pictures.taken
+    (subst (λ (most : ℕ). IsPicturesRefusal most (WasRead gave ended) (zip us vs) r)
+    (ap (λ (w : Sending). w.max_octets) (sym sent.typed_is.typed_is)) wrong.2)

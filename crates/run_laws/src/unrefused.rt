@@ -23,9 +23,12 @@ ghost use Rattle.capture_engines.specs.Receiving.{SavesShown};
 ghost use Rattle.capture_engines.specs.Sending.{SendsAll};
 ghost use Rattle.capture_engines.specs.Sent.{IsSendRefusal};
 ghost use Rattle.capture_engines.specs.Taking.{Receives, ReceivesFiles};
+ghost use Rattle.capture_engines.specs.Typed.{SendsTyped};
 ghost use Rattle.capture_engines.specs.declared.sender.Sending.{Sending};
 ghost use Rattle.receiver_engines.specs.MergeAllRefused.{IsMergeAllRefusal};
+ghost use Rattle.receiver_engines.specs.MergeRefused.{IsMergeRefusal};
 ghost use Rattle.receiver_engines.specs.MergedAll.{MergesAll};
+ghost use Rattle.receiver_engines.specs.Merging.{MergesFiles};
 ghost use Rattle.receiver_engines.specs.Processing.{SendsSaidFiles};
 ghost use Rattle.receiver_engines.specs.Refused.{IsSaidRunRefusal};
 ghost use Rattle.receiver_engines.specs.Reporting.{Reports};
@@ -72,6 +75,17 @@ pub fn merge_unrefused<S: ByteSource>()
         → ((s : S × S) → IsMember s (first ∷ others) → AreOctets (read_of S.gave s))
         → IsMergeAllRefusal (WasRead S.gave S.ended first) (WasRead S.gave S.ended) others r
         → ⊥ }
+{}
+
+/// The same of a run of `merge`, of two receivers (`merged` there).
+pub fn merge_two_unrefused<L: ByteSource, R: ByteSource>()
+    ensures { (left left_later : L) (right right_later : R) (old new : List ℕ) (r : Refusal)
+        → MergesFiles (IsRead (L.gave left) (L.gave left_later) (L.ended left_later))
+        (IsRead (R.gave right) (R.gave right_later) (R.ended right_later)) old new
+        → AreOctets (since (L.gave left) (L.gave left_later))
+        → AreOctets (since (R.gave right) (R.gave right_later))
+        → IsMergeRefusal (IsRead (L.gave left) (L.gave left_later) (L.ended left_later))
+        (IsRead (R.gave right) (R.gave right_later) (R.ended right_later)) r → ⊥ }
 {}
 
 /// The same of a run of `process_said` (`sent` there), where an SDP text may be given; with none
@@ -131,6 +145,16 @@ pub fn send_unrefused<S: ByteSource>()
     ensures { (wanted : Sending) (sdp sdp_later : Option S) (pictures later : List S)
         (old new shown printed : List ℕ) (r : Refusal)
         → SendsAll S.gave S.ended wanted sdp sdp_later pictures later old new shown printed
+        → ((s : S × S) → IsMember s (zip pictures later) → AreOctets (read_of S.gave s))
+        → IsSendRefusal wanted.max_octets (length pictures) sdp sdp_later
+        (WasRead S.gave S.ended) (zip pictures later) r → ⊥ }
+{}
+
+/// The same of a run of `send_typed` (`sent` there).
+pub fn send_typed_unrefused<S: ByteSource>()
+    ensures { (wanted : Sending) (sdp sdp_later : Option S) (pictures later : List S)
+        (old new shown printed : List ℕ) (r : Refusal)
+        → SendsTyped S.gave S.ended wanted sdp sdp_later pictures later old new shown printed
         → ((s : S × S) → IsMember s (zip pictures later) → AreOctets (read_of S.gave s))
         → IsSendRefusal wanted.max_octets (length pictures) sdp sdp_later
         (WasRead S.gave S.ended) (zip pictures later) r → ⊥ }
