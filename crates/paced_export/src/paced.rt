@@ -68,6 +68,7 @@ where
         (S.gave ahead.old) (S.gave ahead.new) (S.ended ahead.new)
         (S.gave capture.old) (S.gave capture.new) (S.ended capture.new)
         (K.took sink.old) (K.took sink.new) (O.took output.old) (O.took output.new)) }
+    // Of the words and what was read the refusal is the first.
     ensures refusal { IfErr result (λ f. OfRefusal f (IsPacedRefusal
         wanted.entry.flows.a.now (option_copied wanted.entry.flows.b)
         (IsRead (S.gave ahead.old) (S.gave ahead.new) (S.ended ahead.new))

@@ -2,15 +2,17 @@ use Rattle.std.proofs.Common.{take}
 use Rattle.std.proofs.lemmas.Result.{err_from_is_err_and}
 use Rattle.media_file.proofs.GaveCaptures.{capture_gave, capture_gave_cut, capture_gave_wrong}
 use Rattle.export_engine.proofs.ExportRefusals.{read_refused}
-use Rattle.paced_export.proofs.PacedRefusals.{of_capture_ahead, of_text_ahead}
+use Rattle.paced_export.proofs.PacedRefusals.{front_known, has_rate, of_capture_ahead}
+use Rattle.paced_export.proofs.PacedRefusals.{of_text_ahead, rate_known}
 use Rattle.paced_export.proofs.counting.read_frames.Goals as goal
 
 pub returns-in-Err-clause-refusal : goal.returns-in-Err-clause-refusal
 returns-in-Err-clause-refusal g c =
     rw c.of_capture.ensures
-    (of_capture_ahead _ _
+    (of_capture_ahead _ c.in-Err.fault
     (read_refused _ _ _ c.in-Err.fault
-    (capture_gave_cut 16777216 _ _ _ c.in-Err.fault c.in-Err.ensures.gave_wrong)))
+    (capture_gave_cut 16777216 _ _ _ c.in-Err.fault c.in-Err.ensures.gave_wrong))
+    (front_known _ _ _ c.in-Err.fault c.in-Err.ensures.gave_wrong))
 
 pub returns-in_err-active-clause-refusal : goal.returns-in_err-active-clause-refusal
 returns-in_err-active-clause-refusal g c =
@@ -37,8 +39,12 @@ returns-in-Ok-count_records-clause-read g c =
 pub returns-in-Err-count_records-clause-refusal : goal.returns-in-Err-count_records-clause-refusal
 returns-in-Err-count_records-clause-refusal g c =
     let f = c.in-Err-count_records.fault in
+    let text = take c.in-Ok.count c.read_front.new.text in
+    let wrong = c.in-Err-count_records.ensures.gave_wrong in
     rw c.of_capture-in-Err-count_records.ensures
-    (of_capture_ahead _ _
+    (of_capture_ahead _ f
     (read_refused _ _ _ f
-    (capture_gave_wrong 16777216 _ _ _ _ _ f c.in-Ok.ensures.gave
-    c.in-Err-count_records.ensures.gave_wrong)))
+    (capture_gave_wrong 16777216 _ _ _ _ _ f c.in-Ok.ensures.gave wrong))
+    (rate_known _ f
+    (has_rate _ _ _ text wrong.part _ _ c.in-Ok.ensures.gave wrong.grown
+    c.in_ok-active.ensures.said)))

@@ -7,7 +7,7 @@ use Rattle.run_outcome.proofs.Printed.{on_ok}
 use Rattle.paced_export.specs.PacedExported.{PrintsPaced}
 use Rattle.paced_export.specs.PacedExported.LeavesPaced.{Partly, Unsaid}
 use Rattle.paced_export.proofs.PacedRefusals.{ahead_refused, behind_refused, leaves_all, pace_of}
-use Rattle.paced_export.proofs.PacedRefusals.{paces_all, unsaid_left}
+use Rattle.paced_export.proofs.PacedRefusals.{paces_all, read_whole, unsaid_left}
 use Rattle.paced_export.proofs.paced.export_paced.Goals as goal
 
 pub returns-in_err-told-clause-refusal : goal.returns-in_err-told-clause-refusal
@@ -24,8 +24,9 @@ returns-in_err-counts-clause-refusal g c =
     c.from_residual-in_err-counts.ensures.1 in
     rw (p.1, p.2)
     (behind_refused c.args.wanted.flows.a.now (option_copied c.args.wanted.flows.b) _ _
-    c.in-Some.envelopes c.in-Some.ensures c.in_err-counts.field-0.0
-    c.in_err-counts.ensures.refusal)
+    c.in-Some.envelopes c.in-Some.ensures
+    (read_whole _ _ _ c.in_ok-told.told.active c.in_ok-told.told.counts
+    c.in_ok-told.ensures.read) c.in_err-counts.field-0.0 c.in_err-counts.ensures.refusal)
 
 pub returns-in_err-counts-clause-left : goal.returns-in_err-counts-clause-left
 returns-in_err-counts-clause-left g c =
