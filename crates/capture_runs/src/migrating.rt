@@ -1,7 +1,8 @@
 //! `migrate` over the devices of this machine.
-ghost use Rattle.std.specs.Prelude.{◌≡◌, ◌∷◌, ◌⊎◌, [], IfErr, IsFalse, IsTrue, OnOk};
+ghost use Rattle.std.specs.Prelude.{◌≡◌, ◌∷◌, ⊤, [], IfErr, IsFalse, OnOk};
 ghost use Rattle.capture_engines.specs.MigrateRefused.{IsMigrateRefusal};
 ghost use Rattle.capture_engines.specs.Migrating.{PrintsMigrated};
+ghost use Rattle.command_end.specs.InTurn.{IsInTurn};
 ghost use Rattle.devices.specs.Passed.{FileRead, file_ended, file_failures, file_gave, file_took};
 ghost use Rattle.devices.specs.Passed.{IsInPlace, IsUnplaced, output_failures, output_took};
 ghost use Rattle.devices.specs.Passed.{writing_failures};
@@ -9,7 +10,6 @@ ghost use Rattle.run_outcome.specs.Fault.{Accounts, IfRefused, counts};
 ghost use Rattle.run_outcome.specs.Refusing.{OfRefusal};
 ghost use Rattle.run_outcome.specs.Text.{GivesText};
 ghost use Rattle.run_outcome.specs.TextRefusals.{SaysCaptureText};
-ghost use Rattle.run_outcome.specs.declared.refusal.Refusal.TheVariants.{OutputIsInput};
 ghost use Rattle.run_outcome.specs.declared.refusal.Writer.TheVariants.{Migrate};
 
 use command_end::{Command, Devices, Hints, Ran, find_output};
@@ -73,9 +73,8 @@ fn migrate<'a>(
     ensures described { OnOk result (SaysCaptureText (FileRead sdp.old sdp.new)) }
     ensures unplaced { IsUnplaced out.new }
     ensures apart { OnOk result (IsFalse is_input) }
-    ensures refusal { IfErr result (λ f. OfRefusal f (λ r.
-        IsMigrateRefusal (FileRead sdp.old sdp.new) (FileRead capture.old capture.new) r
-        ⊎ (r ≡ OutputIsInput Migrate) × IsTrue is_input)) }
+    ensures refusal { IfErr result (λ f. OfRefusal f (IsInTurn Migrate is_input ⊤ (λ _. ⊥)
+        (IsMigrateRefusal (FileRead sdp.old sdp.new) (FileRead capture.old capture.new)))) }
     ensures quiet { IfErr result (λ f. IfRefused f
         (output_took output.new ≡ output_took output.old)) }
     ensures owed { Accounts result (counts (file_failures sdp.old) (file_failures sdp.new)
@@ -100,9 +99,8 @@ impl<'a> Command for MigrateCommand<'a> {
         (output_took new.output) × SaysCaptureText (FileRead old.sdp new.sdp) };
 
     // Then nothing is printed.
-    ghost is_refused = { λ old new r.
-        (IsMigrateRefusal (FileRead old.sdp new.sdp) (FileRead old.capture new.capture) r
-        ⊎ (r ≡ OutputIsInput Migrate) × IsTrue old.is_input)
+    ghost is_refused = { λ old new r. IsInTurn Migrate old.is_input ⊤ (λ _. ⊥)
+        (IsMigrateRefusal (FileRead old.sdp new.sdp) (FileRead old.capture new.capture)) r
         × (output_took new.output ≡ output_took old.output) };
 
     ghost is_placed = { λ c. IsInPlace c.out × IsFalse c.is_input };

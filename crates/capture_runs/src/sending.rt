@@ -1,16 +1,17 @@
 //! `send` over the devices of this machine.
-ghost use Rattle.std.specs.Prelude.{◌≡◌, ◌∷◌, ◌⊎◌, ◌≤◌, ◌<◌, [], All, IfErr, IfOk, IfSome, IsFalse};
-ghost use Rattle.std.specs.Prelude.{IsTrue, OnOk, ◌&&◌, is_some, length, sum_by};
+ghost use Rattle.std.specs.Prelude.{◌≡◌, ◌∷◌, ◌≤◌, ◌<◌, [], All, IfErr, IfOk, IfSome, IsFalse};
+ghost use Rattle.std.specs.Prelude.{OnOk, ◌&&◌, is_some, length, sum_by};
 ghost use Rattle.std.specs.List.{zip};
 ghost use Rattle.capture_engines.specs.Typed.{SendsBy};
 ghost use Rattle.capture_engines.specs.Sent.{IsSendRefusal};
+ghost use Rattle.command_end.specs.InTurn.{IsInTurn};
 ghost use Rattle.devices.specs.Passed.{file_ended, file_failures, file_gave, file_took};
 ghost use Rattle.devices.specs.Passed.{IsInPlace, IsUnplaced, output_failures, output_took};
 ghost use Rattle.devices.specs.Passed.{writing_failures};
 ghost use Rattle.run_outcome.specs.Fault.{Accounts, IfRefused, counts, failures_in};
 ghost use Rattle.run_outcome.specs.Moments.{WasRead};
 ghost use Rattle.run_outcome.specs.Refusing.{OfRefusal};
-ghost use Rattle.run_outcome.specs.declared.refusal.Refusal.TheVariants.{OutputIsInput};
+ghost use Rattle.run_outcome.specs.declared.refusal.Refusal.TheVariants.{SendPictures};
 ghost use Rattle.run_outcome.specs.declared.refusal.Writer.TheVariants.{Send};
 
 use capture_engines::{Sending, check_pictures, send_typed};
@@ -125,9 +126,10 @@ fn send<'a>(
         (output_took output.old) (output_took output.new)) }
     ensures unplaced { IsUnplaced out.new }
     ensures apart { OnOk result (IsFalse is_input) }
-    ensures refusal { IfErr result (λ f. OfRefusal f (λ r. IsSendRefusal wanted.max_octets
+    ensures refusal { IfErr result (λ f. OfRefusal f (IsInTurn Send is_input
+        (length pictures.old ≤ 10000) (λ r. r ≡ SendPictures) (IsSendRefusal wanted.max_octets
         (length pictures.old) sdp.old sdp.new (WasRead file_gave file_ended)
-        (zip pictures.old pictures.new) r ⊎ (r ≡ OutputIsInput Send) × IsTrue is_input)) }
+        (zip pictures.old pictures.new)))) }
     ensures quiet { IfErr result (λ f. IfRefused f
         (output_took output.new ≡ output_took output.old)) }
     ensures owed { Accounts result
@@ -158,10 +160,10 @@ impl<'a> Command for SendCommand<'a> {
         (output_took new.output) };
 
     // Then nothing is printed.
-    ghost is_refused = { λ old new r. (IsSendRefusal old.wanted.max_octets
-        (length old.pictures.items) old.sdp new.sdp (WasRead file_gave file_ended)
-        (zip old.pictures.items new.pictures.items) r
-        ⊎ (r ≡ OutputIsInput Send) × IsTrue old.is_input)
+    ghost is_refused = { λ old new r. IsInTurn Send old.is_input
+        (length old.pictures.items ≤ 10000) (λ x. x ≡ SendPictures)
+        (IsSendRefusal old.wanted.max_octets (length old.pictures.items) old.sdp new.sdp
+        (WasRead file_gave file_ended) (zip old.pictures.items new.pictures.items)) r
         × (output_took new.output ≡ output_took old.output) };
 
     ghost is_placed = { λ c. IsInPlace c.out × IsFalse c.is_input };

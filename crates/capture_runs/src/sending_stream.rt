@@ -1,13 +1,13 @@
 //! `send` of a stream over the devices of this machine.
-ghost use Rattle.std.specs.Prelude.{◌≡◌, ◌∷◌, ◌⊎◌, ◌≤◌, [], IfErr, IfSome, IsFalse, IsTrue, OnOk};
+ghost use Rattle.std.specs.Prelude.{◌≡◌, ◌∷◌, ◌≤◌, ⊤, [], IfErr, IfSome, IsFalse, OnOk};
 ghost use Rattle.std.specs.Prelude.{◌&&◌, is_some};
+ghost use Rattle.command_end.specs.InTurn.{IsInTurn};
 ghost use Rattle.devices.specs.Passed.{FileRead, IsInPlace, IsUnplaced, file_ended, file_failures};
 ghost use Rattle.devices.specs.Passed.{file_gave, file_took, output_failures, output_took};
 ghost use Rattle.devices.specs.Passed.{writing_failures};
 ghost use Rattle.run_outcome.specs.Fault.{Accounts, IfRefused, counts, failures_in};
 ghost use Rattle.run_outcome.specs.Moments.{WasRead};
 ghost use Rattle.run_outcome.specs.Refusing.{OfRefusal};
-ghost use Rattle.run_outcome.specs.declared.refusal.Refusal.TheVariants.{OutputIsInput};
 ghost use Rattle.run_outcome.specs.declared.refusal.Writer.TheVariants.{Send};
 ghost use Rattle.stream_sending.specs.Sent.{IsStreamRefusal, SendsStream};
 
@@ -85,9 +85,9 @@ fn send<'a>(
     ensures ended { OnOk result (file_ended stream.new) }
     ensures unplaced { IsUnplaced out.new }
     ensures apart { OnOk result (IsFalse is_input) }
-    ensures refusal { IfErr result (λ f. OfRefusal f (λ r. IsStreamRefusal wanted.max_octets
-        sdp.old sdp.new (WasRead file_gave file_ended) (FileRead stream.old stream.new) r
-        ⊎ (r ≡ OutputIsInput Send) × IsTrue is_input)) }
+    ensures refusal { IfErr result (λ f. OfRefusal f (IsInTurn Send is_input ⊤ (λ _. ⊥)
+        (IsStreamRefusal wanted.max_octets sdp.old sdp.new (WasRead file_gave file_ended)
+        (FileRead stream.old stream.new)))) }
     ensures quiet { IfErr result (λ f. IfRefused f
         (output_took output.new ≡ output_took output.old)) }
     ensures owed { Accounts result
@@ -122,9 +122,9 @@ impl<'a> Command for SendStreamCommand<'a> {
         × file_ended new.stream };
 
     // Then nothing is printed.
-    ghost is_refused = { λ old new r. (IsStreamRefusal old.wanted.max_octets old.sdp new.sdp
-        (WasRead file_gave file_ended) (FileRead old.stream new.stream) r
-        ⊎ (r ≡ OutputIsInput Send) × IsTrue old.is_input)
+    ghost is_refused = { λ old new r. IsInTurn Send old.is_input ⊤ (λ _. ⊥)
+        (IsStreamRefusal old.wanted.max_octets old.sdp new.sdp
+        (WasRead file_gave file_ended) (FileRead old.stream new.stream)) r
         × (output_took new.output ≡ output_took old.output) };
 
     ghost is_placed = { λ c. IsInPlace c.out × IsFalse c.is_input };

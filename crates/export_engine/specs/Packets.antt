@@ -76,6 +76,10 @@ pub record AreEnvelopes (a : List ℕ) (b : Option (List ℕ)) (es : Envelopes) 
   pub first : IsEnvelopeText a es.a
   pub second : IsSecondText b es.b
 
+-- texts are flows to addresses
+abbrev pub SayFlows : List ℕ → Option (List ℕ) → Type 0
+SayFlows a b = (es : Envelopes) × AreEnvelopes a b es
+
 -- how the datagrams of a path are sent
 abbrev pub envelope_of : Envelopes → Path → Option IpEnvelope
 envelope_of es A = Some es.a

@@ -1,12 +1,12 @@
 //! `convert` over the devices of this machine.
-ghost use Rattle.std.specs.Prelude.{◌≡◌, ◌∷◌, ◌⊎◌, [], IfErr, IsFalse, IsTrue, OnOk};
+ghost use Rattle.std.specs.Prelude.{◌≡◌, ◌∷◌, ⊤, [], IfErr, IsFalse, OnOk};
 ghost use Rattle.convert_engine.specs.Converting.{Converts, IsConvertRefusal};
+ghost use Rattle.command_end.specs.InTurn.{IsInTurn};
 ghost use Rattle.devices.specs.Passed.{FileRead, HasNoPart, IsInPlace, IsUnplaced, LeavesNoPart};
 ghost use Rattle.devices.specs.Passed.{file_failures, file_gave, file_took, writing_failures};
 ghost use Rattle.devices.specs.Passed.{written_name};
 ghost use Rattle.run_outcome.specs.Fault.{Accounts, IfRefused, counts};
 ghost use Rattle.run_outcome.specs.Refusing.{OfRefusal};
-ghost use Rattle.run_outcome.specs.declared.refusal.Refusal.TheVariants.{OutputIsInput};
 ghost use Rattle.run_outcome.specs.declared.refusal.Writer.TheVariants.{Convert};
 ghost use Rattle.picture_runs.specs.Conversions.{IsConversionOf, read_by};
 
@@ -89,9 +89,8 @@ fn convert(
     ensures unplaced { IsUnplaced out.new }
     ensures rest { LeavesNoPart out.old → LeavesNoPart out.new }
     ensures apart { OnOk result (IsFalse is_input) }
-    ensures refusal { IfErr result (λ f. OfRefusal f (λ r.
-        IsConvertRefusal asked (FileRead input.old input.new) r
-        ⊎ (r ≡ OutputIsInput Convert) × IsTrue is_input)) }
+    ensures refusal { IfErr result (λ f. OfRefusal f (IsInTurn Convert is_input ⊤ (λ _. ⊥)
+        (IsConvertRefusal asked (FileRead input.old input.new)))) }
     ensures quiet { IfErr result (λ f. IfRefused f (file_took out.new ≡ file_took out.old)) }
     ensures owed { Accounts result (counts (file_failures input.old) (file_failures input.new)
         ∷ counts (writing_failures out.old) (writing_failures out.new) ∷ []) }
@@ -109,8 +108,8 @@ impl<'a> Command for ConvertCommand<'a> {
         (file_took old.out) (file_took new.out) };
 
     // Then nothing is written.
-    ghost is_refused = { λ old new r. (IsConvertRefusal old.asked (FileRead old.input new.input) r
-        ⊎ (r ≡ OutputIsInput Convert) × IsTrue old.is_input)
+    ghost is_refused = { λ old new r. IsInTurn Convert old.is_input ⊤ (λ _. ⊥)
+        (IsConvertRefusal old.asked (FileRead old.input new.input)) r
         × (file_took new.out ≡ file_took old.out) };
 
     ghost is_placed = { λ c. IsInPlace c.out × IsFalse c.is_input };

@@ -1,16 +1,18 @@
 //! `picture` over the devices of this machine.
-ghost use Rattle.std.specs.Prelude.{◌≡◌, ◌≢◌, ◌∷◌, ◌⊎◌, [], None, IfErr, IfSome, IsFalse, IsTrue};
+ghost use Rattle.std.specs.Prelude.{◌≡◌, ◌≢◌, ◌∷◌, [], None, IfErr, IfSome, IsFalse, IsTrue};
 ghost use Rattle.std.specs.Prelude.{OnOk, codes, option_map};
+ghost use Rattle.command_end.specs.InTurn.{IsInTurn};
 ghost use Rattle.devices.specs.Passed.{FileRead, file_ended, file_failures, file_gave, file_path};
 ghost use Rattle.devices.specs.Passed.{HasNoPart, IsInPlace, IsUnplaced, LeavesNoPart, file_took};
 ghost use Rattle.devices.specs.Passed.{writing_failures};
 ghost use Rattle.picture_engine.specs.Refused.{IsShowRefusal};
 ghost use Rattle.picture_engine.specs.Shown.{ShowsFrame};
+ghost use Rattle.picture_engine.specs.Views.{SaysView};
 ghost use Rattle.picture_runs.specs.Picturing.{IsAskedBy, IsPictureOf, IsViewAsked};
 ghost use Rattle.run_outcome.specs.Fault.{Accounts, IfRefused, counts, failures_in};
 ghost use Rattle.run_outcome.specs.Moments.{WasRead, pair};
 ghost use Rattle.run_outcome.specs.Refusing.{OfRefusal};
-ghost use Rattle.run_outcome.specs.declared.refusal.Refusal.TheVariants.{OutputIsInput};
+ghost use Rattle.run_outcome.specs.declared.refusal.Refusal.TheVariants.{FrameFill};
 ghost use Rattle.run_outcome.specs.declared.refusal.Writer.TheVariants.{Picture};
 ghost use Rattle.std.specs.Option.{option_copied};
 
@@ -133,10 +135,10 @@ fn picture<'a>(
     ensures unplaced { IsUnplaced out.new }
     ensures rest { LeavesNoPart out.old → LeavesNoPart out.new }
     ensures apart { OnOk result (IsFalse is_input) }
-    ensures refusal { IfErr result (λ f. OfRefusal f (λ r.
-        IsShowRefusal (FileRead state.old state.new) (WasRead file_gave file_ended)
-        (pair hold.old hold.new) asked.entry r
-        ⊎ (r ≡ OutputIsInput Picture) × IsTrue is_input)) }
+    ensures refusal { IfErr result (λ f. OfRefusal f (IsInTurn Picture is_input
+        (SaysView asked.entry.view) (λ r. r ≡ FrameFill)
+        (IsShowRefusal (FileRead state.old state.new) (WasRead file_gave file_ended)
+        (pair hold.old hold.new) asked.entry))) }
     ensures owed { Accounts result (counts (file_failures state.old) (file_failures state.new)
         ∷ counts (failures_in file_failures hold.old) (failures_in file_failures hold.new)
         ∷ counts (writing_failures out.old) (writing_failures out.new) ∷ []) }
@@ -157,9 +159,9 @@ impl<'a> Command for PictureCommand<'a> {
         (file_took old.out) (file_took new.out) × file_ended new.state };
 
     // Then nothing is written.
-    ghost is_refused = { λ old new r. (IsShowRefusal (FileRead old.state new.state)
-        (WasRead file_gave file_ended) (pair old.hold new.hold) old.asked r
-        ⊎ (r ≡ OutputIsInput Picture) × IsTrue old.is_input)
+    ghost is_refused = { λ old new r. IsInTurn Picture old.is_input (SaysView old.asked.view)
+        (λ x. x ≡ FrameFill) (IsShowRefusal (FileRead old.state new.state)
+        (WasRead file_gave file_ended) (pair old.hold new.hold) old.asked) r
         × (file_took new.out ≡ file_took old.out) };
 
     ghost is_placed = { λ c. IsInPlace c.out × IsFalse c.is_input };

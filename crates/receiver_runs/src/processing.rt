@@ -1,16 +1,17 @@
 //! `process` over the devices of this machine.
-ghost use Rattle.std.specs.Prelude.{◌≡◌, ◌∷◌, ◌⊎◌, ◌≤◌, ℕ, List, [], All, IfErr, IfOk, IfSome};
-ghost use Rattle.std.specs.Prelude.{IsFalse, IsTrue, OnOk, length, sum_by};
+ghost use Rattle.std.specs.Prelude.{◌≡◌, ◌∷◌, ◌≤◌, ℕ, List, [], All, IfErr, IfOk, IfSome};
+ghost use Rattle.std.specs.Prelude.{IsFalse, OnOk, length, sum_by};
 ghost use Rattle.std.specs.List.{zip};
+ghost use Rattle.command_end.specs.InTurn.{IsInTurn};
 ghost use Rattle.devices.specs.Passed.{file_ended, file_failures, file_gave, file_took};
 ghost use Rattle.devices.specs.Passed.{IsInPlace, IsUnplaced, output_failures, output_took};
 ghost use Rattle.devices.specs.Passed.{writing_failures};
 ghost use Rattle.receiver_engines.specs.Processing.{PrintsSent, SendsSaidFiles};
-ghost use Rattle.receiver_engines.specs.Refused.{IsSaidRunRefusal};
+ghost use Rattle.receiver_engines.specs.Refused.{IsSaidRunRefusal, SaysJob};
 ghost use Rattle.run_outcome.specs.Fault.{Accounts, IfRefused, counts, failures_in};
 ghost use Rattle.run_outcome.specs.Moments.{WasRead, pair};
 ghost use Rattle.run_outcome.specs.Refusing.{OfRefusal};
-ghost use Rattle.run_outcome.specs.declared.refusal.Refusal.TheVariants.{OutputIsInput};
+ghost use Rattle.run_outcome.specs.declared.refusal.Refusal.TheVariants.{ProcessJob};
 ghost use Rattle.run_outcome.specs.declared.refusal.Writer.TheVariants.{Process};
 ghost use Rattle.run_outcome.specs.TextRefusals.{SaysText};
 ghost use Rattle.receiver_runs.specs.Asked.{IsProcessOf, IsProcessingOf};
@@ -123,10 +124,10 @@ fn process<'a>(
         (AreUntouched out.old out.new output.old output.new)) }
     ensures unplaced { IsUnplaced out.new }
     ensures apart { OnOk result (IsFalse is_input) }
-    ensures refusal { IfErr result (λ f. OfRefusal f (λ r.
-        IsSaidRunRefusal (WasRead file_gave file_ended) sdp.old sdp.new
-        (zip states.old states.new) (pair hold.old hold.new) wanted.entry r
-        ⊎ (r ≡ OutputIsInput Process) × IsTrue is_input)) }
+    ensures refusal { IfErr result (λ f. OfRefusal f (IsInTurn Process is_input
+        (SaysJob wanted.entry) (λ r. r ≡ ProcessJob)
+        (IsSaidRunRefusal (WasRead file_gave file_ended) sdp.old sdp.new
+        (zip states.old states.new) (pair hold.old hold.new) wanted.entry))) }
     ensures owed { Accounts result
         (counts (failures_in file_failures sdp.old) (failures_in file_failures sdp.new)
         ∷ counts (sum_by file_failures states.old) (sum_by file_failures states.new)
@@ -157,10 +158,10 @@ impl<'a> Command for ProcessCommand<'a> {
         × PrintsSent count (output_took old.output) (output_took new.output)) };
 
     // Then nothing is printed or written.
-    ghost is_refused = { λ old new r. (IsSaidRunRefusal (WasRead file_gave file_ended)
+    ghost is_refused = { λ old new r. IsInTurn Process old.is_input (SaysJob old.wanted)
+        (λ x. x ≡ ProcessJob) (IsSaidRunRefusal (WasRead file_gave file_ended)
         old.sdp new.sdp (zip old.states.items new.states.items) (pair old.hold new.hold)
-        old.wanted r
-        ⊎ (r ≡ OutputIsInput Process) × IsTrue old.is_input)
+        old.wanted) r
         × AreUntouched old.out new.out old.output new.output };
 
     ghost is_placed = { λ c. IsInPlace c.out × IsFalse c.is_input };

@@ -1,15 +1,17 @@
 //! `export` over the devices of this machine.
-ghost use Rattle.std.specs.Prelude.{◌≡◌, ◌∷◌, ◌⊎◌, [], IfErr, IsFalse, IsTrue, OnOk};
+ghost use Rattle.std.specs.Prelude.{◌≡◌, ◌∷◌, [], IfErr, IsFalse, OnOk};
 ghost use Rattle.std.specs.Option.{option_copied};
+ghost use Rattle.command_end.specs.InTurn.{IsInTurn};
 ghost use Rattle.devices.specs.Passed.{FileRead, file_ended, file_failures, file_gave, file_took};
 ghost use Rattle.devices.specs.Passed.{IsInPlace, IsUnplaced, output_failures, output_took};
 ghost use Rattle.devices.specs.Passed.{writing_failures};
 ghost use Rattle.export_engine.specs.ExportRefused.{IsExportRefusal};
 ghost use Rattle.export_engine.specs.Exported.{LeavesExport, PrintsExported};
+ghost use Rattle.export_engine.specs.Packets.{SayFlows};
 ghost use Rattle.run_outcome.specs.Fault.{Accounts, IfRefused, counts};
 ghost use Rattle.run_outcome.specs.Refusing.{OfRefusal};
 ghost use Rattle.run_outcome.specs.declared.fault.Fault.TheVariants.{Refused};
-ghost use Rattle.run_outcome.specs.declared.refusal.Refusal.TheVariants.{OutputIsInput};
+ghost use Rattle.run_outcome.specs.declared.refusal.Refusal.TheVariants.{ExportFlow};
 ghost use Rattle.run_outcome.specs.declared.refusal.Writer.TheVariants.{Export};
 
 use crate::importing::octets;
@@ -75,10 +77,10 @@ fn export(
         (output_took output.new)) }
     ensures unplaced { IsUnplaced out.new }
     ensures apart { OnOk result (IsFalse is_input) }
-    ensures refusal { IfErr result (λ f. OfRefusal f (λ r.
-        IsExportRefusal wanted.entry.a.now (option_copied wanted.entry.b)
-        (FileRead capture.old capture.new) r
-        ⊎ (r ≡ OutputIsInput Export) × IsTrue is_input)) }
+    ensures refusal { IfErr result (λ f. OfRefusal f (IsInTurn Export is_input
+        (SayFlows wanted.entry.a.now (option_copied wanted.entry.b)) (λ r. r ≡ ExportFlow)
+        (IsExportRefusal wanted.entry.a.now (option_copied wanted.entry.b)
+        (FileRead capture.old capture.new)))) }
     // Then nothing is printed, and what is written is what such a refusal leaves.
     ensures left { IfErr result (λ f. OfRefusal f (λ r. LeavesExport (Refused r)
         wanted.entry.a.now (option_copied wanted.entry.b)
@@ -107,9 +109,10 @@ impl<'a> Command for ExportCommand<'a> {
 
     // Then nothing is printed; and nothing is written but, of a capture that is cut short or at
     // fault, the packets of the records before that.
-    ghost is_refused = { λ old new r. (IsExportRefusal old.wanted.a.now
-        (option_copied old.wanted.b) (FileRead old.capture new.capture) r
-        ⊎ (r ≡ OutputIsInput Export) × IsTrue old.is_input)
+    ghost is_refused = { λ old new r. IsInTurn Export old.is_input
+        (SayFlows old.wanted.a.now (option_copied old.wanted.b)) (λ x. x ≡ ExportFlow)
+        (IsExportRefusal old.wanted.a.now (option_copied old.wanted.b)
+        (FileRead old.capture new.capture)) r
         × LeavesExport (Refused r) old.wanted.a.now (option_copied old.wanted.b)
         (file_gave old.capture) (file_gave new.capture) (file_ended new.capture)
         (file_took old.out) (file_took new.out)

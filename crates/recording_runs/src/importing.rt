@@ -1,8 +1,9 @@
 //! `import` over the devices of this machine.
-ghost use Rattle.std.specs.Prelude.{◌≡◌, ◌∷◌, ◌⊎◌, [], All, IfErr, IfOk, IsFalse};
-ghost use Rattle.std.specs.Prelude.{IsTrue, OnOk, Some, length, sum_by};
+ghost use Rattle.std.specs.Prelude.{◌≡◌, ◌∷◌, ⊤, [], All, IfErr, IfOk, IsFalse};
+ghost use Rattle.std.specs.Prelude.{OnOk, Some, length, sum_by};
 ghost use Rattle.std.specs.List.{AllByRecursion, zip};
 ghost use Rattle.std.specs.Option.{option_copied};
+ghost use Rattle.command_end.specs.InTurn.{IsInTurn};
 ghost use Rattle.devices.specs.Passed.{FileRead, file_ended, file_failures, file_gave, file_took};
 ghost use Rattle.devices.specs.Passed.{IsInPlace, IsUnplaced, output_failures, output_took};
 ghost use Rattle.devices.specs.Passed.{writing_failures};
@@ -14,7 +15,6 @@ ghost use Rattle.run_outcome.specs.Fault.{Accounts, IfRefused, counts};
 ghost use Rattle.run_outcome.specs.Moments.{WasRead};
 ghost use Rattle.run_outcome.specs.Refusing.{OfRefusal};
 ghost use Rattle.run_outcome.specs.Text.{GivesText};
-ghost use Rattle.run_outcome.specs.declared.refusal.Refusal.TheVariants.{OutputIsInput};
 ghost use Rattle.run_outcome.specs.declared.refusal.Writer.TheVariants.{Import};
 
 use command_end::{Command, Devices, Hints, Ran, find_output};
@@ -155,12 +155,12 @@ fn import<'a>(
         (output_took output.new) sums) }
     ensures unplaced { IsUnplaced out.new }
     ensures apart { OnOk result (IsFalse is_input) }
-    ensures refusal { IfErr result (λ f. OfRefusal f (λ r. IsImportRefusal
+    ensures refusal { IfErr result (λ f. OfRefusal f (IsInTurn Import is_input ⊤ (λ _. ⊥)
+        (IsImportRefusal
         (option_copied wanted.entry.a) (option_copied wanted.entry.b) (FileRead sdp.old sdp.new)
         (GivesText 65535 (file_gave sdp.old) (file_gave sdp.new) (file_ended sdp.new))
         (WasRead (gave_by file_gave) (ended_by file_ended)) (zip files.old files.new)
-        (file_took out.old) (file_took out.new) r
-        ⊎ (r ≡ OutputIsInput Import) × IsTrue is_input)) }
+        (file_took out.old) (file_took out.new)))) }
     ensures quiet { IfErr result (λ f. IfRefused f
         (output_took output.new ≡ output_took output.old)) }
     ensures owed { Accounts result (counts (file_failures sdp.old) (file_failures sdp.new)
@@ -192,12 +192,12 @@ impl<'a> Command for ImportCommand<'a> {
         (output_took new.output) sums };
 
     // Then nothing is printed.
-    ghost is_refused = { λ old new r. (IsImportRefusal (option_copied old.wanted.a)
+    ghost is_refused = { λ old new r. IsInTurn Import old.is_input ⊤ (λ _. ⊥)
+        (IsImportRefusal (option_copied old.wanted.a)
         (option_copied old.wanted.b) (FileRead old.sdp new.sdp)
         (GivesText 65535 (file_gave old.sdp) (file_gave new.sdp) (file_ended new.sdp))
         (WasRead (gave_by file_gave) (ended_by file_ended)) (zip old.files.items new.files.items)
-        (file_took old.out) (file_took new.out) r
-        ⊎ (r ≡ OutputIsInput Import) × IsTrue old.is_input)
+        (file_took old.out) (file_took new.out)) r
         × (output_took new.output ≡ output_took old.output) };
 
     ghost is_placed = { λ c. IsInPlace c.out × IsFalse c.is_input };

@@ -1,14 +1,16 @@
 //! `export --paced` over the devices of this machine.
-ghost use Rattle.std.specs.Prelude.{◌≡◌, ◌∷◌, ◌⊎◌, [], IfErr, IsFalse, IsTrue, OnOk};
+ghost use Rattle.std.specs.Prelude.{◌≡◌, ◌∷◌, [], IfErr, IsFalse, OnOk};
 ghost use Rattle.std.specs.Option.{option_copied};
+ghost use Rattle.command_end.specs.InTurn.{IsInTurn};
 ghost use Rattle.devices.specs.Passed.{FileRead, file_ended, file_failures, file_gave, file_took};
 ghost use Rattle.devices.specs.Passed.{IsInPlace, IsUnplaced, output_failures, output_took};
 ghost use Rattle.devices.specs.Passed.{writing_failures};
 ghost use Rattle.paced_export.specs.PacedRefused.{IsPacedRefusal};
 ghost use Rattle.paced_export.specs.PacedExported.{LeavesPaced, PrintsPaced};
+ghost use Rattle.export_engine.specs.Packets.{SayFlows};
 ghost use Rattle.run_outcome.specs.Fault.{Accounts, IfRefused, counts};
 ghost use Rattle.run_outcome.specs.Refusing.{OfRefusal};
-ghost use Rattle.run_outcome.specs.declared.refusal.Refusal.TheVariants.{OutputIsInput};
+ghost use Rattle.run_outcome.specs.declared.refusal.Refusal.TheVariants.{ExportFlow};
 ghost use Rattle.run_outcome.specs.declared.refusal.Writer.TheVariants.{Export};
 
 use crate::exporting::exporting;
@@ -76,10 +78,11 @@ fn export<'a>(
         (output_took output.new)) }
     ensures unplaced { IsUnplaced out.new }
     ensures apart { OnOk result (IsFalse is_input) }
-    ensures refusal { IfErr result (λ f. OfRefusal f (λ r.
-        IsPacedRefusal wanted.entry.flows.a.now (option_copied wanted.entry.flows.b)
-        (FileRead ahead.old ahead.new) (FileRead capture.old capture.new) r
-        ⊎ (r ≡ OutputIsInput Export) × IsTrue is_input)) }
+    ensures refusal { IfErr result (λ f. OfRefusal f (IsInTurn Export is_input
+        (SayFlows wanted.entry.flows.a.now (option_copied wanted.entry.flows.b))
+        (λ r. r ≡ ExportFlow)
+        (IsPacedRefusal wanted.entry.flows.a.now (option_copied wanted.entry.flows.b)
+        (FileRead ahead.old ahead.new) (FileRead capture.old capture.new)))) }
     // Then nothing is printed, and what is written is what a refusal leaves.
     ensures left { IfErr result (λ f. OfRefusal f (λ _. LeavesPaced wanted.entry.start
         wanted.entry.flows.a.now (option_copied wanted.entry.flows.b)
@@ -114,10 +117,11 @@ impl<'a> Command for PacedCommand<'a> {
 
     // Then nothing is printed; and nothing is written but, where the second reading is at fault,
     // the packets of the records before that.
-    ghost is_refused = { λ old new r. (IsPacedRefusal old.wanted.flows.a.now
+    ghost is_refused = { λ old new r. IsInTurn Export old.is_input
+        (SayFlows old.wanted.flows.a.now (option_copied old.wanted.flows.b))
+        (λ x. x ≡ ExportFlow) (IsPacedRefusal old.wanted.flows.a.now
         (option_copied old.wanted.flows.b) (FileRead old.ahead new.ahead)
-        (FileRead old.capture new.capture) r
-        ⊎ (r ≡ OutputIsInput Export) × IsTrue old.is_input)
+        (FileRead old.capture new.capture)) r
         × LeavesPaced old.wanted.start
         old.wanted.flows.a.now (option_copied old.wanted.flows.b)
         (file_gave old.ahead) (file_gave new.ahead) (file_ended new.ahead)

@@ -1,4 +1,4 @@
-use Rattle.std.proofs.Common.{◌≡◌, inl, sym}
+use Rattle.std.proofs.Common.{◌≡◌, inl, inr, sym}
 use Rattle.std.proofs.lemmas.Result.{err_from_is_err_and}
 use Rattle.run_outcome.proofs.Refusals.{of_refusal_map}
 use Rattle.recording_runs.proofs.importing.import.Goals as goal
@@ -9,4 +9,12 @@ returns-in_err-sums-clause-refusal c =
     let p =
     err_from_is_err_and c.from_residual-in_err-sums.result c.from_residual-in_err-sums.ensures.1 in
     rw (p.1, p.2, sym c.find_output.ensures.took, none)
-    (of_refusal_map c.in_err-sums.field-0.0 (λ r is. inl is) c.in_err-sums.ensures.refusal)
+    (of_refusal_map c.in_err-sums.field-0.0
+    (λ r is. inl (inl c.in_ok-find_output.ensures.apart, is)) c.in_err-sums.ensures.refusal)
+
+pub returns-in_err-find_output-clause-refusal : goal.returns-in_err-find_output-clause-refusal
+returns-in_err-find_output-clause-refusal c =
+    let p = err_from_is_err_and c.from_residual.result c.from_residual.ensures.1 in
+    rw (p.1, p.2)
+    (of_refusal_map c.in_err-find_output.field-0.0 (λ r is. inr (is.0, is.1, tt))
+    c.in_err-find_output.ensures.refusal)

@@ -1,12 +1,14 @@
-use Rattle.std.proofs.Common.{◌≡◌, ℕ, ◌⊎◌, List, subst, sym}
-use Rattle.std.specs.Prelude.{IfErr, IsTrue}
+use Rattle.std.proofs.Common.{◌≡◌, ℕ, List, subst, sym}
+use Rattle.std.specs.Prelude.{IfErr}
 use Rattle.std.specs.Option.{option_copied}
+use Rattle.command_end.specs.InTurn.{IsInTurn}
+use Rattle.export_engine.specs.Packets.{SayFlows}
 use Rattle.devices.specs.Passed.{FileRead, file_ended, file_gave, file_took, output_took}
 use Rattle.paced_export.specs.PacedExported.{LeavesPaced}
 use Rattle.paced_export.specs.PacedRefused.{IsPacedRefusal}
 use Rattle.run_outcome.specs.Refusing.{OfRefusal}
 use Rattle.run_outcome.specs.declared.refusal.Refusal.{Refusal}
-use Rattle.run_outcome.specs.declared.refusal.Refusal.TheVariants.{OutputIsInput}
+use Rattle.run_outcome.specs.declared.refusal.Refusal.TheVariants.{ExportFlow}
 use Rattle.run_outcome.specs.declared.refusal.Writer.TheVariants.{Export}
 use Rattle.recording_runs.proofs.Left.{all_refused}
 use Rattle.recording_runs.proofs.pacing.PacedCommandCommand.run.Goals as goal
@@ -18,8 +20,8 @@ returns-clause-refusal c =
     let a : List ℕ = was.wanted.flows.a.now in
     let b = option_copied was.wanted.flows.b in
     let P : Refusal → Type 0 =
-    λ r. IsPacedRefusal a b (FileRead was.ahead now.ahead) (FileRead was.capture now.capture) r
-    ⊎ (r ≡ OutputIsInput Export) × IsTrue was.is_input in
+    IsInTurn Export was.is_input (SayFlows a b) (λ r. r ≡ ExportFlow)
+    (IsPacedRefusal a b (FileRead was.ahead now.ahead) (FileRead was.capture now.capture)) in
     let L : List ℕ → Type 0 =
     λ took. LeavesPaced was.wanted.start a b (file_gave was.ahead) (file_gave now.ahead)
     (file_ended now.ahead) (file_gave was.capture) (file_gave now.capture)

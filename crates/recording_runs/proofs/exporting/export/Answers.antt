@@ -1,0 +1,34 @@
+use Rattle.std.proofs.Common.{◌≡◌, inl, inr, subst, sym}
+use Rattle.std.proofs.lemmas.Result.{err_from_is_err_and}
+use Rattle.run_outcome.proofs.Refusals.{if_err_map, of_refusal_map}
+use Rattle.std.specs.Option.{option_copied}
+use Rattle.devices.specs.Passed.{FileRead}
+use Rattle.export_engine.specs.ExportRefused.{IsExportRefusal}
+use Rattle.run_outcome.specs.declared.refusal.Refusal.{Refusal}
+use Rattle.recording_runs.proofs.exporting.export.Goals as goal
+
+pub returns-in_err-check_flows-clause-refusal : goal.returns-in_err-check_flows-clause-refusal
+returns-in_err-check_flows-clause-refusal c =
+    let a = c.args.wanted.a.now in
+    let b = option_copied c.args.wanted.b in
+    let told = FileRead c.args.capture.now c.args.capture.now in
+    let p = err_from_is_err_and c.from_residual.result c.from_residual.ensures.1 in
+    rw (p.1, p.2)
+    (of_refusal_map c.in_err-check_flows.field-0.0 (λ r is. inl (
+      inr is.0,
+      subst (λ (x : Refusal). IsExportRefusal a b told x) (sym is.0) is.1,
+    )) c.in_err-check_flows.ensures.refusal)
+
+pub returns-in_err-find_output-clause-refusal : goal.returns-in_err-find_output-clause-refusal
+returns-in_err-find_output-clause-refusal c =
+    let p = err_from_is_err_and c.from_residual-in_err-find_output.result
+    c.from_residual-in_err-find_output.ensures.1 in
+    rw (p.1, p.2)
+    (of_refusal_map c.in_err-find_output.field-0.0 (λ r is. inr (is.0, is.1, c.in_ok-check_flows.ensures.flows))
+    c.in_err-find_output.ensures.refusal)
+
+pub returns-clause-refusal : goal.returns-clause-refusal
+returns-clause-refusal c =
+    if_err_map c.export.result
+    (λ f. of_refusal_map f (λ r is. inl (inl c.in_ok-find_output.ensures.apart, is)))
+    c.export.ensures.refusal
