@@ -129,8 +129,8 @@ pub record ArePlanned (wanted : Sending) (format : Format) (pictures : List Valu
   pub sent : SendsTo plan (run_sender format wanted) 0 pictures wanted.first datagrams next
 
 -- A sink took the capture of a text and of the datagrams of pictures, which are so many: of the
--- k-th as frame k, all by one raster plan, the packets' numbers running on. The size of packets that
--- is asked for is one that plans are made for.
+-- k-th as frame k, all by one raster plan, the packets' numbers running on. The size of packets
+-- that is asked for is one that plans are made for.
 pub record TakesCapture (wanted : Sending) (text : List ℕ) (format : Format)
     (pictures : List Values) (old new : List ℕ) (count : ℕ) : Type 0 where
   pub limits : IsSize wanted.max_octets format

@@ -1,5 +1,5 @@
 -- What `receive` refuses before it takes datagrams (own).
-use Rattle.std.specs.Prelude.{◌≡◌, ◌⊎◌, ℕ, List, [], Bool, Option, None, Some, true}
+use Rattle.std.specs.Prelude.{◌≡◌, ◌⊎◌, ℕ, List, [], Bool, Option, None, Some, true, false}
 use Rattle.capture_runs.specs.Opened.{said_text}
 use Rattle.capture_runs.specs.Replayed.{replayed_gave}
 use Rattle.capture_runs.specs.Window.{IsLookedRefusal, IsWordRefusal}
@@ -21,10 +21,12 @@ abbrev pub IsFlowRefusal : Option (List ℕ) → Option (List ℕ) → Refusal �
 IsFlowRefusal a b r = flows.IsWordRefusal a r ⊎ flows.IsWordRefusal b r
 
 -- The refusals before datagrams are taken: of the window and the source; that what is to be written
--- is read; of the SDP's length; of the words for flows; of looking for the first timestamps.
+-- is read; where it isn't, of the SDP's length, of the words for flows, of looking for the first
+-- timestamps.
 abbrev pub IsOpeningRefusal : List ℕ → List ℕ → Bool → Option (List ℕ) → Option (List ℕ)
     → Files → Refusal → Type 0
 IsOpeningRefusal window ssrc is_input a b files r = IsWordRefusal window ssrc r
     ⊎ ((r ≡ OutputIsInput writer.Receive) × (is_input ≡ true))
-    ⊎ IsTooLong files.sdp r ⊎ IsFlowRefusal a b r
-    ⊎ IsLookedRefusal window ssrc (said_text files.said) files.ways.items files.looked.items r
+    ⊎ ((is_input ≡ false) × IsTooLong files.sdp r) ⊎ ((is_input ≡ false) × IsFlowRefusal a b r)
+    ⊎ ((is_input ≡ false)
+    × IsLookedRefusal window ssrc (said_text files.said) files.ways.items files.looked.items r)

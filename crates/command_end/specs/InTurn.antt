@@ -1,5 +1,5 @@
--- Which refusal ends a command that looks at its words, then at the file that it writes, and then at
--- what it reads: the first (own).
+-- Which refusal ends a command that looks at its words, then at the file that it writes, and then
+-- at what it reads: the first (own).
 use Rattle.std.specs.Prelude.{◌≡◌, ◌⊎◌, Bool, IsFalse, IsTrue}
 use Rattle.run_outcome.specs.declared.refusal.Refusal.{Refusal}
 use Rattle.run_outcome.specs.declared.refusal.Refusal.TheVariants.{OutputIsInput}

@@ -1,5 +1,6 @@
--- Which refusal ends a run of `export --paced`: the first (own). What was read is told by a predicate: it
--- holds of any octets that begin with it, and of no others where the source has ended.
+-- Which refusal ends a run of `export --paced`: the first (own). What was read is told by a
+-- predicate: it holds of any octets that begin with it, and of no others where the source has
+-- ended.
 use Rattle.std.specs.Prelude.{◌≡◌, ◌⊎◌, ℕ, List, [], Option, Ok, Err}
 use Rattle.media_file.specs.Capture.{Content, capture_walk}
 use Rattle.media_file.specs.Fronts.{front_at}

@@ -26,8 +26,8 @@ use Rattle.stream_sending.specs.Streams.{HasFrameFault, HasFrames, IsStreamOf}
 -- ---- what is written
 
 -- A sink took the capture of a text and of the datagrams of pictures of this format, which are so
--- many: of the k-th as frame k, all by one raster plan, the packets' numbers running on. The size of
--- packets that is asked for is one that plans are made for.
+-- many: of the k-th as frame k, all by one raster plan, the packets' numbers running on. The size
+-- of packets that is asked for is one that plans are made for.
 pub record TakesStream (wanted : Sending) (text : List ℕ) (f : Format) (pictures : List Values)
     (old new : List ℕ) (count : ℕ) : Type 0 where
   pub limits : IsSize wanted.max_octets f

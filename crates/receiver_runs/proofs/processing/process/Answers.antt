@@ -20,7 +20,8 @@ returns-in_err-find_output-clause-refusal c =
     let p = err_from_is_err_and c.from_residual-in_err-find_output.result
     c.from_residual-in_err-find_output.ensures.1 in
     rw (p.1, p.2)
-    (of_refusal_map c.in_err-find_output.field-0.0 (λ r is. inr (is.0, is.1, c.in_ok-check_job.ensures.job))
+    (of_refusal_map c.in_err-find_output.field-0.0
+    (λ r is. inr (is.0, is.1, c.in_ok-check_job.ensures.job))
     c.in_err-find_output.ensures.refusal)
 
 pub returns-clause-refusal : goal.returns-clause-refusal
