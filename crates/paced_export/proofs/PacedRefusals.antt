@@ -93,8 +93,7 @@ front_behind : (a b c text part : List ℕ) (ended : Type 0) → GaveValue front
     → (x : List ℕ × List ℕ) × (front_at octets ≡ Ok x) × (x.0 ≡ text)
 front_behind a b c text part ended g more octets q =
     let all : c ≡ a ++ (g.part ++ part) =
-    more ∙ ap (λ (l : List ℕ). l ++ part) g.grown ∙ append_assoc a g.part part in
-    (
+    more ∙ ap (λ (l : List ℕ). l ++ part) g.grown ∙ append_assoc a g.part part in (
       (text, part ++ q.behind),
       ap front_at (q.parts
           ∙ ap (λ (l : List ℕ). l ++ q.behind) (since_is a c (g.part ++ part) all)
@@ -107,8 +106,7 @@ pub has_rate : (a b c text part : List ℕ) (ended : Type 0) (active : ℕ)
     → GaveValue front_at a b text → c ≡ b ++ part → SaysActive text active
     → HasRate (IsRead a c ended)
 has_rate a b c text part ended active g more said = λ octets q.
-    let x = front_behind a b c text part ended g more octets q in
-    (
+    let x = front_behind a b c text part ended g more octets q in (
       x.0,
       x.1,
       subst (λ (t : List ℕ). SaysRate t) (sym x.2) (said.sdp, said.described),

@@ -89,8 +89,11 @@ returns-in_err-sent-clause-refusal g c =
     c.from_residual-in_err-sent.ensures.1 in
     rw (p.1, p.2)
     (of_refusal_map c.in_err-sent.field-0.0
-    (λ r is. inr (c.in_ok-check_job.ensures.job, inr (
-      text_says g.S.ByteSource.gave g.S.ByteSource.ended c.args.sdp.now c.read_if_given.new.sdp _
-          c.in_ok-said.ensures.says,
-      is,
-    ))) c.in_err-sent.ensures.refusal)
+    (λ r is. inr (
+      c.in_ok-check_job.ensures.job,
+      inr (
+        text_says g.S.ByteSource.gave g.S.ByteSource.ended c.args.sdp.now c.read_if_given.new.sdp _
+            c.in_ok-said.ensures.says,
+        is,
+      ),
+    )) c.in_err-sent.ensures.refusal)
