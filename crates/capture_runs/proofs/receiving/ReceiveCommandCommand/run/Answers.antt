@@ -1,9 +1,10 @@
-use Rattle.std.proofs.Common.{◌∙◌, Err, ap, inl, inr, refl, sym}
+use Rattle.std.proofs.Common.{inr, refl}
+use Rattle.std.specs.Prelude.{IsFalse}
 use Rattle.command_end.proofs.Quiet.{refused_both}
-use Rattle.run_outcome.proofs.Refusals.{if_err_map, of_refusal_map, own_refusal}
-use Rattle.devices.specs.Passed.{output_took, took_in}
-use Rattle.devices.specs.declared.file_sink.FileSink.{FileSink}
-use Rattle.capture_runs.proofs.Told.{untouched}
+use Rattle.command_end.specs.Untouched.{AreUntouched}
+use Rattle.run_outcome.proofs.Refusals.{if_err_map, of_refusal_map}
+use Rattle.devices.specs.Passed.{file_took, output_took}
+use Rattle.capture_runs.proofs.Told.{opened_refused, untouched}
 use Rattle.capture_runs.proofs.receiving.ReceiveCommandCommand.run.Goals as goal
 use Rattle.capture_runs.proofs.receiving.ReceiveCommandCommand.run.Goals.{in-Ok, in-Err}
 
@@ -15,13 +16,15 @@ returns-clause-refusal c =
           (refused_both _ _ w.take-outcome.result
           (if_err_map w.take-outcome.result (λ f. of_refusal_map f (λ r is. inr is))
           w.take-outcome.ensures.refusal)
-          (untouched w.take-outcome.result _
-          (λ (s : FileSink). took_in c.args.self.now.state.placed s.progress)
-          (λ o. output_took o) _ _ _ _ _ w.take-outcome.ensures.kept
-          w.take-outcome.ensures.quiet c.settle.ensures.took))
+          (untouched w.take-outcome.result _ (λ o. output_took o) c.args.self.now.state.sink
+          w.take-outcome.new.state c.args.self.now.output w.take-outcome.new.output
+          (file_took c.args.self.now.state) (file_took c.settle.new.self)
+          w.take-outcome.ensures.kept w.take-outcome.ensures.quiet
+          (λ same. rw same at (rw w.self-is at c.settle.ensures.took))))
       | in-Err w ↦
-          rw (w.outcome-is)
-          (of_refusal_map _
-          (λ r is. (inl (w.in-Err.is ∙ ap (λ f. Err f) is), λ sound. (c.settle.ensures.took, refl)))
-          (own_refusal _))
+          let left : IsFalse c.args.self.now.is_sound
+          → AreUntouched c.args.self.now.state c.settle.new.self c.args.self.now.output
+          c.args.self.now.output =
+          λ sound. (rw w.self-is at c.settle.ensures.took, refl) in
+          rw (w.outcome-is, w.self-is) (opened_refused _ _ _ _ w.in-Err.is left)
     ]
