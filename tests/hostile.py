@@ -22,12 +22,12 @@ import texts  # noqa: E402
 
 # By their names, what makes trials of each, and the seed and the count of a few.
 KINDS = {
-    "datagrams": (datagrams.trials, 11, 192),
-    "files": (files.trials, 11, 120),
-    "texts": (texts.trials, 1, 400),
+    "datagrams": (datagrams.trials, 1, 640),
+    "files": (files.trials, 1, 640),
+    "texts": (texts.trials, 1, 640),
     "scripts": (scripts.trials, 1, 200),
-    "pcap": (recordings.pcap_trials, 11, 40),
-    "pcapng": (recordings.pcapng_trials, 11, 40),
+    "pcap": (recordings.pcap_trials, 1, 640),
+    "pcapng": (recordings.pcapng_trials, 1, 640),
 }
 USAGE = "usage: tests/hostile.py PROGRAM [%s SEED COUNT]" % "|".join(KINDS)
 
