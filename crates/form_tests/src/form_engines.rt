@@ -1,5 +1,5 @@
-//! What `convert` and `picture` write; with each growth refused, with each call of a device failing,
-//! and of files that are refused or cut.
+//! What `convert` and `picture` write; with each growth refused, with each call of a device
+//! failing, and of files that are refused or cut.
 use crate::checks::met;
 use crate::form_calls::{
     Call, Failing, HELD, Input, NONE, PICTURE, RGB, Run, conversions, converted, make_call, shown,

@@ -62,8 +62,8 @@ where
         (failures_in S.failures sdp.new) ∷ counts (S.failures stream.old)
         (S.failures stream.new) ∷ counts (K.failures sink.old) (K.failures sink.new)
         ∷ counts (O.failures output.old) (O.failures output.new) ∷ []) }
-    // Of what was read the refusal is the first: of the text; of the head; that there is no plan; of
-    // the frames in their order, or that there are too many.
+    // Of what was read the refusal is the first: of the text; of the head; that there is no plan;
+    // of the frames in their order, or that there are too many.
     ensures refusal { IfErr result (λ f. OfRefusal f (IsStreamRefusal wanted.max_octets
         sdp.old sdp.new (WasRead S.gave S.ended)
         (IsRead (S.gave stream.old) (S.gave stream.new) (S.ended stream.new)))) }
