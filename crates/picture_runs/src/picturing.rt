@@ -7,7 +7,7 @@ ghost use Rattle.devices.specs.Passed.{HasNoPart, IsInPlace, IsUnplaced, LeavesN
 ghost use Rattle.devices.specs.Passed.{writing_failures};
 ghost use Rattle.picture_engine.specs.Refused.{IsShowRefusal};
 ghost use Rattle.picture_engine.specs.Shown.{ShowsFrame};
-ghost use Rattle.picture_engine.specs.Views.{SaysView};
+ghost use Rattle.picture_engine.specs.Views.{SaysNoView, SaysView};
 ghost use Rattle.picture_runs.specs.Picturing.{IsAskedBy, IsPictureOf, IsViewAsked};
 ghost use Rattle.run_outcome.specs.Fault.{Accounts, IfRefused, counts, failures_in};
 ghost use Rattle.run_outcome.specs.Moments.{WasRead, pair};
@@ -136,7 +136,7 @@ fn picture<'a>(
     ensures rest { LeavesNoPart out.old → LeavesNoPart out.new }
     ensures apart { OnOk result (IsFalse is_input) }
     ensures refusal { IfErr result (λ f. OfRefusal f (IsInTurn Picture is_input
-        (SaysView asked.entry.view) (λ r. r ≡ FrameFill)
+        (SaysView asked.entry.view) (λ r. (r ≡ FrameFill) × SaysNoView asked.entry.view)
         (IsShowRefusal (FileRead state.old state.new) (WasRead file_gave file_ended)
         (pair hold.old hold.new) asked.entry))) }
     ensures owed { Accounts result (counts (file_failures state.old) (file_failures state.new)
@@ -160,7 +160,8 @@ impl<'a> Command for PictureCommand<'a> {
 
     // Then nothing is written.
     ghost is_refused = { λ old new r. IsInTurn Picture old.is_input (SaysView old.asked.view)
-        (λ x. x ≡ FrameFill) (IsShowRefusal (FileRead old.state new.state)
+        (λ x. (x ≡ FrameFill) × SaysNoView old.asked.view)
+        (IsShowRefusal (FileRead old.state new.state)
         (WasRead file_gave file_ended) (pair old.hold new.hold) old.asked) r
         × (file_took new.out ≡ file_took old.out) };
 

@@ -18,7 +18,7 @@ returns-in_err-check_view-clause-refusal c =
     let p = err_from_is_err_and c.from_residual.result c.from_residual.ensures.1 in
     rw (p.1, p.2)
     (of_refusal_map c.in_err-check_view.field-0.0 (λ r is. inl (
-      inr is.0,
+      inr is,
       view_refused (FileRead state state) (WasRead file_gave file_ended) (pair hold hold)
           c.args.asked r is,
     ))
