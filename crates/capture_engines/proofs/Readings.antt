@@ -22,7 +22,7 @@ use Rattle.run_outcome.proofs.Refusals.{of_refusal_map}
 use Rattle.run_outcome.specs.declared.fault.Fault.{Fault}
 use Rattle.run_outcome.specs.LowerFaults.{reading_fault}
 use Rattle.st_format.specs.History.{IsRead, since}
-use Rattle.capture_engines.specs.Rescued.{IsFrontOf, TakesPart}
+use Rattle.capture_engines.specs.Rescued.{IsFrontOf, MayTake}
 use Rattle.capture_engines.specs.Stopping.{IsReadingStop}
 use Rattle.capture_engines.specs.declared.intake.Intake.{Intake}
 use Rattle.capture_engines.specs.declared.receiving.Asked.{Asked}
@@ -240,7 +240,7 @@ pub part_taken : {S T A V : Type 0} (o : Asked A) (r : FileReader S) (at : S →
     → HaveFileRecords r.flows (since r.before.gave (gave (at r.source))) r.records r.left_out)
     → IfErr result (λ f. (TakesRecords o text (octets_of r.records) b a
     × IsReadingStop r.standing (length r.records) f) ⊎ ((a ≡ b) × Opening f))
-    → IfErr result (λ f. TakesPart o w gave ended f b a (old, new))
+    → IfErr result (λ f. MayTake o w gave ended f b a (old, new))
 part_taken o r at gave ended old new w text b a Opening (Ok v) before now by same given between
     capture stop = tt
 part_taken o r at gave ended old new w text b a Opening (Err f) before now by same given between

@@ -18,7 +18,7 @@ use Rattle.run_outcome.specs.declared.refusal.Refusal.{Refusal}
 use Rattle.capture_engines.specs.Counted.{CountsHolding, CountsReceived}
 use Rattle.capture_engines.specs.Files.{files_datagrams, way_at}
 use Rattle.capture_engines.specs.Printed.{received_text, tally_text}
-use Rattle.capture_engines.specs.Rescued.{Front, IsFrontOf, Rescues, TakesPart, TakesUpTo}
+use Rattle.capture_engines.specs.Rescued.{Front, IsFrontOf, MayTake, Rescues, TakesFilesUpTo}
 use Rattle.capture_engines.specs.Rescued.{datagrams_if, said_if}
 use Rattle.capture_engines.specs.Sent.{FirstIs}
 use Rattle.capture_engines.specs.Taking.{AnnouncesStream, AreRead, Stands, TakesFiles}
@@ -137,10 +137,10 @@ pub taken_up_to : {S A : Type 0} (o : Asked A) (ways : List (Result Flows Refusa
     (before b a : Option (Intake A))
     → TakesFiles o ways (WasRead gave ended) (zip (take k start) (take k now)) before b
     → take k new ≡ take k now → drop k now ≡ drop k start
-    → FirstIs (TakesPart o (way_at ways k) gave ended f b a) (zip (drop k now) (drop k new))
-    → TakesUpTo o ways gave ended f (zip start new) before a
+    → FirstIs (MayTake o (way_at ways k) gave ended f b a) (zip (drop k now) (drop k new))
+    → TakesFilesUpTo o ways gave ended f (zip start new) before a
 taken_up_to {S} o ways gave ended f start now new k before b a files front behind one =
-    let Is : S × S → Type 0 = TakesPart o (way_at ways k) gave ended f b a in
+    let Is : S × S → Type 0 = MayTake o (way_at ways k) gave ended f b a in
     let x : Opened Is (zip (drop k now) (drop k new)) =
     opened Is (zip (drop k now) (drop k new)) one in
     let counted : length (zip (take k start) (take k now)) ≡ k =
@@ -157,7 +157,7 @@ taken_up_to {S} o ways gave ended f start now new k before b a files front behin
           ∙ ap (λ (l : List (S × S)). zip (take k start) (take k now) ++ l) x.whole;
       between = b;
       whole = files;
-      part = subst (λ (m : ℕ). TakesPart o (way_at ways m) gave ended f b a x.first) (sym counted)
+      part = subst (λ (m : ℕ). MayTake o (way_at ways m) gave ended f b a x.first) (sym counted)
           x.is;
     }
 
@@ -177,7 +177,7 @@ part_stands : {S A : Type 0} (o : Asked A) (ways : List (Result Flows Refusal)) 
     (gave : S → List ℕ) (ended : S → Type 0) (f : Fault) (front : List (S × S)) (at : S × S)
     (said : Option (List ℕ)) (begun between : Option (Intake A)) (s : Intake A)
     → Stands o begun said [] → TakesFiles o ways (WasRead gave ended) front begun between
-    → TakesPart o w gave ended f between (Some s) at
+    → MayTake o w gave ended f between (Some s) at
     → PartStands o ways w gave ended f front at said s
 part_stands o ways w gave ended f front at said begun between s begins files (inl (p, is, taken)) =
     record {
@@ -237,7 +237,7 @@ pub rescues : {S A : Type 0} (o : Asked A) (window source : List ℕ) (sdp : Opt
     (files : List (S × S)) (begun : Option (Intake A)) (s : Intake A) (wanted : Bool)
     (shown shown' old new : List ℕ) (r : Reception) → AreTimestamps window o.window.items
     → IsSourceText source o.ssrc → Stands o begun sdp []
-    → TakesUpTo o ways gave ended f files begun (Some s)
+    → TakesFilesUpTo o ways gave ended f files begun (Some s)
     → shown' ≡ shown ++ received_text wanted s.delivered (tally_text s.tally) s.receiver
     → new ≡ old ++ state_text (kept_of s.receiver)
     → r ≡ record { delivered = s.delivered; tally = s.tally }

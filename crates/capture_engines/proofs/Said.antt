@@ -10,14 +10,14 @@ use Rattle.run_outcome.specs.declared.refusal.Refusal.TheVariants as why
 use Rattle.capture_engines.specs.Files.{capture_datagrams, files_datagrams, octets_of}
 use Rattle.capture_engines.specs.Received.{AskFor, GivenOpens, IsGivenRefusal, IsOpeningRefusal}
 use Rattle.capture_engines.specs.Received.{IsReceiveRefusal, IsReceivingRefusal, Opens}
-use Rattle.capture_engines.specs.Taking.{IsOpeningText, IsSaid, IsShortText, Receives}
+use Rattle.capture_engines.specs.Taking.{IsOpeningText, IsSaidText, IsShortText, Receives}
 use Rattle.capture_engines.specs.Taking.{ReceivesFiles, SavesHolding, said_behind}
 use Rattle.capture_engines.proofs.FirstRefused.{first_given}
 use Rattle.capture_engines.proofs.Untaken.{records_alone}
 
 -- a receiver is opened by the text that was read of the source
 opens : {S : Type 0} (told : S → List ℕ → Type 0) (sdp : Option S) (said : Option (List ℕ))
-    (octets : List (List ℕ)) (text : List ℕ) → IsSaid told sdp said
+    (octets : List (List ℕ)) (text : List ℕ) → IsSaidText told sdp said
     → IsOpeningText told sdp octets text → said_behind said octets ≡ Some text
 opens told None None octets text is opening = opening
 opens told None (Some t) octets text is opening = absurd is
@@ -35,14 +35,14 @@ captures_are (o ∷ os) =
 
 -- where no source is given no text is
 not_said : {S : Type 0} (told : S → List ℕ → Type 0) (sdp : Option S) (said : Option (List ℕ))
-    → IsSaid told sdp said → sdp ≡ None → said ≡ None
+    → IsSaidText told sdp said → sdp ≡ None → said ≡ None
 not_said told None None is none = refl
 not_said told None (Some t) is none = absurd is
 not_said told (Some s) None is none = absurd is
 not_said told (Some s) (Some t) is none = cc
 
 short_said : {S : Type 0} (told : S → List ℕ → Type 0) (sdp : Option S)
-    (said : Option (List ℕ)) → IsSaid told sdp said
+    (said : Option (List ℕ)) → IsSaidText told sdp said
     → MatchOption sdp ⊤ (λ s. IsShortText (told s))
 short_said told None said is = tt
 short_said told (Some s) None is = absurd is
@@ -50,7 +50,7 @@ short_said told (Some s) (Some t) is = is.1
 
 pub said_receives : {S : Type 0} (window source : List ℕ) (sdp : Option S)
     (said : Option (List ℕ)) (told : S → List ℕ → Type 0) (captures : List S) (wanted : Bool)
-    (shown shown' old new : List ℕ) → IsSaid told sdp said
+    (shown shown' old new : List ℕ) → IsSaidText told sdp said
     → ReceivesFiles window source said [] told captures wanted shown shown' old new
     → Receives window source sdp told captures wanted shown shown' old new
 said_receives window source sdp said told captures wanted shown shown' old new is by_text =
@@ -77,7 +77,7 @@ said_receives window source sdp said told captures wanted shown shown' old new i
 -- ---- refusals
 
 none_said : {S : Type 0} (told : S → List ℕ → Type 0) (sdp : Option S) (said : Option (List ℕ))
-    → IsSaid told sdp said → said ≡ None → sdp ≡ None
+    → IsSaidText told sdp said → said ≡ None → sdp ≡ None
 none_said told None None is none = refl
 none_said told None (Some t) is none = absurd is
 none_said told (Some s) None is none = absurd is
@@ -85,7 +85,7 @@ none_said told (Some s) (Some t) is none = cc
 
 -- a text by which no receiver is opened
 given_refused : {S : Type 0} (window : List ℕ) (told : S → List ℕ → Type 0) (sdp : Option S)
-    (said : Option (List ℕ)) → IsSaid told sdp said → (r : Refusal)
+    (said : Option (List ℕ)) → IsSaidText told sdp said → (r : Refusal)
     → MatchOption said ⊥ (λ text. IsOpeningRefusal window text r)
     → MatchOption sdp ⊥ (λ s. IsGivenRefusal window (told s) r)
 given_refused window told None None is r q = absurd q
@@ -99,7 +99,7 @@ given_refused window told (Some s) (Some t) is r q = (
 
 -- one by which one is
 given_opens : {S : Type 0} (window : List ℕ) (told : S → List ℕ → Type 0) (sdp : Option S)
-    (said : Option (List ℕ)) → IsSaid told sdp said
+    (said : Option (List ℕ)) → IsSaidText told sdp said
     → MatchOption said ⊤ (λ text. Opens window text)
     → MatchOption sdp ⊤ (λ s. GivenOpens window (told s))
 given_opens window told None None is opens = tt
@@ -112,7 +112,7 @@ given_opens window told (Some s) (Some t) is opens = (
 
 pub said_refused : {S : Type 0} (window ssrc : List ℕ) (sdp : Option S)
     (said : Option (List ℕ)) (told : S → List ℕ → Type 0) (captures : List S)
-    → IsSaid told sdp said → (r : Refusal)
+    → IsSaidText told sdp said → (r : Refusal)
     → IsReceivingRefusal window ssrc said [] told captures r
     → IsReceiveRefusal window ssrc sdp told captures r
 said_refused window ssrc sdp said told captures is r (inl word) = inl word

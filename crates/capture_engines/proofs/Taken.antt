@@ -15,7 +15,8 @@ use Rattle.recording_reader.specs.FileReader.{FileReader, FindsOne, record_seen}
 use Rattle.recording_reader.specs.declared.room.RecordView.{RecordView}
 use Rattle.capture_engines.specs.Files.{octets_of}
 use Rattle.path_receiver.specs.Tallied.{Tallies, TalliesMore}
-use Rattle.capture_engines.specs.Taking.{AnnouncesStream, Counts, HoldsBy, Stands, TakesDatagrams}
+use Rattle.capture_engines.specs.Taking.{AnnouncesStream, CountsAnswers, HoldsBy, Stands}
+use Rattle.capture_engines.specs.Taking.{TakesDatagrams}
 use Rattle.capture_engines.specs.Taking.{TakesRecords, said_by}
 use Rattle.capture_engines.specs.declared.intake.Intake.{Intake}
 use Rattle.capture_engines.specs.declared.receiving.Asked.{Asked}
@@ -27,7 +28,7 @@ pub takes_none : {A : Type 0} (s : Intake A) → TakesDatagrams [] s s
 takes_none s = record {
   opening = refl;
   holds = λ earlier holds. subst (Holds s.receiver) (sym (append-nil earlier)) holds;
-  tallied = λ earlier counts. subst (Counts s) (sym (append-nil earlier)) counts;
+  tallied = λ earlier counts. subst (CountsAnswers s) (sym (append-nil earlier)) counts;
   delivered = λ count is. is ∙ ap capped (omega arith);
 }
 
@@ -39,7 +40,7 @@ takes_then xs ys a b c first more = record {
       subst (Holds c.receiver) (append_assoc earlier xs ys)
       (more.holds (earlier ++ xs) (first.holds earlier holds));
   tallied = λ earlier counts.
-      subst (Counts c) (append_assoc earlier xs ys)
+      subst (CountsAnswers c) (append_assoc earlier xs ys)
       (more.tallied (earlier ++ xs) (first.tallied earlier counts));
   delivered = λ count is.
       more.delivered (count + length xs) (first.delivered count is)

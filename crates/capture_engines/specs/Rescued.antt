@@ -43,15 +43,15 @@ pub record IsFrontOf {S : Type 0} (w : Way) (gave : S → List ℕ) (ended : S �
       (λ r. file_datagrams w (since (gave s.0) (gave s.1)) ≡ p.datagrams)
 
 -- a file was taken so; or, where no receiver was opened by it, nothing of it was
-abbrev pub TakesPart : {S A : Type 0} → Asked A → Way → (S → List ℕ) → (S → Type 0) → Fault
+abbrev pub MayTake : {S A : Type 0} → Asked A → Way → (S → List ℕ) → (S → Type 0) → Fault
     → Option (Intake A) → Option (Intake A) → S × S → Type 0
-TakesPart o w gave ended f before after s =
+MayTake o w gave ended f before after s =
     ((p : Front) × IsFrontOf w gave ended f s p × TakesRecords o p.text p.datagrams before after)
     ⊎ (after ≡ before)
 
 -- Files were taken up to a fault: all before one, that one as far as it was read, and none behind
 -- it.
-pub record TakesUpTo {S A : Type 0} (o : Asked A) (ways : List (Result Flows Refusal))
+pub record TakesFilesUpTo {S A : Type 0} (o : Asked A) (ways : List (Result Flows Refusal))
     (gave : S → List ℕ) (ended : S → Type 0) (f : Fault) (files : List (S × S))
     (before after : Option (Intake A)) : Type 0 where
   pub front : List (S × S)
@@ -60,7 +60,7 @@ pub record TakesUpTo {S A : Type 0} (o : Asked A) (ways : List (Result Flows Ref
   pub parts : files ≡ front ++ at ∷ behind
   pub between : Option (Intake A)
   pub whole : TakesFiles o ways (WasRead gave ended) front before between
-  pub part : TakesPart o (way_at ways (length front)) gave ended f between after at
+  pub part : MayTake o (way_at ways (length front)) gave ended f between after at
 
 -- what became of files: all were taken, or those up to a fault
 abbrev pub IsRescue : {S A : Type 0} → Asked A → List (Result Flows Refusal) → (S → List ℕ)
@@ -68,7 +68,7 @@ abbrev pub IsRescue : {S A : Type 0} → Asked A → List (Result Flows Refusal)
 IsRescue o ways gave ended files before (Whole s) =
     TakesFiles o ways (WasRead gave ended) files before (Some s)
 IsRescue o ways gave ended files before (Part s f) =
-    TakesUpTo o ways gave ended f files before (Some s)
+    TakesFilesUpTo o ways gave ended f files before (Some s)
     × OfRefusal f (IsFirstFilesRefusal o.window.items before ways (WasRead gave ended) files)
 
 -- what that says of devices

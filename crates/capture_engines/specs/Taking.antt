@@ -48,8 +48,8 @@ AreRead told (s ∷ ss) [] = ⊥
 AreRead told (s ∷ ss) (o ∷ os) = told s o × AreRead told ss os
 
 -- an intake's tally counts the answers to these datagrams
-abbrev pub Counts : {A : Type 0} → Intake A → List (List ℕ) → Type 0
-Counts s datagrams = Tallies s.tally (map (taken_at s.receiver.opening) datagrams)
+abbrev pub CountsAnswers : {A : Type 0} → Intake A → List (List ℕ) → Type 0
+CountsAnswers s datagrams = Tallies s.tally (map (taken_at s.receiver.opening) datagrams)
 
 -- ---- one file
 
@@ -60,8 +60,8 @@ pub record TakesDatagrams {A : Type 0} (datagrams : List (List ℕ)) (before aft
   pub opening : after.receiver.opening ≡ before.receiver.opening
   pub holds : (earlier : List (List ℕ)) → Holds before.receiver earlier
       → Holds after.receiver (earlier ++ datagrams)
-  pub tallied : (earlier : List (List ℕ)) → Counts before earlier
-      → Counts after (earlier ++ datagrams)
+  pub tallied : (earlier : List (List ℕ)) → CountsAnswers before earlier
+      → CountsAnswers after (earlier ++ datagrams)
   pub delivered : (count : ℕ) → before.delivered ≡ capped count
       → after.delivered ≡ capped (count + length datagrams)
 
@@ -75,7 +75,7 @@ pub record HoldsBy {A : Type 0} (o : Asked A) (text : List ℕ) (s : Intake A)
   pub ssrc : s.receiver.opening.ssrc ≡ o.ssrc
   pub announced : AnnouncesStream text s.receiver.opening
   pub holds : Holds s.receiver datagrams
-  pub tallied : Counts s datagrams
+  pub tallied : CountsAnswers s datagrams
   pub delivered : s.delivered ≡ capped (length datagrams)
 
 -- the same of an intake, or that none has begun, by no text
@@ -140,11 +140,11 @@ abbrev pub IsShortText : (List ℕ → Type 0) → Type 0
 IsShortText told = (octets : List ℕ) → told octets → length octets ≤ 16777216
 
 -- the SDP text that was read of a source, where one is given
-abbrev pub IsSaid : {S : Type 0} → (S → List ℕ → Type 0) → Option S → Option (List ℕ) → Type 0
-IsSaid told None None = ⊤
-IsSaid told None (Some text) = ⊥
-IsSaid told (Some sdp) None = ⊥
-IsSaid told (Some sdp) (Some text) =
+abbrev pub IsSaidText : {S : Type 0} → (S → List ℕ → Type 0) → Option S → Option (List ℕ) → Type 0
+IsSaidText told None None = ⊤
+IsSaidText told None (Some text) = ⊥
+IsSaidText told (Some sdp) None = ⊥
+IsSaidText told (Some sdp) (Some text) =
     ((octets : List ℕ) → told sdp octets → octets ≡ text) × IsShortText (told sdp)
 
 -- the SDP text by which a run opens its receiver: that which was read of the source that is given;

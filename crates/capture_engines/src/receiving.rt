@@ -6,7 +6,7 @@ ghost use Rattle.std.specs.List.{zip};
 ghost use Rattle.std.specs.Option.{option_copied, option_map};
 ghost use Rattle.run_outcome.specs.Moments.{WasRead, pair};
 ghost use Rattle.capture_engines.specs.Files.{octets_of, way_at};
-ghost use Rattle.capture_engines.specs.Rescued.{TakesPart, TakesUpTo};
+ghost use Rattle.capture_engines.specs.Rescued.{MayTake, TakesFilesUpTo};
 ghost use Rattle.capture_engines.specs.Stopping.{IsReadingStop, StopsOpened};
 ghost use Rattle.recording_reader.specs.FileReader.{IsSameFile};
 ghost use Rattle.recording_reader.specs.declared.way.Standing.TheVariants.{Ended, Reads};
@@ -18,7 +18,7 @@ ghost use Rattle.capture_engines.specs.Received.{IsWordRefusal, Opens};
 ghost use Rattle.capture_engines.specs.Receiving.{SavesShown};
 ghost use Rattle.run_outcome.specs.Refusing.{OfRefusal};
 ghost use Rattle.capture_engines.specs.Sent.{FirstIs};
-ghost use Rattle.capture_engines.specs.Taking.{HoldsBy, IsSaid, IsShortText, Receives};
+ghost use Rattle.capture_engines.specs.Taking.{HoldsBy, IsSaidText, IsShortText, Receives};
 ghost use Rattle.capture_engines.specs.Taking.{Stands, TakesFile, TakesFiles, TakesRecords};
 ghost use Rattle.run_outcome.specs.Sources.{IsSourceText};
 ghost use Rattle.run_outcome.specs.States.{SavesPart};
@@ -145,7 +145,7 @@ fn read_said<A: Allocator, S: ByteSource>(
     alloc: A,
     sdp: &mut Option<S>,
 ) -> Result<Option<Vec<u8, A>>, Fault>
-    ensures said { IfOk result (λ said. IsSaid (WasRead S.gave S.ended) (pair sdp.old sdp.new)
+    ensures said { IfOk result (λ said. IsSaidText (WasRead S.gave S.ended) (pair sdp.old sdp.new)
         (option_map (λ text. text.items) said)) }
     ensures refusal { IfErr result (λ f. OfRefusal f (λ r. (r ≡ ReceiveSdp)
         × MatchOption (pair sdp.old sdp.new) ⊥
@@ -258,7 +258,7 @@ pub(crate) fn take_all<A: Allocator + Copy, S: ByteSource>(
     ensures len { length files.new ≡ length files.old }
     ensures taken { OnOk result (TakesFiles opening.now ways.now (WasRead S.gave S.ended)
         (zip files.old files.new) begun.old begun.new) }
-    ensures sound { IfErr result (λ f. TakesUpTo opening.now ways.now S.gave S.ended f
+    ensures sound { IfErr result (λ f. TakesFilesUpTo opening.now ways.now S.gave S.ended f
         (zip files.old files.new) begun.old begun.new) }
     ensures none { OnOk result (begun.new ≡ None
         → (begun.old ≡ None) × (files.old ≡ [])) }
@@ -293,7 +293,7 @@ fn take_at<A: Allocator + Copy, S: ByteSource>(
     ensures taken { OnOk result (FirstIs (λ s. TakesFile opening.now (way_at ways.now place)
         (WasRead S.gave S.ended s) begun.old begun.new)
         (zip (drop place files.old) (drop place files.new))) }
-    ensures sound { IfErr result (λ f. FirstIs (TakesPart opening.now (way_at ways.now place)
+    ensures sound { IfErr result (λ f. FirstIs (MayTake opening.now (way_at ways.now place)
         S.gave S.ended f begun.old begun.new)
         (zip (drop place files.old) (drop place files.new))) }
     ensures begun { OnOk result (begun.new ≢ None) }
@@ -335,7 +335,7 @@ fn take_one<A: Allocator + Copy, S: ByteSource>(
     ensures text { length said.new ≡ length said.old }
     ensures taken { OnOk result (TakesFile opening.now way (IsRead (S.gave file.old)
         (S.gave file.new) (S.ended file.new)) begun.old begun.new) }
-    ensures sound { IfErr result (λ f. TakesPart opening.now way S.gave S.ended f begun.old
+    ensures sound { IfErr result (λ f. MayTake opening.now way S.gave S.ended f begun.old
         begun.new (file.old, file.new)) }
     ensures begun { OnOk result (begun.new ≢ None) }
     ensures opens { OnOk result (begun.old ≡ None → FileOpens opening.now.window.items way

@@ -9,7 +9,7 @@ use Rattle.capture_runs.specs.Outputs.{FilesFrames, SameOutputs, TakesAllOver, T
 use Rattle.capture_runs.specs.Outputs.{directory_under, files_failures, files_under, outputs_under}
 use Rattle.capture_runs.specs.Outputs.{pictures_failures, report_failures, report_under}
 use Rattle.capture_runs.specs.Outputs.{sinks_failures, written_failures}
-use Rattle.capture_runs.specs.Pictured.{IsSinkOver, SameFile, TakesPictures, failures_under}
+use Rattle.capture_runs.specs.Pictured.{IsSinkOver, SameFile, TakesPictureStream, failures_under}
 use Rattle.capture_runs.specs.Pictured.{file_under, octets_under}
 use Rattle.capture_runs.specs.Replayed.{replayed_ended, replayed_gave}
 use Rattle.capture_runs.specs.declared.outputs.FollowOutputs.{FollowOutputs}
@@ -29,7 +29,7 @@ use Rattle.follow_engine.specs.declared.telling.FollowTotals.{FollowTotals}
 use Rattle.following.specs.Following.{Handed}
 use Rattle.frame_sinks.specs.Files.{FilesFrame, files_for}
 use Rattle.frame_sinks.specs.Pictures.{form_stream, pictures_of}
-use Rattle.frame_sinks.specs.Sinks.{TakesBoth, TakesFrame, TakesLines, frames_report}
+use Rattle.frame_sinks.specs.Sinks.{SinkTakes, TakesBoth, TakesLines, frames_report}
 use Rattle.frame_sinks.specs.declared.files_sink.FilesSink.{FilesSink}
 use Rattle.frame_sinks.specs.declared.filling.Filling.{Filling}
 use Rattle.frame_sinks.specs.declared.form_sink.FormSink.{FormSink}
@@ -84,7 +84,7 @@ took_unplaced s = ap (λ (p : _). took_in p s.file.sink.progress) s.unplaced
 
 sink_wrote : {A : Type 0} (filling : Filling) (fill : Option (List ℕ)) (f : FileOutput)
     (k m : FormSink UnplacedOutput A) (hs : List Handed)
-    → IsSinkOver filling fill (Some f) (Some k) → TakesEachFrame (TakesFrame octets_under) k hs m
+    → IsSinkOver filling fill (Some f) (Some k) → TakesEachFrame (SinkTakes octets_under) k hs m
     → file_took m.sink.file
     ≡ file_took f ++ form_stream None (pictures_of filling fill None hs)
 sink_wrote filling fill f k m hs is all =
@@ -105,15 +105,15 @@ sink_wrote filling fill f k m hs is all =
 
 took_pictures : {A : Type 0} (filling : Filling) (fill : Option (List ℕ))
     (out : Option FileOutput) (k l : Option (FormSink UnplacedOutput A)) (hs : List Handed)
-    → IsSinkOver filling fill out k → TakesEachFrame (TakesIn (TakesFrame octets_under)) k hs l
-    → TakesPictures filling fill hs out (file_under l)
+    → IsSinkOver filling fill out k → TakesEachFrame (TakesIn (SinkTakes octets_under)) k hs l
+    → TakesPictureStream filling fill hs out (file_under l)
 took_pictures filling fill None k l hs is all =
-    ap file_under (none_stays (TakesFrame octets_under) k l hs is all)
+    ap file_under (none_stays (SinkTakes octets_under) k l hs is all)
 took_pictures filling fill (Some f) None l hs is all = absurd is
 took_pictures filling fill (Some f) (Some k) l hs is all =
-    let r = some_took (TakesFrame octets_under) k l hs all in
+    let r = some_took (SinkTakes octets_under) k l hs all in
     subst (λ (x : Option (FormSink UnplacedOutput _)).
-    TakesPictures filling fill hs (Some f) (file_under x)) (sym r.1)
+    TakesPictureStream filling fill hs (Some f) (file_under x)) (sym r.1)
     (sink_wrote filling fill f k r.0 hs is r.2)
 
 report_wrote : (f : FileOutput) (k m : ReportSink UnplacedOutput) (hs : List Handed)
@@ -180,12 +180,12 @@ listed (h ∷ hs) frames = (
 pub all_under : {A : Type 0} (filling : Filling) (fill : Option (List ℕ)) (o : FollowOutputs)
     (k l : FollowSinks A) (hs : List Handed) → AreSinksOver filling fill o k
     → TakesEachFrame TakesAllOver k hs l
-    → TakesPictures filling fill hs o.out (file_under l.first)
+    → TakesPictureStream filling fill hs o.out (file_under l.first)
     × TakesReport hs o.report (report_under l.second.first)
     × FilesFrames filling fill hs o.pictures (directory_under l.second.second)
 all_under filling fill o k l hs over is =
     let both =
-    all_both (TakesIn (TakesFrame octets_under)) (TakesBoth (TakesIn (TakesLines octets_under))
+    all_both (TakesIn (SinkTakes octets_under)) (TakesBoth (TakesIn (TakesLines octets_under))
     (TakesIn (FilesFrame files_under))) k l hs is in
     let others =
     all_both (TakesIn (TakesLines octets_under)) (TakesIn (FilesFrame files_under)) k.second
@@ -320,8 +320,8 @@ accounts_file r a a' b b' m m' c c' before after is =
 -- ---- a file that is settled
 
 pub settled_pictures : (filling : Filling) (fill : Option (List ℕ)) (frames : List Handed)
-    (out mid new : Option FileOutput) → TakesPictures filling fill frames out mid
-    → SameFile mid new → TakesPictures filling fill frames out new
+    (out mid new : Option FileOutput) → TakesPictureStream filling fill frames out mid
+    → SameFile mid new → TakesPictureStream filling fill frames out new
 settled_pictures filling fill frames None None new is same = same
 settled_pictures filling fill frames None (Some g) new is same = absurd cc
 settled_pictures filling fill frames (Some f) None new is same = absurd is

@@ -2,8 +2,8 @@
 use Rattle.std.specs.Prelude.{◌≡◌, ◌⊎◌, ℕ, Bool, List, [], ◌∷◌, ◌++◌, IsTrue, Option, Result}
 use Rattle.std.specs.List.{AllByRecursion}
 use Rattle.capture_runs.specs.Outputs.{FilesFrames, TakesReport}
-use Rattle.capture_runs.specs.Pictured.{IsFillRefusal, TakesPictures}
-use Rattle.capture_runs.specs.Refused.{IsFlowRefusal, IsTooLong}
+use Rattle.capture_runs.specs.Pictured.{IsFillRefusal, TakesPictureStream}
+use Rattle.capture_runs.specs.Refused.{IsFlowRefusal, IsTooLongSdp}
 use Rattle.capture_runs.specs.Replayed.{replayed_ended, replayed_gave}
 use Rattle.capture_runs.specs.declared.opening.Files.{Files}
 use Rattle.capture_runs.specs.declared.outputs.FollowOutputs.{FollowOutputs}
@@ -11,7 +11,7 @@ use Rattle.capture_runs.specs.declared.replayed.Replayed.{Replayed}
 use Rattle.flow.specs.declared.flows.Flows.{Flows}
 use Rattle.follow_engine.specs.Followed.{FollowsWhole, StopsShort}
 use Rattle.follow_engine.specs.Opened.{AllClosedSides}
-use Rattle.follow_engine.specs.Refused.{IsWordRefusal}
+use Rattle.follow_engine.specs.Refused.{IsFollowWordRefusal}
 use Rattle.follow_engine.specs.Sides.{SideRead}
 use Rattle.follow_engine.specs.declared.opening.FollowAsked.{FollowAsked}
 use Rattle.follow_engine.specs.declared.telling.FollowTotals.{FollowTotals}
@@ -32,9 +32,9 @@ AreNewSides sides =
 -- to be written is read; of the SDP's length; of the words for flows.
 abbrev pub IsFollowOpening : FollowAsked → Option (List ℕ) → Bool → Option (List ℕ)
     → Option (List ℕ) → Files → Refusal → Type 0
-IsFollowOpening w fill is_input a b files r = IsWordRefusal w.frames w.ssrc.now r
+IsFollowOpening w fill is_input a b files r = IsFollowWordRefusal w.frames w.ssrc.now r
     ⊎ (IsFillRefusal fill r ⊎ ((r ≡ OutputIsInput Follow) × IsTrue is_input
-    ⊎ (IsTooLong files.sdp r ⊎ IsFlowRefusal a b r)))
+    ⊎ (IsTooLongSdp files.sdp r ⊎ IsFlowRefusal a b r)))
 
 -- these frames are listed, each behind those before it
 abbrev pub IsListed : List Handed → Handed → List Handed → Type 0
@@ -51,7 +51,7 @@ pub record FollowsFiles {A : Type 0} (w : FollowAsked) (sdp : Option (List ℕ))
   pub totals : FollowTotals
   pub follows : FollowsWhole w sdp ways (SideRead replayed_gave replayed_ended) files IsListed []
       frames took took' totals
-  pub written : TakesPictures filling fill frames outputs.out outputs'.out
+  pub written : TakesPictureStream filling fill frames outputs.out outputs'.out
   pub reported : TakesReport frames outputs.report outputs'.report
   pub filed : FilesFrames filling fill frames outputs.pictures outputs'.pictures
 
@@ -65,6 +65,6 @@ pub record StopsFiles {A : Type 0} (w : FollowAsked) (sdp : Option (List ℕ))
   pub frames : List Handed
   pub stops : StopsShort w sdp ways (SideRead replayed_gave replayed_ended) files IsListed []
       frames took took'
-  pub written : TakesPictures filling fill frames outputs.out outputs'.out
+  pub written : TakesPictureStream filling fill frames outputs.out outputs'.out
   pub reported : TakesReport frames outputs.report outputs'.report
   pub filed : FilesFrames filling fill frames outputs.pictures outputs'.pictures

@@ -2,9 +2,9 @@
 use Rattle.std.specs.Prelude.{◌≡◌, ℕ, ◌⊎◌, ⊤, List, Bool, true, false, Option, None, Some, Result}
 use Rattle.std.specs.Prelude.{Ok, Err, All, Any, sum_by, if◌then◌else◌, ◌∷◌, [], vec_len}
 use Rattle.std.specs.List.{zip}
-use Rattle.capture_runs.specs.Looked.{IsCapture, IsFresh, IsNoCapture}
+use Rattle.capture_runs.specs.Looked.{IsCapture, IsNoCapture, ReadNone}
 use Rattle.capture_runs.specs.Opened.{AreUnread, said_text}
-use Rattle.capture_runs.specs.Refused.{IsFlowRefusal, IsTooLong}
+use Rattle.capture_runs.specs.Refused.{IsFlowRefusal, IsTooLongSdp}
 use Rattle.capture_runs.specs.Replayed.{ReplayedRead, replayed_failures}
 use Rattle.capture_runs.specs.declared.aim.Aim.{Aim}
 use Rattle.capture_runs.specs.declared.aim.Aim.TheVariants as aim
@@ -46,7 +46,7 @@ IsAim None false looked told = IsSeen looked told
 -- what is read, of which nothing is read yet: that file of the SDP was
 pub record AreFresh (f : Inspected) : Type 0 where
   pub streams : AreUnread f.streams
-  pub flows : All IsFresh f.flows.items
+  pub flows : All ReadNone f.flows.items
 
 -- the files that are read are so many
 abbrev pub CountFiles : ℕ → Inspected → Aim → Type 0
@@ -65,7 +65,7 @@ abbrev pub IsSetRefusal : Option (Result Target FormatFault) → Option (List �
     → Inspected → Refusal → Type 0
 IsSetRefusal target a b f r =
     ((fault : FormatFault) × (target ≡ Some (Err fault)) × (r ≡ Script 1 (line.Format fault)))
-    ⊎ IsTooLong f.streams.sdp r ⊎ IsFlowRefusal a b r
+    ⊎ IsTooLongSdp f.streams.sdp r ⊎ IsFlowRefusal a b r
 
 -- ---- what was told
 
@@ -85,7 +85,7 @@ TellsFlows is_json old new shown shown' =
 -- what was printed is told of all datagrams of the captures and recordings that were read
 abbrev pub TellsStream : Wanted → Bool → Files → Files → List ℕ → List ℕ → Type 0
 TellsStream w is_json old new shown shown' =
-    streams.Tells w (stream_form is_json) (said_text old.said) old.ways.items ReplayedRead
+    streams.TellsStreams w (stream_form is_json) (said_text old.said) old.ways.items ReplayedRead
     (zip old.recordings.items new.recordings.items) None shown shown'
 
 -- what was printed is what was asked for: the flows, or a stream
@@ -102,8 +102,8 @@ IsFlowsRefusal is_json old new shown shown' =
     flows.IsInspectRefusal (flow_form is_json) ReplayedRead (zip old new) shown shown'
 
 -- so of a stream that is told
-abbrev pub IsStreamRefusal : Wanted → Bool → Files → Files → List ℕ → List ℕ → Refusal → Type 0
-IsStreamRefusal w is_json old new shown shown' r =
+abbrev pub IsToldStreamRefusal : Wanted → Bool → Files → Files → List ℕ → List ℕ → Refusal → Type 0
+IsToldStreamRefusal w is_json old new shown shown' r =
     streams.IsStreamsRefusal w (stream_form is_json) (said_text old.said) old.ways.items
     ReplayedRead (zip old.recordings.items new.recordings.items) shown shown' r
 
@@ -112,7 +112,7 @@ abbrev pub IsAimRefusal : Aim → Bool → Inspected → Inspected → List ℕ 
 IsAimRefusal aim.Flows is_json old new shown shown' r =
     IsFlowsRefusal is_json old.flows.items new.flows.items shown shown' r
 IsAimRefusal (aim.Streams w) is_json old new shown shown' r =
-    IsStreamRefusal w is_json old.streams new.streams shown shown' r
+    IsToldStreamRefusal w is_json old.streams new.streams shown shown' r
 
 -- which devices failed, by what the run came to
 abbrev pub AccountsRead : List Replayed → List Replayed → Failures → Result (Unit {0}) Fault

@@ -35,5 +35,5 @@ pub record HaveCapture (is : Bool) (files : List Replayed) : Type 0 where
   pub no : is ≡ false → All IsNoCapture files
 
 -- nothing of a file was read yet
-abbrev pub IsFresh : Replayed → Type 0
-IsFresh r = replayed_gave r ≡ []
+abbrev pub ReadNone : Replayed → Type 0
+ReadNone r = replayed_gave r ≡ []

@@ -1,7 +1,7 @@
 -- The files that `follow` writes, where they are named (own).
 use Rattle.std.specs.Prelude.{◌≡◌, ◌⊎◌, ◌+◌, ℕ, Bool, List, [], ◌++◌, Option, None, Some, IfSome}
 use Rattle.std.specs.Prelude.{IsFalse, IsSome, option_map}
-use Rattle.capture_runs.specs.Pictured.{IsSinkOver, SameFile, TakesPictures, failures_under}
+use Rattle.capture_runs.specs.Pictured.{IsSinkOver, SameFile, TakesPictureStream, failures_under}
 use Rattle.capture_runs.specs.Pictured.{file_under, octets_under}
 use Rattle.capture_runs.specs.declared.outputs.FollowOutputs.{FollowOutputs}
 use Rattle.capture_runs.specs.declared.picture_directory.PictureDirectory.{PictureDirectory}
@@ -13,7 +13,7 @@ use Rattle.following.specs.Following.{Handed}
 use Rattle.follow_engine.specs.Shown.{TakesIn}
 use Rattle.frame_sinks.specs.Files.{FilesFrame, files_for}
 use Rattle.frame_sinks.specs.Pictures.{pictures_of}
-use Rattle.frame_sinks.specs.Sinks.{TakesBoth, TakesFrame, TakesLines, frames_report}
+use Rattle.frame_sinks.specs.Sinks.{SinkTakes, TakesBoth, TakesLines, frames_report}
 use Rattle.frame_sinks.specs.declared.both.BothSinks.{BothSinks}
 use Rattle.frame_sinks.specs.declared.files_sink.FilesSink.{FilesSink}
 use Rattle.frame_sinks.specs.declared.filling.Filling.{Filling}
@@ -141,7 +141,7 @@ outputs_under k = outputs_of (file_under k.first) (report_under k.second.first)
 
 -- all of them took a frame
 abbrev pub TakesAllOver : {A : Type 0} → FollowSinks A → Handed → FollowSinks A → Type 0
-TakesAllOver k h l = TakesBoth (TakesIn (TakesFrame octets_under))
+TakesAllOver k h l = TakesBoth (TakesIn (SinkTakes octets_under))
     (TakesBoth (TakesIn (TakesLines octets_under)) (TakesIn (FilesFrame files_under))) k h l
 
 -- how often the files under sinks failed, all together

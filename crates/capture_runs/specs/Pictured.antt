@@ -23,14 +23,14 @@ IsFillGiven (Some text) (Some fill) =
     IsFillText text (slice_index fill 0) (slice_index fill 1) (slice_index fill 2)
 
 -- a text says none
-abbrev pub SaysNoFill : Option (List ℕ) → Type 0
-SaysNoFill None = ⊥
-SaysNoFill (Some text) =
+abbrev pub IsNoFillText : Option (List ℕ) → Type 0
+IsNoFillText None = ⊥
+IsNoFillText (Some text) =
     (a b c : ℕ) → a < 65536 → b < 65536 → c < 65536 → IsFillText text a b c → ⊥
 
 -- the refusal of such a text
 abbrev pub IsFillRefusal : Option (List ℕ) → Refusal → Type 0
-IsFillRefusal text r = (r ≡ FollowFill) × SaysNoFill text
+IsFillRefusal text r = (r ≡ FollowFill) × IsNoFillText text
 
 -- ---- the file
 
@@ -62,9 +62,9 @@ SameFile (Some f) (Some g) =
     (file_took g ≡ file_took f) × (writing_failures g ≡ writing_failures f)
 
 -- A file took the stream of the pictures of these frames, where there is one; and nothing else.
-abbrev pub TakesPictures : Filling → Option (List ℕ) → List Handed → Option FileOutput
+abbrev pub TakesPictureStream : Filling → Option (List ℕ) → List Handed → Option FileOutput
     → Option FileOutput → Type 0
-TakesPictures filling fill frames None g = g ≡ None
-TakesPictures filling fill frames (Some f) None = ⊥
-TakesPictures filling fill frames (Some f) (Some g) =
+TakesPictureStream filling fill frames None g = g ≡ None
+TakesPictureStream filling fill frames (Some f) None = ⊥
+TakesPictureStream filling fill frames (Some f) (Some g) =
     file_took g ≡ file_took f ++ form_stream None (pictures_of filling fill None frames)

@@ -2,7 +2,7 @@
 use Rattle.std.specs.Prelude.{◌≡◌, ℕ, List, length, All, Option, None, Some, Result}
 use Rattle.std.specs.List.{zip}
 use Rattle.capture_engines.specs.Received as words
-use Rattle.capture_runs.specs.Looked.{IsFresh}
+use Rattle.capture_runs.specs.Looked.{ReadNone}
 use Rattle.capture_runs.specs.Replayed.{ReplayedRead}
 use Rattle.capture_runs.specs.declared.replayed.Replayed.{Replayed}
 use Rattle.capture_runs.specs.declared.window.Found.{Found}
@@ -21,9 +21,9 @@ window_text None window = window
 window_text (Some f) window = f.window.items
 
 -- the words ask for this: the first so many timestamps of a source, or else those that they list
-abbrev pub IsAsked : List ℕ → List ℕ → Option Sought → Type 0
-IsAsked window source None = ((count : ℕ) → AsksFirst window count → ⊥)
-IsAsked window source (Some s) = AsksFirst window s.count × IsSourceText source s.ssrc
+abbrev pub IsSought : List ℕ → List ℕ → Option Sought → Type 0
+IsSought window source None = ((count : ℕ) → AsksFirst window count → ⊥)
+IsSought window source (Some s) = AsksFirst window s.count × IsSourceText source s.ssrc
 
 -- The window that was found is that of the first timestamps that the words ask for, by the SDP text
 -- that is given, of what was read of files from their fronts on, each taken so.
@@ -35,21 +35,21 @@ pub record IsFound (window source : List ℕ) (sdp : Option (List ℕ))
   pub from : IsSourceText source ssrc
   pub timestamps : List ℕ
   pub text : AreTimestamps f.window.items timestamps
-  pub unread : All IsFresh f.fresh.value.items
+  pub unread : All ReadNone f.fresh.value.items
   pub first : FindsFirst count ssrc sdp ways ReplayedRead
       (zip f.fresh.value.items f.read.value.items) timestamps
 
 -- So it is where the words don't list timestamps; where they do, none was looked for.
-abbrev pub IsWindow : List ℕ → List ℕ → Option (List ℕ) → List (Result Flows Refusal)
+abbrev pub IsFoundWindow : List ℕ → List ℕ → Option (List ℕ) → List (Result Flows Refusal)
     → Option Found → Type 0
-IsWindow window source sdp ways None = ((count : ℕ) → AsksFirst window count → ⊥)
-IsWindow window source sdp ways (Some f) = IsFound window source sdp ways f
+IsFoundWindow window source sdp ways None = ((count : ℕ) → AsksFirst window count → ⊥)
+IsFoundWindow window source sdp ways (Some f) = IsFound window source sdp ways f
 
 -- ---- refusals
 
 -- The refusals of the words: those of listed timestamps and of the source; and the window's only
 -- where it asks for no first timestamps either.
-pub record IsWordRefusal (window source : List ℕ) (r : Refusal) : Type 0 where
+pub record IsWindowWordRefusal (window source : List ℕ) (r : Refusal) : Type 0 where
   pub is : words.IsWordRefusal window source r
   pub other : r ≡ ReceiveWindow → (count : ℕ) → AsksFirst window count → ⊥
 
@@ -62,6 +62,6 @@ pub record IsLookedRefusal (window source : List ℕ) (sdp : Option (List ℕ))
   pub asked : AsksFirst window count
   pub from : IsSourceText source ssrc
   pub fresh : List Replayed
-  pub unread : All IsFresh fresh
+  pub unread : All ReadNone fresh
   pub each : length looked ≡ length fresh
   pub is : IsFindRefusal count ssrc sdp ways ReplayedRead (zip fresh looked) r

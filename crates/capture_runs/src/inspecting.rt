@@ -4,11 +4,11 @@ ghost use Rattle.std.specs.Prelude.{length, vec_len, ◌||◌};
 ghost use Rattle.std.specs.Option.{option_copied};
 ghost use Rattle.capture_runs.specs.Inspected.{AccountsAim, AccountsRead, AreFresh, CountFiles};
 ghost use Rattle.capture_runs.specs.Inspected.{IsAim, IsAimRefusal, IsFlowsRefusal, IsSeen};
-ghost use Rattle.capture_runs.specs.Inspected.{IsSetRefusal, IsStreamRefusal, TakesByWays};
+ghost use Rattle.capture_runs.specs.Inspected.{IsSetRefusal, IsToldStreamRefusal, TakesByWays};
 ghost use Rattle.capture_runs.specs.Inspected.{TellsAim, TellsFlows, TellsStream, flow_form};
 ghost use Rattle.capture_runs.specs.Inspected.{stream_form};
 ghost use Rattle.capture_runs.specs.Opened.{AreUnread, said_text};
-ghost use Rattle.capture_runs.specs.Refused.{IsFlowRefusal, IsTooLong};
+ghost use Rattle.capture_runs.specs.Refused.{IsFlowRefusal, IsTooLongSdp};
 ghost use Rattle.devices.specs.Passed.{output_failures, output_took};
 ghost use Rattle.recording_engines.specs.Ways.{AreWaysBy};
 ghost use Rattle.run_outcome.specs.Fault.{counts};
@@ -158,7 +158,7 @@ fn open_named<'a>(
     ensures each { IfOk result (CountFiles (length asked.entry.recordings.now) files.new) }
     ensures ways { IfOk result (TakesByWays (option_copied asked.entry.flows.a)
         (option_copied asked.entry.flows.b) (length asked.entry.recordings.now) files.new) }
-    ensures refusal { IfErr result (λ f. OfRefusal f (λ r. IsTooLong files.new.streams.sdp r
+    ensures refusal { IfErr result (λ f. OfRefusal f (λ r. IsTooLongSdp files.new.streams.sdp r
         ⊎ IsFlowRefusal (option_copied asked.entry.flows.a)
         (option_copied asked.entry.flows.b) r)) }
 {
@@ -180,7 +180,7 @@ fn open_looked<'a>(
     ensures each { IfOk result (CountFiles (length asked.entry.recordings.now) files.new) }
     ensures ways { IfOk result (TakesByWays (option_copied asked.entry.flows.a)
         (option_copied asked.entry.flows.b) (length asked.entry.recordings.now) files.new) }
-    ensures refusal { IfErr result (λ f. OfRefusal f (λ r. IsTooLong files.new.streams.sdp r
+    ensures refusal { IfErr result (λ f. OfRefusal f (λ r. IsTooLongSdp files.new.streams.sdp r
         ⊎ IsFlowRefusal (option_copied asked.entry.flows.a)
         (option_copied asked.entry.flows.b) r)) }
 {
@@ -207,7 +207,7 @@ fn open_streams<'a>(
     ensures ways { OnOk result (AreWaysBy (option_copied asked.entry.flows.a)
         (option_copied asked.entry.flows.b) (said_text files.new.said)
         (length asked.entry.recordings.now) files.new.ways.items) }
-    ensures refusal { IfErr result (λ f. OfRefusal f (λ r. IsTooLong files.new.sdp r
+    ensures refusal { IfErr result (λ f. OfRefusal f (λ r. IsTooLongSdp files.new.sdp r
         ⊎ IsFlowRefusal (option_copied asked.entry.flows.a)
         (option_copied asked.entry.flows.b) r)) }
 {
@@ -265,7 +265,7 @@ fn tell_stream(
 ) -> Result<(), Fault>
     ensures told { OnOk result (TellsStream wanted is_json files.old files.new
         (output_took output.old) (output_took output.new)) }
-    ensures refusal { IfErr result (λ f. OfRefusal f (λ r. IsStreamRefusal wanted is_json
+    ensures refusal { IfErr result (λ f. OfRefusal f (λ r. IsToldStreamRefusal wanted is_json
         files.old files.new (output_took output.old) (output_took output.new) r)) }
     ensures owed { AccountsRead files.old.recordings.items files.new.recordings.items
         (counts (output_failures output.old) (output_failures output.new)) result }

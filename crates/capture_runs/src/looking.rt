@@ -2,7 +2,7 @@
 ghost use Rattle.std.specs.Prelude.{◌≡◌, ◌+◌, ◌++◌, ◌∷◌, [], All, IfErr, IfOk, OnOk, length};
 ghost use Rattle.std.specs.Prelude.{false, true, vec_len};
 ghost use Rattle.std.specs.Str.{bytes_eq};
-ghost use Rattle.capture_runs.specs.Looked.{HaveCapture, IsFresh, IsLooked};
+ghost use Rattle.capture_runs.specs.Looked.{HaveCapture, IsLooked, ReadNone};
 ghost use Rattle.media_file.specs.Fronts.{capture_name};
 ghost use Rattle.run_outcome.specs.Fault.{IfRefused};
 
@@ -29,7 +29,7 @@ pub(crate) fn files_of<'a>(
     is_twice: bool,
     meter: &Meter,
 ) -> Result<Vec<Replayed<'a>>, Fault>
-    ensures fresh { IfOk result (λ files. All IsFresh files.items) }
+    ensures fresh { IfOk result (λ files. All ReadNone files.items) }
     ensures each { IfOk result (λ files. vec_len files ≡ length names.now) }
     ensures unrefused { IfErr result (λ f. IfRefused f ⊥) }
 {
@@ -42,7 +42,7 @@ pub(crate) fn files_of<'a>(
 
 /// The file of this name. What it gives is kept where it may be to be read twice.
 fn file_of<'a>(rt: &'a HostRuntime, name: &'a str, is_twice: bool, meter: &Meter) -> Replayed<'a>
-    ensures { IsFresh result }
+    ensures { ReadNone result }
 {
     if is_twice {
         Replayed::first(rt, name, meter)
@@ -77,7 +77,7 @@ impl<'a> Looked<'a> {
     /// Puts one more file behind, and looks at it where none before it begins as a capture.
     fn add(&mut self, file: Replayed<'a>) -> Result<(), Fault>
         requires looked { HaveCapture self.old.have_capture self.old.files.items }
-        requires fresh { IsFresh file }
+        requires fresh { ReadNone file }
         ensures looked { OnOk result (HaveCapture self.new.have_capture self.new.files.items) }
         ensures each { OnOk result (vec_len self.new.files ≡ vec_len self.old.files + 1) }
         ensures unrefused { IfErr result (λ f. IfRefused f ⊥) }
@@ -92,7 +92,7 @@ impl<'a> Looked<'a> {
 
 /// Whether a file begins as a capture, or one before it does: then it isn't looked at.
 fn look(have_capture: bool, file: &mut Replayed<'_>) -> bool
-    requires { IsFresh file.old }
+    requires { ReadNone file.old }
     ensures kept { have_capture ≡ true → result ≡ true }
     ensures looked { have_capture ≡ false → IsLooked result file.new }
 {
@@ -104,7 +104,7 @@ fn look(have_capture: bool, file: &mut Replayed<'_>) -> bool
 
 /// Whether a file begins as a capture. Of one that can't be read that isn't said.
 fn begins_capture(file: &mut Replayed<'_>) -> bool
-    requires { IsFresh file.old }
+    requires { ReadNone file.old }
     ensures { IsLooked result file.new }
 {
     let mut front = [0u8; 6];
@@ -136,7 +136,7 @@ pub(crate) fn fresh_files<'a>(
     rt: &HostRuntime,
     files: Vec<Replayed<'a>>,
 ) -> Result<Vec<Replayed<'a>>, Fault>
-    ensures fresh { IfOk result (λ fresh. All IsFresh fresh.items) }
+    ensures fresh { IfOk result (λ fresh. All ReadNone fresh.items) }
     ensures each { IfOk result (λ fresh. vec_len fresh ≡ vec_len files.entry) }
     ensures unrefused { IfErr result (λ f. IfRefused f ⊥) }
 {

@@ -3,11 +3,11 @@
 ghost use Rattle.std.specs.Prelude.{◌≡◌, ◌⊎◌, [], All, IfErr, IfOk, IsFalse, None, OnOk, Some};
 ghost use Rattle.std.specs.Prelude.{length, vec_len};
 ghost use Rattle.std.specs.Option.{option_copied};
-ghost use Rattle.capture_runs.specs.Looked.{IsFresh};
+ghost use Rattle.capture_runs.specs.Looked.{ReadNone};
 ghost use Rattle.capture_runs.specs.Opened.{AreUnread, said_text};
-ghost use Rattle.capture_runs.specs.Refused.{IsFlowRefusal, IsOpeningRefusal, IsTooLong};
+ghost use Rattle.capture_runs.specs.Refused.{IsFlowRefusal, IsReceiveStartRefusal, IsTooLongSdp};
 ghost use Rattle.capture_runs.specs.Replayed.{replayed_ended, replayed_gave};
-ghost use Rattle.capture_runs.specs.Window.{IsAsked, IsLookedRefusal, IsWindow};
+ghost use Rattle.capture_runs.specs.Window.{IsFoundWindow, IsLookedRefusal, IsSought};
 ghost use Rattle.devices.specs.Passed.{IsUnplaced, LeavesNoPart, file_took};
 ghost use Rattle.recording_engines.specs.Ways.{AreWaysBy};
 ghost use Rattle.run_outcome.specs.Refusing.{OfRefusal};
@@ -90,7 +90,7 @@ impl<'a> Files<'a> {
         requires unread { AreUnread self.old }
         requires none { self.old.found ≡ None }
         ensures unread { AreUnread self.new }
-        ensures found { OnOk result (IsWindow asked.entry.wanted.window.now
+        ensures found { OnOk result (IsFoundWindow asked.entry.wanted.window.now
             asked.entry.wanted.ssrc.now (said_text self.new.said) self.new.ways.items
             self.new.found) }
         ensures ways { OnOk result (AreWaysBy (option_copied asked.entry.flows.a)
@@ -100,7 +100,7 @@ impl<'a> Files<'a> {
         ensures unplaced { IsUnplaced state.old → IsUnplaced state.new }
         ensures rest { LeavesNoPart state.old → LeavesNoPart state.new }
         ensures apart { OnOk result (IsFalse is_input) }
-        ensures refusal { IfErr result (λ f. OfRefusal f (IsOpeningRefusal
+        ensures refusal { IfErr result (λ f. OfRefusal f (IsReceiveStartRefusal
             asked.entry.wanted.window.now asked.entry.wanted.ssrc.now is_input
             (option_copied asked.entry.flows.a) (option_copied asked.entry.flows.b)
             self.new)) }
@@ -123,7 +123,7 @@ impl<'a> Files<'a> {
         requires { AreUnread self.old }
         ensures unread { AreUnread self.new }
         ensures found { self.new.found ≡ self.old.found }
-        ensures refusal { IfErr result (λ f. OfRefusal f (IsTooLong self.new.sdp)) }
+        ensures refusal { IfErr result (λ f. OfRefusal f (IsTooLongSdp self.new.sdp)) }
     {
         let Some(name) = name else {
             return Ok(());
@@ -188,11 +188,11 @@ impl<'a> Files<'a> {
         sought: Sought,
     ) -> Result<(), Fault>
         requires unread { AreUnread self.old }
-        requires asked { IsAsked asked.wanted.window.now asked.wanted.ssrc.now (Some sought) }
+        requires asked { IsSought asked.wanted.window.now asked.wanted.ssrc.now (Some sought) }
         ensures unread { AreUnread self.new }
         ensures said { self.new.said ≡ self.old.said }
         ensures ways { self.new.ways ≡ self.old.ways }
-        ensures found { OnOk result (IsWindow asked.entry.wanted.window.now
+        ensures found { OnOk result (IsFoundWindow asked.entry.wanted.window.now
             asked.entry.wanted.ssrc.now (said_text self.new.said) self.new.ways.items
             self.new.found) }
         ensures refusal { IfErr result (λ f. OfRefusal f (IsLookedRefusal
@@ -282,7 +282,7 @@ fn read_said(rt: &HostRuntime, file: &mut Replayed<'_>) -> Result<Vec<u8>, Fault
     requires { replayed_gave file.old ≡ [] }
     ensures said { IfOk result (λ said. GivesText 16777216 [] (replayed_gave file.new)
         (replayed_ended file.new) said.items) }
-    ensures refusal { IfErr result (λ f. OfRefusal f (IsTooLong (Some file.new))) }
+    ensures refusal { IfErr result (λ f. OfRefusal f (IsTooLongSdp (Some file.new))) }
 {
     match read_text(rt.alloc(), file, MOST_TEXT)? {
         Some(said) => Ok(said),

@@ -8,10 +8,10 @@ ghost use Rattle.capture_engines.specs.Received.{IsReceivingRefusal};
 ghost use Rattle.capture_engines.specs.Rescued.{Rescues};
 ghost use Rattle.capture_engines.specs.Taking.{ReceivesFiles};
 ghost use Rattle.capture_runs.specs.Opened.{AreUnread, said_text};
-ghost use Rattle.capture_runs.specs.Refused.{IsOpeningRefusal};
+ghost use Rattle.capture_runs.specs.Refused.{IsReceiveStartRefusal};
 ghost use Rattle.capture_runs.specs.Replayed.{ReplayedRead, replayed_ended, replayed_failures};
 ghost use Rattle.capture_runs.specs.Replayed.{replayed_gave};
-ghost use Rattle.capture_runs.specs.Window.{IsWindow, window_text};
+ghost use Rattle.capture_runs.specs.Window.{IsFoundWindow, window_text};
 ghost use Rattle.command_end.specs.Untouched.{AreUntouched};
 ghost use Rattle.devices.specs.Passed.{HasNoPart, IsInPlace, IsUnplaced, LeavesNoPart};
 ghost use Rattle.devices.specs.Passed.{file_took, output_failures, output_took, sink_failures};
@@ -202,12 +202,12 @@ impl<'a> Command for ReceiveCommand<'a> {
     ghost is_new = { λ c. AreUnread c.files × (c.reception ≡ None)
         × (file_took c.state ≡ []) × IsUnplaced c.state × LeavesNoPart c.state
         × (output_took c.output ≡ []) × OnOk c.opened (IsFalse c.is_input)
-        × OnOk c.opened (IsWindow c.asked.wanted.window.now c.asked.wanted.ssrc.now
+        × OnOk c.opened (IsFoundWindow c.asked.wanted.window.now c.asked.wanted.ssrc.now
         (said_text c.files.said) c.files.ways.items c.files.found)
         × OnOk c.opened (AreWaysBy (option_copied c.asked.flows.a)
         (option_copied c.asked.flows.b) (said_text c.files.said)
         (length c.asked.recordings.now) c.files.ways.items)
-        × IfErr c.opened (λ f. OfRefusal f (IsOpeningRefusal c.asked.wanted.window.now
+        × IfErr c.opened (λ f. OfRefusal f (IsReceiveStartRefusal c.asked.wanted.window.now
         c.asked.wanted.ssrc.now c.is_input (option_copied c.asked.flows.a)
         (option_copied c.asked.flows.b) c.files)) };
 

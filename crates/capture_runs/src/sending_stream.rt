@@ -9,7 +9,7 @@ ghost use Rattle.run_outcome.specs.Fault.{Accounts, IfRefused, counts, failures_
 ghost use Rattle.run_outcome.specs.Moments.{WasRead};
 ghost use Rattle.run_outcome.specs.Refusing.{OfRefusal};
 ghost use Rattle.run_outcome.specs.declared.refusal.Writer.TheVariants.{Send};
-ghost use Rattle.stream_sending.specs.Sent.{IsStreamRefusal, SendsStream};
+ghost use Rattle.stream_sending.specs.Sent.{IsSentStreamRefusal, SendsStream};
 
 use crate::sending::{is_typed, sending};
 use capture_engines::Sending;
@@ -86,7 +86,7 @@ fn send<'a>(
     ensures unplaced { IsUnplaced out.new }
     ensures apart { OnOk result (IsFalse is_input) }
     ensures refusal { IfErr result (λ f. OfRefusal f (IsInTurn Send is_input ⊤ (λ _. ⊥)
-        (IsStreamRefusal wanted.max_octets sdp.old sdp.new (WasRead file_gave file_ended)
+        (IsSentStreamRefusal wanted.max_octets sdp.old sdp.new (WasRead file_gave file_ended)
         (FileRead stream.old stream.new)))) }
     ensures quiet { IfErr result (λ f. IfRefused f
         (output_took output.new ≡ output_took output.old)) }
@@ -123,7 +123,7 @@ impl<'a> Command for SendStreamCommand<'a> {
 
     // Then nothing is printed.
     ghost is_refused = { λ old new r. IsInTurn Send old.is_input ⊤ (λ _. ⊥)
-        (IsStreamRefusal old.wanted.max_octets old.sdp new.sdp
+        (IsSentStreamRefusal old.wanted.max_octets old.sdp new.sdp
         (WasRead file_gave file_ended) (FileRead old.stream new.stream)) r
         × (output_took new.output ≡ output_took old.output) };
 

@@ -2,9 +2,10 @@
 ghost use Rattle.std.specs.Prelude.{◌≡◌, ◌<◌, All, IfErr, IfOk, Some, length};
 ghost use Rattle.std.specs.List.{zip};
 ghost use Rattle.std.specs.Option.{option_copied};
-ghost use Rattle.capture_runs.specs.Looked.{IsFresh};
+ghost use Rattle.capture_runs.specs.Looked.{ReadNone};
 ghost use Rattle.capture_runs.specs.Replayed.{ReplayedRead};
-ghost use Rattle.capture_runs.specs.Window.{IsAsked, IsFound, IsLookedRefusal, IsWordRefusal};
+ghost use Rattle.capture_runs.specs.Window.{IsFound, IsLookedRefusal, IsSought};
+ghost use Rattle.capture_runs.specs.Window.{IsWindowWordRefusal};
 ghost use Rattle.capture_runs.specs.Window.{window_text};
 ghost use Rattle.run_outcome.specs.Refusing.{OfRefusal};
 ghost use Rattle.window_finding.specs.Finding.{FindsFirst, IsFindRefusal};
@@ -35,9 +36,9 @@ pub struct Found<'a> {
 /// `ReceiveWindow` where the window is neither, and else `ReceiveSource` where the source is
 /// neither a number nor `any`; and that memory was wanted.
 pub(crate) fn read_words(rt: &HostRuntime, wanted: Wanted<'_>) -> Result<Option<Sought>, Fault>
-    ensures asked { IfOk result (IsAsked wanted.entry.window.now wanted.entry.ssrc.now) }
+    ensures asked { IfOk result (IsSought wanted.entry.window.now wanted.entry.ssrc.now) }
     ensures refusal { IfErr result (λ f. OfRefusal f
-        (IsWordRefusal wanted.entry.window.now wanted.entry.ssrc.now)) }
+        (IsWindowWordRefusal wanted.entry.window.now wanted.entry.ssrc.now)) }
 {
     let Some(count) = read_first(wanted.window) else {
         check_words(rt.alloc(), wanted)?;
@@ -59,8 +60,8 @@ pub(crate) fn find_in<'a>(
     files: &mut Vec<Replayed<'a>>,
     ways: &[Result<Flows, Refusal>],
 ) -> Result<Found<'a>, Fault>
-    requires unread { All IsFresh files.old.items }
-    requires asked { IsAsked wanted.window.now wanted.ssrc.now (Some sought) }
+    requires unread { All ReadNone files.old.items }
+    requires asked { IsSought wanted.window.now wanted.ssrc.now (Some sought) }
     ensures found { IfOk result (IsFound wanted.entry.window.now wanted.entry.ssrc.now
         (option_copied said.entry) ways.now) }
     ensures refusal { IfErr result (λ f. OfRefusal f (IsLookedRefusal wanted.entry.window.now

@@ -13,7 +13,7 @@ use Rattle.picture_forms.specs.Frames.{planes_at}
 use Rattle.picture_forms.specs.Layouts.{planes_text}
 use Rattle.picture_forms.specs.Walks.{GaveFault}
 use Rattle.picture_forms.proofs.Walked.{field_cut}
-use Rattle.convert_engine.specs.Inputs.{Passes, frame_at_place}
+use Rattle.convert_engine.specs.Inputs.{PassesOver, frame_at_place}
 use Rattle.convert_engine.proofs.Contents.{content_map}
 
 abbrev Part : Type 0
@@ -53,7 +53,7 @@ end_fault f a b ended same over = record {
 
 -- ---- one frame after another
 
-pub passes_none : (f : Format) (a : List ℕ) → Passes f 0 a a
+pub passes_none : (f : Format) (a : List ℕ) → PassesOver f 0 a a
 passes_none f a = record {
   part = [];
   grown = sym (append-nil a);
@@ -62,7 +62,7 @@ passes_none f a = record {
 }
 
 -- the octets of what was passed, and of what came then
-both : (f : Format) (i n k : ℕ) (a b c part : List ℕ) (p : Passes f i a b) (behind : List ℕ)
+both : (f : Format) (i n k : ℕ) (a b c part : List ℕ) (p : PassesOver f i a b) (behind : List ℕ)
     → n ≡ i + k
     → frame_at_place f n ((p.part ++ part) ++ behind) ≡ frame_at_place f k (part ++ behind)
 both f i n k a b c part p behind is =
@@ -73,8 +73,8 @@ both f i n k a b c part p behind is =
 more : (a b c first next : List ℕ) → b ≡ a ++ first → c ≡ b ++ next → c ≡ a ++ (first ++ next)
 more a b c first next p q = q ∙ ap (λ (l : List ℕ). l ++ next) p ∙ append_assoc a first next
 
-pub passes_more : (f : Format) (i : ℕ) (a b c planes : List ℕ) → Passes f i a b
-    → GaveValue (frame_walk f) b c planes → Passes f (i + 1) a c
+pub passes_more : (f : Format) (i : ℕ) (a b c planes : List ℕ) → PassesOver f i a b
+    → GaveValue (frame_walk f) b c planes → PassesOver f (i + 1) a c
 passes_more f i a b c planes p g = record {
   part = p.part ++ g.part;
   grown = more a b c p.part g.part p.grown g.grown;
@@ -83,7 +83,7 @@ passes_more f i a b c planes p g = record {
       ∙ frame_next f k (g.part ++ behind) planes behind (g.says behind);
 }
 
-pub passes_last : (f : Format) (place : ℕ) (a b c planes : List ℕ) → Passes f place a b
+pub passes_last : (f : Format) (place : ℕ) (a b c planes : List ℕ) → PassesOver f place a b
     → GaveValue (frame_walk f) b c planes → GaveValue (frame_at_place f place) a c planes
 passes_last f place a b c planes p g = record {
   part = p.part ++ g.part;
@@ -94,7 +94,7 @@ passes_last f place a b c planes p g = record {
 }
 
 pub passes_fault : (f : Format) (i n k : ℕ) (a b c : List ℕ) (ended : Type 0) (e : FormFault)
-    → n ≡ i + k → Passes f i a b → GaveFault (frame_walk f) b c ended e
+    → n ≡ i + k → PassesOver f i a b → GaveFault (frame_walk f) b c ended e
     → GaveFault (frame_at_place f n) a c ended e
 passes_fault f i n k a b c ended e is p g = record {
   part = p.part ++ g.part;
@@ -109,13 +109,13 @@ passes_fault f i n k a b c ended e is p g = record {
 -- ---- the same of what a call answered
 
 pub last_given : (f : Format) (place : ℕ) (r : Result Values FormFault) (a b c : List ℕ)
-    → Passes f place a b → IfOk r (λ v. GaveValue (frame_walk f) b c (planes_text v))
+    → PassesOver f place a b → IfOk r (λ v. GaveValue (frame_walk f) b c (planes_text v))
     → IfOk r (λ v. GaveValue (frame_at_place f place) a c (planes_text v))
 last_given f place (Ok v) a b c p g = passes_last f place a b c (planes_text v) p g
 last_given f place (Err e) a b c p g = tt
 
 pub last_wrong : (f : Format) (place : ℕ) (r : Result Values FormFault) (a b c : List ℕ)
-    (ended : Type 0) → Passes f place a b → IfErr r (λ e. GaveFault (frame_walk f) b c ended e)
+    (ended : Type 0) → PassesOver f place a b → IfErr r (λ e. GaveFault (frame_walk f) b c ended e)
     → IfErr r (λ e. GaveFault (frame_at_place f place) a c ended e)
 last_wrong f place (Ok v) a b c ended p g = tt
 last_wrong f place (Err e) a b c ended p g =

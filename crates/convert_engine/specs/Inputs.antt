@@ -41,7 +41,7 @@ IsStreamFault place octets f = (head_walk octets ≡ Err f) ⊎ HasFrameFault pl
 
 -- A source gave so many frames: what it gave so far was `before`, and is `now`. Those behind them
 -- are as far as their places say.
-pub record Passes (f : Format) (count : ℕ) (before now : List ℕ) : Type 0 where
+pub record PassesOver (f : Format) (count : ℕ) (before now : List ℕ) : Type 0 where
   pub part : List ℕ
   pub grown : now ≡ before ++ part
   pub says : (k : ℕ) (behind : List ℕ)

@@ -10,7 +10,8 @@ ghost use Rattle.picture_forms.specs.Walks.{GaveFault};
 ghost use Rattle.run_outcome.specs.Fault.{Accounts, counts};
 ghost use Rattle.run_outcome.specs.Refusing.{OfRefusal};
 ghost use Rattle.convert_engine.specs.Converting.{IsInputRefusal, SaysInput};
-ghost use Rattle.convert_engine.specs.Inputs.{IsInStream, IsStreamFault, Passes, frame_at_place};
+ghost use Rattle.convert_engine.specs.Inputs.{IsInStream, IsStreamFault, PassesOver};
+ghost use Rattle.convert_engine.specs.Inputs.{frame_at_place};
 ghost use Rattle.convert_engine.specs.declared.converting.InputForm.TheVariants.{Y4m};
 
 use crate::faults::of_form;
@@ -91,7 +92,7 @@ fn pass_frames<A: Allocator + Copy, S: ByteSource>(
 ) -> Result<(), FormFault>
     requires { IsYcc format.now.sampling }
     ensures passed { OnOk result
-        (Passes format.now count (S.gave source.old) (S.gave source.new)) }
+        (PassesOver format.now count (S.gave source.old) (S.gave source.new)) }
     ensures gave_wrong { IfErr result (λ f. GaveFault (frame_at_place format.now count)
         (S.gave source.old) (S.gave source.new) (S.ended source.new) f) }
     ensures counted { CountsDevice (S.failures source.old) (S.failures source.new) result }

@@ -25,7 +25,7 @@ use Rattle.follow_engine.specs.Events.{Running, without}
 use Rattle.follow_engine.specs.Opened.{AreOpened}
 use Rattle.follow_engine.specs.Order.{datagrams_in}
 use Rattle.follow_engine.specs.Running.{Finishes, TellsEvents, running_of}
-use Rattle.follow_engine.specs.Sides.{EndsStream, FollowsEntries, FollowsSides, HasBegun}
+use Rattle.follow_engine.specs.Sides.{EndsStream, FollowsEntries, FollowsSides, HasBegunRun}
 use Rattle.follow_engine.specs.Sides.{HasBegunIn, text_by}
 use Rattle.follow_engine.specs.Telling.{events_text, totals_of, totals_text}
 use Rattle.follow_engine.specs.declared.opening.FollowAsked.{FollowAsked}
@@ -40,7 +40,7 @@ use Rattle.follow_engine.proofs.Whole.{datagrams_from}
 
 pub begun_given : {A : Type 0} (w : FollowAsked) (ssrc : Option ℕ) (sdp : Option (List ℕ))
     (first : List ℕ) (r : Run A) → HasBegunIn w ssrc sdp (Some r)
-    → HasBegun w ssrc (text_by sdp first) r
+    → HasBegunRun w ssrc (text_by sdp first) r
 begun_given w ssrc None first r is = absurd is
 begun_given w ssrc (Some text) first r is = is
 

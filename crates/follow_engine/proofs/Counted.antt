@@ -16,7 +16,7 @@ use Rattle.side_by_side.specs.declared.side.Side.{Side}
 use Rattle.side_by_side.specs.declared.steering.Steering.{Steering}
 use Rattle.st_format.specs.declared.path.Path.{Path}
 use Rattle.follow_engine.specs.Order.{datagrams_in, most_datagrams}
-use Rattle.follow_engine.specs.Refused.{StopsFollowing, StopsRead}
+use Rattle.follow_engine.specs.Refused.{StopsFollowing, StopsReadSides}
 use Rattle.follow_engine.proofs.First.{goes_first}
 use Rattle.follow_engine.proofs.Turns.{since_by, since_more}
 use Rattle.follow_engine.proofs.Whole.{datagrams_from}
@@ -126,8 +126,8 @@ pub stops_read : {A S : Type 0} (gave : S → List ℕ) (ended : S → Type 0)
     → AllByRecursion (λ s. HasKnownOctets gave ended s.file) source'.sides → source.came ≡ []
     → source'.sides ≡ sides
     → StopsFollowing (length (datagrams_since source.came source'.came)) source'.sides r
-    → StopsRead gave ended sides r
+    → StopsReadSides gave ended sides r
 stops_read gave ended source source' sides r is known none at (inl stops) =
-    subst (λ (l : List (Side _ _)). StopsRead gave ended l r) at (inl stops)
+    subst (λ (l : List (Side _ _)). StopsReadSides gave ended l r) at (inl stops)
 stops_read gave ended source source' sides r is known none at (inr many) =
     inr (many.0, many_read gave ended source source' sides is known none at many.1)

@@ -23,7 +23,7 @@ use Rattle.follow_engine.specs.Events.{late_left, late_with, leaving, noted_by, 
 use Rattle.follow_engine.specs.Events.{turn_left, turn_taken}
 use Rattle.follow_engine.specs.Line.{ended_line}
 use Rattle.follow_engine.specs.Running.{TellsDatagram, TellsEvents, TellsSome}
-use Rattle.follow_engine.specs.Shown.{GrowsSome, IsCutAt, TakesEachFrame, TakesSome}
+use Rattle.follow_engine.specs.Shown.{GrowsSome, IsCutAtFrame, TakesEachFrame, TakesSome}
 use Rattle.follow_engine.specs.Telling.{event_text, events_text}
 use Rattle.follow_engine.specs.declared.line.FollowLine.TheVariants as line
 use Rattle.follow_engine.proofs.Grows.{grows_all, grows_first, grows_none, grows_part, grows_then}
@@ -35,12 +35,12 @@ use Rattle.follow_engine.proofs.Turns.{FollowedSo, since_more}
 -- ---- frames
 
 module _ {K : Type 0} (takes fails : K → Handed → K → Type 0) where
-  cut_none : (k : K) (hs : List Handed) → IsCutAt fails k hs k
+  cut_none : (k : K) (hs : List Handed) → IsCutAtFrame fails k hs k
   cut_none k [] = refl
   cut_none k (h ∷ hs) = inl refl
 
-  cut_more : (mid new : K) (hs gs : List Handed) → IsCutAt fails mid hs new
-      → IsCutAt fails mid (hs ++ gs) new
+  cut_more : (mid new : K) (hs gs : List Handed) → IsCutAtFrame fails mid hs new
+      → IsCutAtFrame fails mid (hs ++ gs) new
   cut_more mid new [] [] is = is
   cut_more mid new [] (g ∷ gs) is = inl is
   cut_more mid new (h ∷ hs) gs is = is

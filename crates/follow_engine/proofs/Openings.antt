@@ -10,7 +10,7 @@ use Rattle.run_outcome.specs.declared.refusal.Refusal.{Refusal}
 use Rattle.st_format.specs.History.{IsRead}
 use Rattle.side_by_side.specs.Side.{IsNewSide}
 use Rattle.side_by_side.specs.declared.side.Side.{Side}
-use Rattle.follow_engine.specs.Opened.{AllClosedSides, AreOpened, IsFirstText, IsOpenedBy, StopsOne}
+use Rattle.follow_engine.specs.Opened.{AllClosedSides, AreOpened, IsFirstText, IsOpenedBy, StopsAny}
 
 -- so many of the first files were opened, and the others are as they were
 abbrev pub OpenedUpTo : {A S : Type 0} → (S → List ℕ) → (S → Type 0) → ℕ
@@ -102,10 +102,10 @@ pub stops_next : {A S : Type 0} (gave : S → List ℕ) (ended : S → Type 0) (
     (r : Refusal) → OpenedUpTo gave ended k ways olds news → k < length olds
     → StopsFile (way_at ways k) (IsRead (gave_by gave (get_or news k d).file)
     (gave_by gave y.file) (ended_by ended y.file)) r
-    → StopsOne gave ended ways (zip olds (set news k y)) r
+    → StopsAny gave ended ways (zip olds (set news k y)) r
 stops_next gave ended k ways [] news d y r had lt is = absurd (omega (arith, lt))
 stops_next gave ended zero ways (o ∷ os) news d y r had lt is =
-    subst (λ (l : List (Side _ _)). StopsOne gave ended ways (zip (o ∷ os) (set l 0 y)) r) (sym had)
+    subst (λ (l : List (Side _ _)). StopsAny gave ended ways (zip (o ∷ os) (set l 0 y)) r) (sym had)
     (inl (subst (λ (l : List (Side _ _)). StopsFile (first_way ways)
     (IsRead (gave_by gave (get_or l 0 d).file) (gave_by gave y.file) (ended_by ended y.file)) r) had
     is))

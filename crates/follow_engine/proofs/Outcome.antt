@@ -29,7 +29,7 @@ use Rattle.follow_engine.specs.Opened.{AreOpened, IsFirstText}
 use Rattle.follow_engine.specs.Order.{datagrams_in, strands_by}
 use Rattle.follow_engine.specs.Running.{TellsEvents, running_of, steering_of}
 use Rattle.follow_engine.specs.Shown.{TakesEachFrame}
-use Rattle.follow_engine.specs.Sides.{EndsStream, FollowsEntries, HasBegun, SideRead, text_by}
+use Rattle.follow_engine.specs.Sides.{EndsStream, FollowsEntries, HasBegunRun, SideRead, text_by}
 use Rattle.follow_engine.specs.Telling.{event_text, events_text, totals_of, totals_text}
 use Rattle.follow_engine.specs.declared.opening.FollowAsked.{FollowAsked}
 use Rattle.follow_engine.specs.declared.running.Run.{Run}
@@ -162,7 +162,7 @@ pub follows_whole : {A S K : Type 0} (gave : S → List ℕ) (ended : S → Type
     (sdp : Option (List ℕ)) (ways : List (Result Flows Refusal)) (first : List ℕ)
     (olds mids news : List (Side A S)) (r t : Run A) (old mid new : K)
     (took took' took'' : List ℕ) (totals : FollowTotals) → IsSourceText w.ssrc.now ssrc
-    → HasBegun w ssrc (text_by sdp first) r → AreOpened gave ended ways olds mids
+    → HasBegunRun w ssrc (text_by sdp first) r → AreOpened gave ended ways olds mids
     → IsFirstText first mids → begun_each news ≡ begun_each mids
     → AllByRecursion (λ x. HasKnownOctets gave ended x.file) news → IsWindowSize w.frames
     → AllByRecursion (λ x. IsReadByFlows x.file) news

@@ -28,7 +28,7 @@ use Rattle.follow_engine.specs.Opened.{AreOpened, IsFirstText}
 use Rattle.follow_engine.specs.Order.{GoesFirst, datagrams_in, strands_by}
 use Rattle.follow_engine.specs.Running.{Finishes, TellsEvents, TellsSome, running_of, steering_of}
 use Rattle.follow_engine.specs.Shown.{GrowsSome, TakesSome}
-use Rattle.follow_engine.specs.Sides.{EndsSome, FollowsEntries, FollowsUpTo, HasBegun, SideRead}
+use Rattle.follow_engine.specs.Sides.{EndsSome, FollowsEntries, FollowsUpTo, HasBegunRun, SideRead}
 use Rattle.follow_engine.specs.Sides.{text_by}
 use Rattle.follow_engine.specs.Telling.{event_text, events_text, totals_text}
 use Rattle.follow_engine.specs.declared.opening.FollowAsked.{FollowAsked}
@@ -104,7 +104,7 @@ module _ {A S : Type 0} (gave : S → List ℕ) (ended_at : S → Type 0) (w : F
     (first : List ℕ) (olds mids news : List (Side A S)) (r : Run A)
   where
     follows_first : (Tells : Opening → List Entry → Type 0) (entries : List Entry)
-        → IsSourceText w.ssrc.now ssrc → (begun : HasBegun w ssrc (text_by sdp first) r)
+        → IsSourceText w.ssrc.now ssrc → (begun : HasBegunRun w ssrc (text_by sdp first) r)
         → AreOpened gave ended_at ways olds mids → IsFirstText first mids
         → begun_each news ≡ begun_each mids
         → AllByRecursion (λ x. HasKnownOctets gave ended_at x.file) news
@@ -136,7 +136,7 @@ module _ {A S : Type 0} (gave : S → List ℕ) (ended_at : S → Type 0) (w : F
 
     -- what happened is so of a follower that is opened as the text says
     first_told : (Tells : List Event → Type 0) (entries : List Entry)
-        → (begun : HasBegun w ssrc (text_by sdp first) r)
+        → (begun : HasBegunRun w ssrc (text_by sdp first) r)
         → Tells (events_in r.is_eager (running_of r) (datagrams_in entries))
         → Tells (first_events w begun.opens.opening entries)
     first_told Tells entries begun told =
@@ -146,7 +146,7 @@ module _ {A S : Type 0} (gave : S → List ℕ) (ended_at : S → Type 0) (w : F
 
     pub follows_short : {K : Type 0} (takes : K → Handed → K → Type 0) (old new : K)
         (took took' : List ℕ) → IsSourceText w.ssrc.now ssrc
-        → (begun : HasBegun w ssrc (text_by sdp first) r)
+        → (begun : HasBegunRun w ssrc (text_by sdp first) r)
         → AreOpened gave ended_at ways olds mids → IsFirstText first mids
         → begun_each news ≡ begun_each mids
         → AllByRecursion (λ x. HasKnownOctets gave ended_at x.file) news
@@ -176,7 +176,7 @@ module _ {A S : Type 0} (gave : S → List ℕ) (ended_at : S → Type 0) (w : F
           }
 
       pub follows_part : (old new : K) (took took' : List ℕ) → IsSourceText w.ssrc.now ssrc
-          → (begun : HasBegun w ssrc (text_by sdp first) r)
+          → (begun : HasBegunRun w ssrc (text_by sdp first) r)
           → AreOpened gave ended_at ways olds mids → IsFirstText first mids
           → begun_each news ≡ begun_each mids
           → AllByRecursion (λ x. HasKnownOctets gave ended_at x.file) news
@@ -241,7 +241,7 @@ pub ends_part : {A S K : Type 0} (gave : S → List ℕ) (ended_at : S → Type 
     (sdp : Option (List ℕ)) (ways : List (Result Flows Refusal)) (first : List ℕ)
     (olds mids news : List (Side A S)) (r t : Run A) (old mid new : K)
     (took took' took'' : List ℕ) → IsSourceText w.ssrc.now ssrc
-    → (begun : HasBegun w ssrc (text_by sdp first) r) → AreOpened gave ended_at ways olds mids
+    → (begun : HasBegunRun w ssrc (text_by sdp first) r) → AreOpened gave ended_at ways olds mids
     → IsFirstText first mids → begun_each news ≡ begun_each mids
     → AllByRecursion (λ x. HasKnownOctets gave ended_at x.file) news
     → FollowsEntries gave ended_at takes r t old mid took took' news

@@ -31,7 +31,7 @@ use Rattle.side_by_side.specs.declared.side.Side.{Side}
 use Rattle.follow_engine.specs.Opened.{AreOpened, IsFirstText}
 use Rattle.follow_engine.specs.Order.{most_datagrams}
 use Rattle.follow_engine.specs.Refused.{AreTooMany, FirstRefuses, IsFileRefusal, IsFirstRefusal}
-use Rattle.follow_engine.specs.Refused.{StopsFollowing, StopsRead, fault_in}
+use Rattle.follow_engine.specs.Refused.{StopsFollowing, StopsReadSides, fault_in}
 use Rattle.follow_engine.specs.Sides.{SideRead}
 use Rattle.follow_engine.proofs.Whole.{all_taken, begun_by, first_said, same_fault}
 use Rattle.run_outcome.specs.LowerFaults.{reading_fault}
@@ -134,7 +134,7 @@ one_stops gave ended ways (x ∷ xs) (m ∷ ms) (n ∷ ns) f r opened same known
 pub stops_files : {A S : Type 0} (gave : S → List ℕ) (ended : S → Type 0)
     (ways : List (Result Flows Refusal)) (olds mids news : List (Side A S)) (r : Refusal)
     → AreOpened gave ended ways olds mids → begun_each news ≡ begun_each mids
-    → AllByRecursion (λ x. HasKnownOctets gave ended x.file) news → StopsRead gave ended news r
+    → AllByRecursion (λ x. HasKnownOctets gave ended x.file) news → StopsReadSides gave ended news r
     → OneFileIs (λ w s. IsFileRefusal (SideRead gave ended s) r) ways (zip olds news)
     ⊎ ((r ≡ refusal.Capture TooManyRecords)
     × AreTooMany ways (SideRead gave ended) (zip olds news))

@@ -54,7 +54,7 @@ IsFirstText text (s ∷ ss) =
     (flows : Option Flows) × (before : List ℕ) × IsNewSide flows before text s
 
 -- one of them is stopped so, before its records
-abbrev pub StopsOne : {A S : Type 0} → (S → List ℕ) → (S → Type 0) → List (Result Flows Refusal)
+abbrev pub StopsAny : {A S : Type 0} → (S → List ℕ) → (S → Type 0) → List (Result Flows Refusal)
     → List (Side A S × Side A S) → Refusal → Type 0
-StopsOne gave ended ways files r = OneFileIs (λ w z. StopsFile w (IsRead (gave_by gave z.0.file)
+StopsAny gave ended ways files r = OneFileIs (λ w z. StopsFile w (IsRead (gave_by gave z.0.file)
     (gave_by gave z.1.file) (ended_by ended z.1.file)) r) ways files

@@ -25,10 +25,10 @@ use Rattle.follow_engine.specs.Order.{most_datagrams, strands_by}
 
 -- The refusals of the words: no frames, or more than 16; a source that is neither a number nor
 -- `any`.
-abbrev pub IsWordRefusal : ℕ → List ℕ → Refusal → Type 0
-IsWordRefusal frames ssrc (refusal.Open open_fault.BadWindow) = IsWindowSize frames → ⊥
-IsWordRefusal frames ssrc refusal.ReceiveSource = (pin : Option ℕ) → IsSourceText ssrc pin → ⊥
-IsWordRefusal frames ssrc r = ⊥
+abbrev pub IsFollowWordRefusal : ℕ → List ℕ → Refusal → Type 0
+IsFollowWordRefusal frames ssrc (refusal.Open open_fault.BadWindow) = IsWindowSize frames → ⊥
+IsFollowWordRefusal frames ssrc refusal.ReceiveSource = (pin : Option ℕ) → IsSourceText ssrc pin → ⊥
+IsFollowWordRefusal frames ssrc r = ⊥
 
 -- ---- the SDP text
 
@@ -58,9 +58,9 @@ StopsFollowing count sides r =
     ⊎ ((r ≡ refusal.Capture TooManyRecords) × (most_datagrams ≤ count))
 
 -- so by what was read of them: they have as many records as are counted
-abbrev pub StopsRead : {A S : Type 0} → (S → List ℕ) → (S → Type 0) → List (Side A S) → Refusal
+abbrev pub StopsReadSides : {A S : Type 0} → (S → List ℕ) → (S → Type 0) → List (Side A S) → Refusal
     → Type 0
-StopsRead gave ended sides r =
+StopsReadSides gave ended sides r =
     ((f : ReadingFault) × (reading_fault f ≡ Refused r) × OneSideAt f sides)
     ⊎ ((r ≡ refusal.Capture TooManyRecords)
     × ((octets : List (List ℕ)) → AllZip (SideGave gave ended) sides octets
@@ -84,7 +84,7 @@ AreTooMany ways told files = (octets : List (List ℕ)) → AllZip told files oc
 -- of too many of them.
 abbrev pub IsFollowRefusal : {S : Type 0} → ℕ → List ℕ → Option (List ℕ)
     → List (Result Flows Refusal) → (S → List ℕ → Type 0) → List S → Refusal → Type 0
-IsFollowRefusal frames ssrc sdp ways told files r = IsWordRefusal frames ssrc r
+IsFollowRefusal frames ssrc sdp ways told files r = IsFollowWordRefusal frames ssrc r
     ⊎ (MatchOption sdp ⊥ (λ text. IsDescriptionRefusal text r)
     ⊎ (OneFileIs (λ w s. StopsFile w (told s) r) ways files
     ⊎ (MatchOption sdp (FirstRefuses told files r) (λ _. ⊥)

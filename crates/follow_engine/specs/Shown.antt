@@ -30,9 +30,9 @@ pub record GrowsSome (old new octets : List ℕ) : Type 0 where
   pub grown : new ≡ old ++ part
 
 -- behind the frames that a sink took it stays as it is, or it failed at the next one
-abbrev pub IsCutAt : {K : Type 0} → (K → Handed → K → Type 0) → K → List Handed → K → Type 0
-IsCutAt fails mid [] new = new ≡ mid
-IsCutAt fails mid (h ∷ hs) new = (new ≡ mid) ⊎ fails mid h new
+abbrev pub IsCutAtFrame : {K : Type 0} → (K → Handed → K → Type 0) → K → List Handed → K → Type 0
+IsCutAtFrame fails mid [] new = new ≡ mid
+IsCutAtFrame fails mid (h ∷ hs) new = (new ≡ mid) ⊎ fails mid h new
 
 -- A sink took some first of these frames: none of them, all, or what is between; and no more, but
 -- that it may have failed at the next one.
@@ -43,4 +43,4 @@ pub record TakesSome {K : Type 0} (takes fails : K → Handed → K → Type 0) 
   pub parts : frames ≡ shown ++ rest
   pub mid : K
   pub taken : TakesEachFrame takes old shown mid
-  pub cut : IsCutAt fails mid rest new
+  pub cut : IsCutAtFrame fails mid rest new

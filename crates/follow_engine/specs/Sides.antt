@@ -28,7 +28,7 @@ SideRead gave ended z octets =
     IsRead (gave_by gave z.0.file) (gave_by gave z.1.file) (ended_by ended z.1.file) octets
 
 -- A stream was begun by an SDP text, as the words ask for it.
-pub record HasBegun {A : Type 0} (w : FollowAsked) (ssrc : Option ℕ) (text : List ℕ) (r : Run A)
+pub record HasBegunRun {A : Type 0} (w : FollowAsked) (ssrc : Option ℕ) (text : List ℕ) (r : Run A)
     : Type 0 where
   pub run : IsSoundRun r
   pub eager : r.is_eager ≡ w.is_eager
@@ -40,7 +40,7 @@ abbrev pub HasBegunIn : {A : Type 0} → FollowAsked → Option ℕ → Option (
 HasBegunIn w ssrc None None = ⊤
 HasBegunIn w ssrc None (Some r) = ⊥
 HasBegunIn w ssrc (Some text) None = ⊥
-HasBegunIn w ssrc (Some text) (Some r) = HasBegun w ssrc text r
+HasBegunIn w ssrc (Some text) (Some r) = HasBegunRun w ssrc text r
 
 -- the text by which a stream is begun: that which is given, or else the first file's
 abbrev pub text_by : Option (List ℕ) → List ℕ → List ℕ

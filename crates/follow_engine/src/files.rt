@@ -4,11 +4,11 @@ ghost use Rattle.std.specs.Prelude.{OnOk, length, take};
 ghost use Rattle.std.specs.List.{AllByRecursion, zip};
 ghost use Rattle.std.specs.Option.{option_copied};
 ghost use Rattle.follow_engine.specs.Followed.{FollowsPart, FollowsWhole, StopsShort};
-ghost use Rattle.follow_engine.specs.Opened.{AllClosedSides, AreOpened, IsFirstText, StopsOne};
-ghost use Rattle.follow_engine.specs.Refused.{IsFirstRefusal, IsFollowRefusal, StopsRead};
+ghost use Rattle.follow_engine.specs.Opened.{AllClosedSides, AreOpened, IsFirstText, StopsAny};
+ghost use Rattle.follow_engine.specs.Refused.{IsFirstRefusal, IsFollowRefusal, StopsReadSides};
 ghost use Rattle.follow_engine.specs.Running.{IsSoundRun, TellsEvents, TellsSome};
 ghost use Rattle.follow_engine.specs.Sides.{EndsSome, EndsStream, FollowsEntries, FollowsUpTo};
-ghost use Rattle.follow_engine.specs.Sides.{HasBegun, HasBegunIn, SideRead, text_by};
+ghost use Rattle.follow_engine.specs.Sides.{HasBegunIn, HasBegunRun, SideRead, text_by};
 ghost use Rattle.path_receiver.specs.Opening.{IsWindowSize};
 ghost use Rattle.recording_engines.specs.Files.{HasKnownOctets, IsReadByFlows};
 ghost use Rattle.run_outcome.specs.Fault.{Accounts, IfRefused, counts};
@@ -137,7 +137,7 @@ fn begin_or<A: Allocator + Copy>(
     requires frames { IsWindowSize asked.frames }
     requires given { HasBegunIn asked ssrc (option_copied _sdp) given }
     ensures begun { IfOk result
-        (λ r. HasBegun asked.entry ssrc (text_by (option_copied _sdp.entry) said.now) r) }
+        (λ r. HasBegunRun asked.entry ssrc (text_by (option_copied _sdp.entry) said.now) r) }
     ensures refusal { IfErr result (λ f. OfRefusal f (λ r. MatchOption (option_copied _sdp.entry)
         (IsFirstRefusal said.now r) (λ _. ⊥))) }
     ensures failures { Accounts result [] }
@@ -156,7 +156,7 @@ fn begin_first<A: Allocator + Copy>(
     said: &[u8],
 ) -> Result<Run<A>, Fault>
     requires { IsWindowSize asked.frames }
-    ensures begun { IfOk result (λ r. HasBegun asked.entry ssrc said.now r) }
+    ensures begun { IfOk result (λ r. HasBegunRun asked.entry ssrc said.now r) }
     ensures refusal { IfErr result (λ f. OfRefusal f (IsFirstRefusal said.now)) }
     ensures failures { Accounts result [] }
 {
@@ -174,7 +174,7 @@ fn begin_by<A: Allocator + Copy>(
     said: &[u8],
 ) -> Result<Run<A>, Fault>
     requires { IsWindowSize asked.frames }
-    ensures begun { IfOk result (λ r. HasBegun asked.entry ssrc said.now r) }
+    ensures begun { IfOk result (λ r. HasBegunRun asked.entry ssrc said.now r) }
     ensures refusal { IfErr result (λ f. OfRefusal f (IsDescriptionRefusal said.now)) }
     ensures failures { Accounts result [] }
 {
@@ -202,7 +202,7 @@ fn open_files<A: Allocator + Copy, S: ByteSource + Drop>(
     ensures first { IfOk result (λ count. IsFirstText (take count text.new) sides.new.items) }
     ensures few { IfOk result (λ count. count ≤ 65535) }
     ensures refusal { IfErr result (λ f. OfRefusal f
-        (StopsOne S.gave S.ended ways.now (zip sides.old.items sides.new.items))) }
+        (StopsAny S.gave S.ended ways.now (zip sides.old.items sides.new.items))) }
     ensures failures { Accounts result (counts (failures_each S.failures sides.old.items)
         (failures_each S.failures sides.new.items) ∷ []) }
 {
@@ -230,7 +230,7 @@ fn follow_opened<A: Allocator + Copy, S: ByteSource + Drop, P: PictureSink, O: B
     ensures followed { OnOk result (FollowsEntries S.gave S.ended P.takes run.old run.new
         pictures.old pictures.new (O.took output.old) (O.took output.new) sides.new.items) }
     ensures stopped { IfErr result (λ f. OfRefusal f
-        (StopsRead S.gave S.ended sides.new.items)) }
+        (StopsReadSides S.gave S.ended sides.new.items)) }
     ensures before { IfErr result (λ f. IfRefused f (FollowsUpTo S.gave S.ended run.old
         sides.new.items (TellsEvents P.takes pictures.old pictures.new
         (O.took output.old) (O.took output.new)))) }

@@ -4,8 +4,8 @@ ghost use Rattle.std.specs.List.{zip};
 ghost use Rattle.capture_engines.specs.Files.{flows_in};
 ghost use Rattle.capture_engines.specs.Received.{StopsFile};
 ghost use Rattle.follow_engine.specs.Opened.{AllClosedSides, AreOpened, IsFirstText, OpensRun};
-ghost use Rattle.follow_engine.specs.Opened.{StopsOne};
-ghost use Rattle.follow_engine.specs.Refused.{IsWordRefusal};
+ghost use Rattle.follow_engine.specs.Opened.{StopsAny};
+ghost use Rattle.follow_engine.specs.Refused.{IsFollowWordRefusal};
 ghost use Rattle.follow_engine.specs.Running.{IsSoundRun, running_of};
 ghost use Rattle.path_receiver.specs.Opening.{IsWindowSize};
 ghost use Rattle.recording_engines.specs.Files.{HasKnownOctets, IsClosed, ended_by, failures_by};
@@ -50,7 +50,7 @@ pub struct FollowAsked<'a> {
 /// `Open(BadWindow)` where there are to be no frames, or more than 16; else `ReceiveSource` where
 /// the source is neither a number nor `any`.
 pub fn check_words(asked: FollowAsked<'_>) -> Result<(), Fault>
-    ensures refusal { IfErr result (λ f. OfRefusal f (IsWordRefusal asked.entry.frames
+    ensures refusal { IfErr result (λ f. OfRefusal f (IsFollowWordRefusal asked.entry.frames
         asked.entry.ssrc.now)) }
     ensures failures { Accounts result [] }
 {
@@ -62,7 +62,7 @@ pub fn check_words(asked: FollowAsked<'_>) -> Result<(), Fault>
 pub(crate) fn read_words(asked: FollowAsked<'_>) -> Result<Option<u32>, Fault>
     ensures frames { OnOk result (IsWindowSize asked.entry.frames) }
     ensures source { IfOk result (λ ssrc. IsSourceText asked.entry.ssrc.now ssrc) }
-    ensures refusal { IfErr result (λ f. OfRefusal f (IsWordRefusal asked.entry.frames
+    ensures refusal { IfErr result (λ f. OfRefusal f (IsFollowWordRefusal asked.entry.frames
         asked.entry.ssrc.now)) }
     ensures failures { Accounts result [] }
 {
@@ -117,7 +117,7 @@ pub(crate) fn open_all<A: Allocator + Copy, S: ByteSource + Drop>(
     ensures first { IfOk result (λ count. IsFirstText (take count text.new) sides.new) }
     ensures few { IfOk result (λ count. count ≤ 65535) }
     ensures refusal { IfErr result (λ f. OfRefusal f
-        (StopsOne S.gave S.ended ways.now (zip sides.old sides.new))) }
+        (StopsAny S.gave S.ended ways.now (zip sides.old sides.new))) }
     ensures failures { Accounts result (counts (failures_each S.failures sides.old)
         (failures_each S.failures sides.new) ∷ []) }
 {

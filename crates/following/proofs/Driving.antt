@@ -14,7 +14,7 @@ use Rattle.following.specs.declared.answer.Followed.{Followed}
 use Rattle.following.specs.declared.fault.StreamFault.{StreamFault}
 use Rattle.following.specs.Follower.{Following}
 use Rattle.following.specs.Following.{Handed}
-use Rattle.following.specs.Stream.{AreTurns, IsLeft, ShowsAll, TookTurns, delivered_by}
+use Rattle.following.specs.Stream.{AreTakenTurns, IsLeft, ShowsAll, TookTurns, delivered_by}
 use Rattle.following.specs.Turned.{answer_in, answers_in, handed_in, handed_while, state_behind}
 use Rattle.following.specs.Turned.{turned}
 
@@ -218,7 +218,7 @@ pub took_turns : {O : Type 0} (after : O → Result Followed Refusal → O) (eag
     (before now : List (Path × List ℕ)) (s t : Following) (had has missed : List Handed)
     (knew knows : O)
     → SoFar after eager turns delivered old mid before now s t had has missed knew knows
-    → IsLeft r mid new → AreTurns limit r turns → delivered ≡ delivered_by r
+    → IsLeft r mid new → AreTakenTurns limit r turns → delivered ≡ delivered_by r
     → TookTurns limit r old new before now
 took_turns {O} after eager limit turns delivered r old mid new before now s t had has missed knew
     knows so left enough is = record {
@@ -226,7 +226,7 @@ took_turns {O} after eager limit turns delivered r old mid new before now s t ha
       rest = mid;
       given = so.given;
       left = left;
-      turns = subst (λ (n : ℕ). AreTurns limit r n) (sym so.count) enough;
+      turns = subst (λ (n : ℕ). AreTakenTurns limit r n) (sym so.count) enough;
       delivered = so.delivered_is ∙ is;
       came = so.came;
     }

@@ -9,7 +9,7 @@ use Rattle.following.specs.Standing.{is_beyond}
 use Rattle.following.specs.Turned.{is_lost}
 
 -- an answer to a datagram of this timestamp
-pub record Told : Type 0 where
+pub record Reply : Type 0 where
   pub timestamp : ℕ
   pub answer : Result Followed Refusal
 
@@ -42,7 +42,7 @@ since_behind bound since timestamp answer =
 -- ---- what that says of the answers so far
 
 -- behind answers, where the stream was not followed anew
-abbrev pub lost_behind : Option ℕ → List Told → Option ℕ
+abbrev pub lost_behind : Option ℕ → List Reply → Option ℕ
 lost_behind since [] = since
 lost_behind since (x ∷ xs) = lost_behind (lost_since since x.timestamp x.answer) xs
 
@@ -55,15 +55,15 @@ is_kept (Ok Far) = false
 is_kept (Err e) = false
 
 -- none of these was kept
-abbrev pub NoneKept : List Told → Type 0
+abbrev pub NoneKept : List Reply → Type 0
 NoneKept told = AllByRecursion (λ x. is_kept x.answer ≡ false) told
 
 -- Of these answers one was to a datagram of this timestamp that was late or too far ahead, and none
 -- was kept since.
-pub record AreLostSince (told : List Told) (since : ℕ) : Type 0 where
-  pub before : List Told
+pub record AreLostSince (told : List Reply) (since : ℕ) : Type 0 where
+  pub before : List Reply
   pub answer : Result Followed Refusal
-  pub after : List Told
+  pub after : List Reply
   pub parts : told ≡ before ++ record { timestamp = since; answer = answer } ∷ after
   pub lost : IsTrue (is_lost answer)
   pub none_kept : NoneKept after

@@ -34,10 +34,10 @@ AreEnough limit false turns = turns ≡ limit
 AreEnough limit true turns = turns < limit
 
 -- how many turns were taken: as many as the limit, or fewer where the next was the end or a fault
-abbrev pub AreTurns : ℕ → Result Received StreamFault → ℕ → Type 0
-AreTurns limit (Ok r) turns = AreEnough limit r.ended turns
-AreTurns limit (Err (Source e)) turns = turns < limit
-AreTurns limit (Err (Sink e)) turns = turns ≤ limit
+abbrev pub AreTakenTurns : ℕ → Result Received StreamFault → ℕ → Type 0
+AreTakenTurns limit (Ok r) turns = AreEnough limit r.ended turns
+AreTakenTurns limit (Err (Source e)) turns = turns < limit
+AreTakenTurns limit (Err (Sink e)) turns = turns ≤ limit
 
 -- what the source has still to tell, which is not said where it failed
 abbrev pub IsLeft : Result Received StreamFault → Option (List Due) → Option (List Due) → Type 0
@@ -52,7 +52,7 @@ pub record TookTurns (limit : ℕ) (r : Result Received StreamFault) (old new : 
   pub rest : Option (List Due)
   pub given : GivesTurns old rest due
   pub left : IsLeft r rest new
-  pub turns : AreTurns limit r (length due)
+  pub turns : AreTakenTurns limit r (length due)
   pub delivered : length (datagrams_of due) ≡ delivered_by r
   pub came : now ≡ before ++ came_of due
 
@@ -63,11 +63,11 @@ CountsSource (Err (Source e)) old new = CountsOne old new
 CountsSource (Err (Sink e)) old new = new ≡ old
 
 -- its last fault, where it failed
-abbrev pub TellsFault : Result Received StreamFault → Option SourceFault → Option SourceFault
+abbrev pub TellsSourceFault : Result Received StreamFault → Option SourceFault → Option SourceFault
     → Type 0
-TellsFault (Ok r) old new = new ≡ old
-TellsFault (Err (Source e)) old new = new ≡ Some e.fault
-TellsFault (Err (Sink e)) old new = new ≡ old
+TellsSourceFault (Ok r) old new = new ≡ old
+TellsSourceFault (Err (Source e)) old new = new ≡ Some e.fault
+TellsSourceFault (Err (Sink e)) old new = new ≡ old
 
 -- the sink's count of failures: one more where it failed
 abbrev pub CountsSink : Result Received StreamFault → ℕ → ℕ → Type 0

@@ -38,7 +38,7 @@ ghost use Rattle.following.specs.Times.{AreInHalf, AreInRound, AreInTime, AreOfT
 ghost use Rattle.following.specs.Times.{AreTimed, AreWithin, HasTime, IsOrderly, Timed, handed_at};
 ghost use Rattle.following.specs.Times.{frame_of, handed_of, in_order, octets_of, times_of};
 ghost use Rattle.following.specs.Need.{none_noted, noted_behind};
-ghost use Rattle.following.specs.Restarts.{AreLostSince, Told, lost_behind};
+ghost use Rattle.following.specs.Restarts.{AreLostSince, Reply, lost_behind};
 ghost use Rattle.following.specs.Turned.{answers_in, goes_early, handed_all, handed_early};
 ghost use Rattle.following.specs.Turned.{handed_while, is_complete, kept_of, state_behind};
 
@@ -213,7 +213,7 @@ pub fn rising()
 /// What [`Restarts`](crate::Restarts) notes says which answers came: where a timestamp stands, a
 /// datagram of it was late or too far ahead, and none was kept since.
 pub fn lost_since()
-    ensures { (told : List Told) (since : ℕ) → lost_behind None told ≡ Some since →
+    ensures { (told : List Reply) (since : ℕ) → lost_behind None told ≡ Some since →
         AreLostSince told since }
 {}
 

@@ -9,7 +9,7 @@ ghost use Rattle.following.specs.Acts.{AreNearby};
 ghost use Rattle.following.specs.Follower.{IsFollower, opened};
 ghost use Rattle.following.specs.Following.{frames_in};
 ghost use Rattle.following.specs.Stream.{CountsSink, CountsSource, NoneDropped, ShowsAll};
-ghost use Rattle.following.specs.Stream.{TellsFault};
+ghost use Rattle.following.specs.Stream.{TellsSourceFault};
 ghost use Rattle.following.specs.Stream.{TookTurns, delivered_by, not_shown};
 ghost use Rattle.following.specs.Times.{AreTimed, IsOrderly, Timed, handed_at, in_order, octets_of};
 ghost use Rattle.following.specs.Times.{times_of};
@@ -81,7 +81,7 @@ pub fn follow<S: DatagramSource, A: Allocator, K: FrameSink, O: FollowObserver>(
     // The end, counts and faults; and what stays.
     ensures ended { IfOk result (λ r. r.ended ≡ true → S.ended source.new) }
     ensures counted { CountsSource result (S.failures source.old) (S.failures source.new) }
-    ensures fault { TellsFault result (S.last_fault source.old) (S.last_fault source.new) }
+    ensures fault { TellsSourceFault result (S.last_fault source.old) (S.last_fault source.new) }
     ensures sink { CountsSink result (K.failures sink.old) (K.failures sink.new) }
     ensures format { frame.new.format ≡ follower.new.opening.format }
     ensures follower { IsFollower follower.new }
@@ -138,7 +138,7 @@ pub fn follow_eagerly<S: DatagramSource, A: Allocator, K: FrameSink, O: FollowOb
         (map (handed_at o timed) (in_order (times_of o timed))) }
     ensures ended { IfOk result (λ r. r.ended ≡ true → S.ended source.new) }
     ensures counted { CountsSource result (S.failures source.old) (S.failures source.new) }
-    ensures fault { TellsFault result (S.last_fault source.old) (S.last_fault source.new) }
+    ensures fault { TellsSourceFault result (S.last_fault source.old) (S.last_fault source.new) }
     ensures sink { CountsSink result (K.failures sink.old) (K.failures sink.new) }
     ensures format { frame.new.format ≡ follower.new.opening.format }
     ensures follower { IsFollower follower.new }
@@ -178,7 +178,7 @@ fn take_turns<S: DatagramSource, A: Allocator, K: FrameSink, O: FollowObserver>(
         (datagrams_since (S.came source.old) (S.came source.new))) }
     ensures ended { IfOk result (λ r. r.ended ≡ true → S.ended source.new) }
     ensures counted { CountsSource result (S.failures source.old) (S.failures source.new) }
-    ensures fault { TellsFault result (S.last_fault source.old) (S.last_fault source.new) }
+    ensures fault { TellsSourceFault result (S.last_fault source.old) (S.last_fault source.new) }
     ensures sink { CountsSink result (K.failures sink.old) (K.failures sink.new) }
     ensures format { frame.new.format ≡ follower.new.opening.format }
     ensures follower { IsFollower follower.new }

@@ -8,7 +8,7 @@ use Rattle.follow_engine.specs.Shown.{GrowsSome, TakesEachFrame}
 use Rattle.following.specs.Following.{Handed}
 use Rattle.frame_sinks.specs.Pictures.{form_head, form_stream, head_as, head_for, held_by}
 use Rattle.frame_sinks.specs.Pictures.{picture_of, pictures_of}
-use Rattle.frame_sinks.specs.Sinks.{FailsFrame, TakesFrame, text_for}
+use Rattle.frame_sinks.specs.Sinks.{FailsFrame, SinkTakes, text_for}
 use Rattle.frame_sinks.specs.declared.filling.Filling.{Filling}
 use Rattle.frame_sinks.specs.declared.form_sink.FormSink.{FormSink}
 use Rattle.frame_sinks.specs.declared.settling.Settling.{Settling}
@@ -32,7 +32,7 @@ rest_by k hs = rest_of hs k.format k.settling.filling k.settling.fill k.settling
 
 -- of a sink that took a frame
 behind_one : {K A : Type 0} (took : K → List ℕ) (k m : FormSink K A) (h : Handed)
-    (hs : List Handed) → TakesFrame took k h m → rest_by k (h ∷ hs) ≡ text_for k h ++ rest_by m hs
+    (hs : List Handed) → SinkTakes took k h m → rest_by k (h ∷ hs) ≡ text_for k h ++ rest_by m hs
 behind_one took k m h hs is =
     let s : Settling _ = k.settling in
     let n : Settling _ = m.settling in
@@ -47,7 +47,7 @@ behind_one took k m h hs is =
     ∙ ap (λ (x : Option Values). rest_of hs (Some h.frame.format) s.filling s.fill x) is.held))
 
 pub all_written : {K A : Type 0} (took : K → List ℕ) (k l : FormSink K A) (hs : List Handed)
-    → TakesEachFrame (TakesFrame took) k hs l
+    → TakesEachFrame (SinkTakes took) k hs l
     → took l.sink ≡ took k.sink
     ++ form_stream k.format (pictures_of k.settling.filling k.settling.fill k.settling.held hs)
 all_written took k l [] is =
@@ -71,7 +71,7 @@ cut_one took k l h is =
     (grows_first (took k.sink) (took l.sink) (text_for k h) [] is)
 
 pub cut_written : {K A : Type 0} (took : K → List ℕ) (k m l : FormSink K A) (hs : List Handed)
-    (h : Handed) → TakesEachFrame (TakesFrame took) k hs m → FailsFrame took m h l
+    (h : Handed) → TakesEachFrame (SinkTakes took) k hs m → FailsFrame took m h l
     → GrowsSome (took k.sink) (took l.sink) (form_stream k.format
     (pictures_of k.settling.filling k.settling.fill k.settling.held (hs ++ h ∷ [])))
 cut_written took k m l [] h is cut =

@@ -7,7 +7,7 @@ use Rattle.follow_engine.specs.Shown.{GrowsSome}
 use Rattle.following.specs.Following.{Handed}
 use Rattle.frame_sinks.specs.Fills.{fill_of}
 use Rattle.frame_sinks.specs.Pictures.{form_head, head_for, held_by, is_of, picture_of}
-use Rattle.frame_sinks.specs.Sinks.{FailsFrame, TakesFrame, text_for}
+use Rattle.frame_sinks.specs.Sinks.{FailsFrame, SinkTakes, text_for}
 use Rattle.frame_sinks.specs.declared.filling.Filling.{Filling}
 use Rattle.frame_sinks.specs.declared.filling.Filling.TheVariants.{Fill}
 use Rattle.frame_sinks.specs.declared.form_sink.FormSink.{FormSink}
@@ -141,7 +141,7 @@ pub takes_frame : {K A : Type 0} (took : K → List ℕ) (k l : FormSink K A) (m
     → p ≡ picture_of k.settling.fill k.settling.held h.frame
     → took sink ≡ took k.sink ++ (head_for k.format p.format ++ form_text p)
     → l.sink ≡ sink → l.format ≡ Some p.format → l.settling.filling ≡ m.filling
-    → l.settling.fill ≡ m.fill → l.settling.held ≡ held_by m.filling p → TakesFrame took k h l
+    → l.settling.fill ≡ m.fill → l.settling.held ≡ held_by m.filling p → SinkTakes took k h l
 takes_frame took k l m sink p h filling fill held is written sunk begun filled by kept = record {
   written = ap took sunk ∙ written ∙ ap (λ (t : List ℕ). took k.sink ++ t) (frame_text_is k p h is);
   format = begun ∙ ap (λ (f : Format). Some f) (frame_format_is k p h is);
@@ -201,7 +201,7 @@ pub takes_planes : {K A : Type 0} (took : K → List ℕ) (k l : FormSink K A) (
     → octets ≡ planes_text (picture_of k.settling.fill None h.frame)
     → took sink ≡ took k.sink ++ (head_for k.format f ++ (frame_line ++ octets))
     → l.sink ≡ sink → l.format ≡ Some f → l.settling.filling ≡ m.filling
-    → l.settling.fill ≡ m.fill → l.settling.held ≡ m.held → TakesFrame took k h l
+    → l.settling.fill ≡ m.fill → l.settling.held ≡ m.held → SinkTakes took k h l
 takes_planes took k l m sink octets f h filling fill held by none ycc same is written sunk begun
     filled filled_by kept =
     let p : Values = picture_of k.settling.fill k.settling.held h.frame in

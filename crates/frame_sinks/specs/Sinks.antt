@@ -18,7 +18,7 @@ text_for k h = head_for k.format h.frame.format
 -- It took a frame: the sink of octets below it, of which `took` says what it took so far, took the
 -- frame's picture, behind the head of a stream where one begins; and it holds what the next one is
 -- settled over.
-pub record TakesFrame {K A : Type 0} (took : K → List ℕ) (k : FormSink K A) (h : Handed)
+pub record SinkTakes {K A : Type 0} (took : K → List ℕ) (k : FormSink K A) (h : Handed)
     (l : FormSink K A) : Type 0 where
   pub written : took l.sink ≡ took k.sink ++ text_for k h
   pub format : l.format ≡ Some h.frame.format

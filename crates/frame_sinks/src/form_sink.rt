@@ -27,7 +27,7 @@ pub struct FormSink<K: ByteSink + Drop, A: Allocator = Global> {
 
 impl<K: ByteSink + Drop, A: Allocator + Copy> FormSink<K, A> {
     ghost use Rattle.std.specs.Prelude.{◌∷◌, [], IfErr, OnErr, OnOk};
-    ghost use Rattle.frame_sinks.specs.Sinks.{FailsFrame, TakesFrame};
+    ghost use Rattle.frame_sinks.specs.Sinks.{FailsFrame, SinkTakes};
     ghost use Rattle.picture_forms.specs.Layouts.{IsYcc};
     ghost use Rattle.run_outcome.specs.Fault.{Accounts, IfRefused, counts};
 
@@ -50,7 +50,7 @@ impl<K: ByteSink + Drop, A: Allocator + Copy> FormSink<K, A> {
 
     /// Writes a frame of which a picture is settled.
     fn show_picture<B: Allocator>(&mut self, timestamp: u32, frame: &Frame<B>) -> Result<(), Fault>
-        ensures taken { OnOk result (TakesFrame K.took self.old
+        ensures taken { OnOk result (SinkTakes K.took self.old
             (record { timestamp = timestamp; frame = frame.now }) self.new) }
         ensures failed { OnErr result (FailsFrame K.took self.old
             (record { timestamp = timestamp; frame = frame.now }) self.new) }
@@ -70,7 +70,7 @@ impl<K: ByteSink + Drop, A: Allocator + Copy> FormSink<K, A> {
         requires ycc { IsYcc frame.now.format.sampling }
         requires filling { self.old.settling.filling ≡ Filling.Fill }
         requires held { self.old.settling.held ≡ None }
-        ensures taken { OnOk result (TakesFrame K.took self.old
+        ensures taken { OnOk result (SinkTakes K.took self.old
             (record { timestamp = timestamp; frame = frame.now }) self.new) }
         ensures failed { OnErr result (FailsFrame K.took self.old
             (record { timestamp = timestamp; frame = frame.now }) self.new) }
@@ -95,9 +95,9 @@ impl<K: ByteSink + Drop, A: Allocator + Copy> FormSink<K, A> {
 }
 
 impl<K: ByteSink + Drop, A: Allocator + Copy> PictureSink for FormSink<K, A> {
-    ghost use Rattle.frame_sinks.specs.Sinks.{FailsFrame, TakesFrame};
+    ghost use Rattle.frame_sinks.specs.Sinks.{FailsFrame, SinkTakes};
 
-    ghost takes = { λ k h l. TakesFrame K.took k h l };
+    ghost takes = { λ k h l. SinkTakes K.took k h l };
 
     ghost fails = { λ k h l. FailsFrame K.took k h l };
 

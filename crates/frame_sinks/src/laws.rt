@@ -11,7 +11,7 @@ ghost use Rattle.follow_engine.specs.declared.telling.FollowTotals.{FollowTotals
 ghost use Rattle.following.specs.Following.{Handed};
 ghost use Rattle.frame_sinks.specs.Files.{FilesFrame, files_for};
 ghost use Rattle.frame_sinks.specs.Pictures.{form_stream, pictures_of};
-ghost use Rattle.frame_sinks.specs.Sinks.{FailsFrame, FailsLines, TakesBoth, TakesFrame};
+ghost use Rattle.frame_sinks.specs.Sinks.{FailsFrame, FailsLines, SinkTakes, TakesBoth};
 ghost use Rattle.frame_sinks.specs.Sinks.{TakesLines, frames_report};
 ghost use Rattle.frame_sinks.specs.declared.both.BothSinks.{BothSinks};
 ghost use Rattle.frame_sinks.specs.declared.files_sink.FilesSink.{FilesSink};
@@ -31,7 +31,7 @@ use std::alloc::Allocator;
 /// What is written of frames that a sink takes one after the other is the stream of their pictures,
 /// octet for octet.
 pub fn written<K: ByteSink, A: Allocator>()
-    ensures { (k l : FormSink K A) (hs : List Handed) → TakesEachFrame (TakesFrame K.took) k hs l
+    ensures { (k l : FormSink K A) (hs : List Handed) → TakesEachFrame (SinkTakes K.took) k hs l
         → K.took l.sink ≡ K.took k.sink
         ++ form_stream k.format
         (pictures_of k.settling.filling k.settling.fill k.settling.held hs) }
@@ -41,7 +41,7 @@ pub fn written<K: ByteSink, A: Allocator>()
 /// of all of them, that one among them.
 pub fn cut<K: ByteSink, A: Allocator>()
     ensures { (k m l : FormSink K A) (hs : List Handed) (h : Handed) →
-        TakesEachFrame (TakesFrame K.took) k hs m → FailsFrame K.took m h l →
+        TakesEachFrame (SinkTakes K.took) k hs m → FailsFrame K.took m h l →
         GrowsSome (K.took k.sink) (K.took l.sink) (form_stream k.format
         (pictures_of k.settling.filling k.settling.fill k.settling.held (hs ++ h ∷ []))) }
 {}
@@ -52,7 +52,7 @@ pub fn follows<K: ByteSink, A: Allocator, B: Allocator, S: ByteSource>()
     ensures { (w : FollowAsked) (sdp : Option (List ℕ)) (ways : List (Result Flows Refusal))
         (files : List (Side B S × Side B S)) (k l : FormSink K A) (printed printed' : List ℕ)
         (totals : FollowTotals) →
-        (is : FollowsWhole w sdp ways (SideRead S.gave S.ended) files (TakesFrame K.took) k l
+        (is : FollowsWhole w sdp ways (SideRead S.gave S.ended) files (SinkTakes K.took) k l
         printed printed' totals) → K.took l.sink ≡ K.took k.sink
         ++ form_stream k.format (pictures_of k.settling.filling k.settling.fill
         k.settling.held (frames_of_events (followed_events w is.opening is.entries))) }

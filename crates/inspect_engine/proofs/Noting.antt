@@ -26,7 +26,8 @@ use Rattle.pcap_file.specs.declared.fault.RecordingFault.TheVariants.{TooManyInt
 use Rattle.pcap_file.specs.declared.fault.RecordingFault.TheVariants.{PacketTooLong, Packed}
 use Rattle.pcap_file.specs.declared.fault.RecordingFault.TheVariants.{TooManyBlocks}
 use Rattle.inspect_engine.specs.Arrivals.{IsAddress, arrival_by, arrivals_of, omission_by, omissions_of}
-use Rattle.inspect_engine.specs.Inspected.{HasStopped, Notes, NotesAll, NotesBehind, NotesOctets}
+use Rattle.inspect_engine.specs.Inspected.{HasReadUpTo, NotesAll, NotesBehind, NotesEach}
+use Rattle.inspect_engine.specs.Inspected.{NotesOctets}
 use Rattle.inspect_engine.specs.Inspected.{NotesUnless}
 use Rattle.inspect_engine.specs.Inspected.{end_of, is_cut, is_told}
 use Rattle.recording_counts.specs.LeftOut.{left_out_of}
@@ -43,14 +44,14 @@ here p = arrival_by p (datagram_in p)
 abbrev why : Recorded → List Omission
 why p = omission_by (datagram_in p)
 
-pub notes_none : {A : Type 0} (s : Inspection A) → Notes [] s s
+pub notes_none : {A : Type 0} (s : Inspection A) → NotesEach [] s s
 notes_none s = record {
   flows = λ arrivals e. e ∙ ap flow_counts (sym (append-nil arrivals));
   left_out = λ omissions e. e ∙ ap left_out_of (sym (append-nil omissions));
 }
 
 pub notes_then : {A : Type 0} (p q : List Recorded) (old mid new : Inspection A)
-    → Notes p old mid → Notes q mid new → Notes (p ++ q) old new
+    → NotesEach p old mid → NotesEach q mid new → NotesEach (p ++ q) old new
 notes_then p q old mid new first second = record {
   flows = λ arrivals e.
       second.flows (arrivals ++ arrivals_of p) (first.flows arrivals e)
@@ -68,7 +69,7 @@ pub notes_datagram : {A : Type 0} (p : Recorded) (d : Datagram) (a : Arrival)
     (old new : Inspection A) → datagram_in p ≡ Ok d → arrival_by p (Ok d) ≡ a ∷ []
     → ((arrivals : List Arrival) → old.flows ≡ flow_counts arrivals
     → new.flows ≡ flow_counts (arrivals ++ a ∷ []))
-    → new.left_out ≡ old.left_out → Notes (p ∷ []) old new
+    → new.left_out ≡ old.left_out → NotesEach (p ∷ []) old new
 notes_datagram p d a old new e is flows same = record {
   flows = λ arrivals was.
       flows arrivals was
@@ -86,7 +87,7 @@ pub notes_reason : {A : Type 0} (p : Recorded) (reason : NoDatagram) (old new : 
     → datagram_in p ≡ Err reason → new.flows ≡ old.flows
     → ((omissions : List Omission) → old.left_out ≡ left_out_of omissions
     → new.left_out ≡ left_out_of (omissions ++ by.NoDatagram reason ∷ []))
-    → Notes (p ∷ []) old new
+    → NotesEach (p ∷ []) old new
 notes_reason p reason old new e same left_out = record {
   flows = λ arrivals was.
       same ∙ was
@@ -131,7 +132,7 @@ rest_is place xs =
 pub record Going {A : Type 0} (room : ℕ) (start seen : Seen) (read now : List ℕ)
     (old new : Inspection A) : Type 0 where
   pub packets : List Recorded
-  pub noted : Notes packets old new
+  pub noted : NotesEach packets old new
   pub reads : (before : List ℕ) (earlier : List Recorded)
       → HasRead room before read start earlier → HasRead room before now seen (earlier ++ packets)
 
@@ -146,7 +147,7 @@ going_none room start read s = record {
 
 pub going_on : {A : Type 0} (room : ℕ) (start mid seen : Seen) (read was now : List ℕ)
     (old table new : Inspection A) (p : Recorded) → Going room start mid read was old table
-    → ReadsPacket room was now mid seen p → Notes (p ∷ []) table new
+    → ReadsPacket room was now mid seen p → NotesEach (p ∷ []) table new
     → Going room start seen read now old new
 going_on room start mid seen read was now old table new p g reads noted = record {
   packets = g.packets ++ p ∷ [];
@@ -188,18 +189,18 @@ octets_are before now part ended octets e read =
     read.parts ∙ ap (λ (x : List ℕ). x ++ read.behind) (since_is before now part e)
 
 from_packets : {A : Type 0} (room : ℕ) (told : List ℕ → Type 0) (end : Option RecordingFault)
-    (packets : List Recorded) (old new : Inspection A) → Notes packets old new
+    (packets : List Recorded) (old new : Inspection A) → NotesEach packets old new
     → ((octets : List ℕ) → told octets
     → (packets_in room octets ≡ packets) × (fault_in room octets ≡ end))
     → NotesOctets room told end old new
 from_packets room told end packets old new notes is = record {
   noted = λ octets t.
-      subst (λ (x : List Recorded). Notes x old new) (sym (is octets t).0) notes;
+      subst (λ (x : List Recorded). NotesEach x old new) (sym (is octets t).0) notes;
   ends = λ octets t. (is octets t).1;
 }
 
 all_read : {A : Type 0} (room : ℕ) (before now : List ℕ) (ended : Type 0)
-    (packets : List Recorded) (old new : Inspection A) → Notes packets old new
+    (packets : List Recorded) (old new : Inspection A) → NotesEach packets old new
     → HasReadAll room before now ended packets
     → NotesOctets room (IsRead before now ended) None old new
 all_read room before now ended packets old new notes all =
@@ -230,7 +231,7 @@ content_all TooManyBlocks Told P Q h k = k h
 
 failed_read : {A : Type 0} (room : ℕ) (before now : List ℕ) (ended : Type 0)
     (f : RecordingFault) (packets : List Recorded) (old new : Inspection A)
-    → Notes packets old new → HasFailed room before now ended f packets
+    → NotesEach packets old new → HasFailed room before now ended f packets
     → IfContent f (NotesOctets room (IsRead before now ended) (Some f) old new)
 failed_read room before now ended f packets old new notes failed =
     content_all f (IsRead before now ended)
@@ -248,7 +249,7 @@ failed_read room before now ended f packets old new notes failed =
 -- where reading has stopped, what was noted is what was read
 pub stopped : {A : Type 0} (room : ℕ) (before now : List ℕ) (ended : Type 0)
     (end : Option RecordingFault) (packets : List Recorded) (old new : Inspection A)
-    → Notes packets old new → HasStopped room before now ended end packets
+    → NotesEach packets old new → HasReadUpTo room before now ended end packets
     → NotesUnless room (IsRead before now ended) end old new
 stopped room before now ended None packets old new notes all =
     all_read room before now ended packets old new notes all
@@ -331,7 +332,7 @@ none_noted room told s = record {
 }
   where
     noted : (octets : List (List ℕ)) → AllZip told [] octets
-        → Notes (flat_map (packets_in room) octets) s s
+        → NotesEach (flat_map (packets_in room) octets) s s
     noted [] t = notes_none s
     noted (o ∷ octets) t = absurd t
 
@@ -358,7 +359,7 @@ one_noted room told xs x cut short old mid new all one = record {
       ∙ flat_map-append (packets_in room) s.front (s.last ∷ [])
       ∙ ap (λ (l : List Recorded). flat_map (packets_in room) s.front ++ l)
       (append-nil (packets_in room s.last)) in
-      subst (λ (l : List Recorded). Notes l old new) (sym packets)
+      subst (λ (l : List Recorded). NotesEach l old new) (sym packets)
       (notes_then (flat_map (packets_in room) s.front) (packets_in room s.last) old mid new
       (all.noted s.front s.tell)
       (one.noted s.last s.one));

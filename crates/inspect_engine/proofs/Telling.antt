@@ -18,7 +18,7 @@ use Rattle.run_outcome.specs.LowerFaults.{of_recording}
 use Rattle.run_outcome.specs.Refusing.{OfRefusal}
 use Rattle.run_outcome.specs.declared.refusal.Refusal.{Refusal}
 use Rattle.inspect_engine.specs.Arrivals.{arrivals_of}
-use Rattle.inspect_engine.specs.Inspected.{IsFaultOf, IsFirstFault, NotesAll, NotesOctets}
+use Rattle.inspect_engine.specs.Inspected.{IsFaultOf, IsFirstFailed, NotesAll, NotesOctets}
 use Rattle.inspect_engine.specs.Inspected.{inspection_text}
 use Rattle.recording_counts.specs.LeftOut.{left_out_of}
 use Rattle.recording_counts.specs.declared.left_out.LeftOut.{LeftOut}
@@ -87,7 +87,7 @@ pub first_fault : {S A : Type 0} (room : ℕ) (told : S × S → List ℕ → Ty
     (start now : List S) (k : ℕ) (d y : S) (cut : Bool) (old mid : Inspection A) (r : Refusal)
     → NotesAll room told (zip (take k start) (take k now)) cut old mid
     → drop k now ≡ drop k start → length now ≡ length start → k < length now → d ≡ get_or now k d
-    → IsFaultOf room (told (d, y)) r → IsFirstFault room told (zip start (set now k y)) r
+    → IsFaultOf room (told (d, y)) r → IsFirstFailed room told (zip start (set now k y)) r
 first_fault room told start now k d y cut old mid r notes e len lt is wrong = record {
   front = zip (take k start) (take k now);
   at = (d, y);

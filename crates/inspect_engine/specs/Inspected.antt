@@ -28,23 +28,23 @@ use Rattle.inspect_engine.specs.declared.inspection.Inspection.{Inspection}
 
 -- Packets were noted: the flows are then those of the datagrams before and of theirs, and so are
 -- the reasons.
-pub record Notes {A : Type 0} (packets : List Recorded) (old new : Inspection A) : Type 0 where
+pub record NotesEach {A : Type 0} (packets : List Recorded) (old new : Inspection A) : Type 0 where
   pub flows : (arrivals : List Arrival) → old.flows ≡ flow_counts arrivals
       → new.flows ≡ flow_counts (arrivals ++ arrivals_of packets)
   pub left_out : (omissions : List Omission) → old.left_out ≡ left_out_of omissions
       → new.left_out ≡ left_out_of (omissions ++ omissions_of packets)
 
 -- a source gave all of a recording of these packets, or as far as a fault
-abbrev pub HasStopped : ℕ → List ℕ → List ℕ → Type 0 → Option RecordingFault → List Recorded
+abbrev pub HasReadUpTo : ℕ → List ℕ → List ℕ → Type 0 → Option RecordingFault → List Recorded
     → Type 0
-HasStopped room before now ended None packets = HasReadAll room before now ended packets
-HasStopped room before now ended (Some f) packets = HasFailed room before now ended f packets
+HasReadUpTo room before now ended None packets = HasReadAll room before now ended packets
+HasReadUpTo room before now ended (Some f) packets = HasFailed room before now ended f packets
 
 -- A recording was noted up to its end, or up to its fault: its packets are those of the octets that
 -- were read, and so is the fault.
 pub record NotesOctets {A : Type 0} (room : ℕ) (told : List ℕ → Type 0)
     (end : Option RecordingFault) (old new : Inspection A) : Type 0 where
-  pub noted : (octets : List ℕ) → told octets → Notes (packets_in room octets) old new
+  pub noted : (octets : List ℕ) → told octets → NotesEach (packets_in room octets) old new
   pub ends : (octets : List ℕ) → told octets → fault_in room octets ≡ end
 
 -- the same, unless the source failed
@@ -64,9 +64,9 @@ NotesRecording room before now ended end old new =
 pub record NotesBehind {A : Type 0} (room : ℕ) (seen : Seen) (read now : List ℕ) (ended : Type 0)
     (end : Option RecordingFault) (old new : Inspection A) : Type 0 where
   pub packets : List Recorded
-  pub noted : Notes packets old new
+  pub noted : NotesEach packets old new
   pub stops : (before : List ℕ) (earlier : List Recorded) → HasRead room before read seen earlier
-      → HasStopped room before now ended end (earlier ++ packets)
+      → HasReadUpTo room before now ended end (earlier ++ packets)
 
 -- a device's fault is one failure more, and any other end none
 abbrev pub counts_end : Option RecordingFault → ℕ → ℕ → Type 0
@@ -92,7 +92,7 @@ is_told f = is_cut f
 pub record NotesAll {S A : Type 0} (room : ℕ) (told : S → List ℕ → Type 0) (recordings : List S)
     (cut : Bool) (old new : Inspection A) : Type 0 where
   pub noted : (octets : List (List ℕ)) → AllZip told recordings octets
-      → Notes (flat_map (packets_in room) octets) old new
+      → NotesEach (flat_map (packets_in room) octets) old new
   pub ends : (octets : List (List ℕ)) → AllZip told recordings octets
       → list_all (λ o. is_told (fault_in room o)) octets ≡ true
   pub cuts : (octets : List (List ℕ)) → AllZip told recordings octets
@@ -155,7 +155,7 @@ IsFaultOf room told r = ⊥
 
 -- The refusal of recordings that were read in turn is that of one of them, and the first: each
 -- before it was read to its end, or is cut short.
-pub record IsFirstFault {S : Type 0} (room : ℕ) (told : S → List ℕ → Type 0) (recordings : List S)
+pub record IsFirstFailed {S : Type 0} (room : ℕ) (told : S → List ℕ → Type 0) (recordings : List S)
     (r : Refusal) : Type 0 where
   pub front : List S
   pub at : S

@@ -8,7 +8,7 @@ use Rattle.pcap_file.specs.declared.fault.RecordingFault.TheVariants.{Truncated}
 use Rattle.run_outcome.specs.declared.refusal.Refusal.{Refusal}
 use Rattle.run_outcome.specs.declared.refusal.Refusal.TheVariants.{Recording}
 use Rattle.inspect_engine.specs.Arrivals.{arrivals_of, omissions_of}
-use Rattle.inspect_engine.specs.Inspected.{IsFirstFault, inspection_text, is_cut, is_told}
+use Rattle.inspect_engine.specs.Inspected.{IsFirstFailed, inspection_text, is_cut, is_told}
 use Rattle.inspect_engine.specs.declared.form.Form.{Form}
 use Rattle.recording_counts.specs.LeftOut.{left_out_of}
 
@@ -34,4 +34,4 @@ abbrev pub IsInspectRefusal : {S : Type 0} → Form → (S → List ℕ → Type
     → List ℕ → Refusal → Type 0
 IsInspectRefusal form told recordings shown shown' r =
     ((r ≡ Recording Truncated) × Tells form told recordings true shown shown')
-    ⊎ ((shown' ≡ shown) × IsFirstFault most_packet told recordings r)
+    ⊎ ((shown' ≡ shown) × IsFirstFailed most_packet told recordings r)

@@ -3,7 +3,7 @@ ghost use Rattle.std.specs.Prelude.{◌≡◌, [], ◌∷◌, OnOk};
 ghost use Rattle.recording_counts.specs.FlowCounts.{flow_counts};
 ghost use Rattle.inspect_engine.specs.Arrivals.{captured};
 ghost use Rattle.recording_counts.specs.LeftOut.{left_out_of};
-ghost use Rattle.inspect_engine.specs.Inspected.{Notes};
+ghost use Rattle.inspect_engine.specs.Inspected.{NotesEach};
 
 use crate::destination::destination_of;
 use pcap_file::{PacketHead, packet_datagram};
@@ -37,7 +37,7 @@ impl<A: Allocator + Copy> Inspection<A> {
     ///
     /// That memory was wanted.
     pub(crate) fn note(&mut self, head: &PacketHead, octets: &[u8]) -> Result<(), AllocError>
-        ensures { OnOk result (Notes (captured head.now octets.now ∷ []) self.old self.new) }
+        ensures { OnOk result (NotesEach (captured head.now octets.now ∷ []) self.old self.new) }
     {
         match packet_datagram(head, octets) {
             Ok(datagram) => {

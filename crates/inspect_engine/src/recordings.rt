@@ -5,7 +5,7 @@ ghost use Rattle.run_outcome.specs.Fault.{Accounts, counts};
 ghost use Rattle.run_outcome.specs.Moments.{WasRead};
 ghost use Rattle.run_outcome.specs.Refusing.{OfRefusal};
 ghost use Rattle.st_format.specs.History.{IsRead};
-ghost use Rattle.inspect_engine.specs.Inspected.{IsFaultOf, IsFirstFault, NotesAll, NotesOctets};
+ghost use Rattle.inspect_engine.specs.Inspected.{IsFaultOf, IsFirstFailed, NotesAll, NotesOctets};
 ghost use Rattle.inspect_engine.specs.Inspected.{end_of};
 
 use crate::inspection::Inspection;
@@ -32,7 +32,7 @@ pub fn note_recordings<A: Allocator + Copy, S: ByteSource>(
     ensures len { length recordings.new ≡ length recordings.old }
     ensures noted { IfOk result (λ cut. NotesAll (length buf.old) (WasRead S.gave S.ended)
         (zip recordings.old recordings.new) cut inspection.old inspection.new) }
-    ensures refusal { IfErr result (λ f. OfRefusal f (IsFirstFault (length buf.old)
+    ensures refusal { IfErr result (λ f. OfRefusal f (IsFirstFailed (length buf.old)
         (WasRead S.gave S.ended) (zip recordings.old recordings.new))) }
     ensures failures { Accounts result (counts (sum_by S.failures recordings.old)
         (sum_by S.failures recordings.new) ∷ []) }

@@ -79,11 +79,11 @@ Puts {S} takes fails Are first old new (Err (fault.Job e)) = new ≡ old
 Puts {S} takes fails Are first old new (Err fault.BadPacketSize) = new ≡ old
 
 -- A sink failed once where it is the fault, and else not at all.
-abbrev pub CountsSink : ℕ → ℕ → Result ℕ SendJobFault → Type 0
-CountsSink old new (Ok next) = new ≡ old
-CountsSink old new (Err (fault.Sink sent)) = CountsOne old new
-CountsSink old new (Err (fault.Job e)) = new ≡ old
-CountsSink old new (Err fault.BadPacketSize) = new ≡ old
+abbrev pub CountsJobSink : ℕ → ℕ → Result ℕ SendJobFault → Type 0
+CountsJobSink old new (Ok next) = new ≡ old
+CountsJobSink old new (Err (fault.Sink sent)) = CountsOne old new
+CountsJobSink old new (Err (fault.Job e)) = new ≡ old
+CountsJobSink old new (Err fault.BadPacketSize) = new ≡ old
 
 -- Nothing speaks against the job, and the size is one for the format of its picture.
 pub record IsSendable (j : Job) (formats : List Format) (size : ℕ) : Type 0 where

@@ -4,7 +4,7 @@ ghost use Rattle.std.specs.List.{AllByRecursion};
 ghost use Rattle.packet_plan.specs.Sent.{IsSentPicture};
 ghost use Rattle.key_mix.specs.Jobs.{IsJobFormat, IsJobPicture, IsRefusal, IsSoundJob};
 ghost use Rattle.key_mix.specs.Sending.{
-  CountsSink,
+  CountsJobSink,
   HasBase,
   IsEarly,
   IsLate,
@@ -73,7 +73,7 @@ pub fn send_job<A: Allocator, C: Allocator + Copy, S: DatagramSink>(
     ensures fault { IfErr result
         (λ e. IsSendFault e job.now (input_formats inputs.now) max_octets) }
     // The sink fails once where it is the fault, and not at all where it isn't.
-    ensures counted { CountsSink (S.failures sink.old) (S.failures sink.new) result }
+    ensures counted { CountsJobSink (S.failures sink.old) (S.failures sink.new) result }
 {
     let plan = job_plan(alloc, job, inputs, max_octets)?;
     plan.facts();
@@ -161,7 +161,7 @@ fn send_picture<A: Allocator, R: Raster, C: Allocator, S: DatagramSink>(
         (λ ds. IsSentPicture ds (R.values picture.now) stamp plan.now.max_octets plan.now.packets)
         stamp.first sink.old sink.new result }
     ensures late { IfErr result IsLate }
-    ensures counted { CountsSink (S.failures sink.old) (S.failures sink.new) result }
+    ensures counted { CountsJobSink (S.failures sink.old) (S.failures sink.new) result }
 {
     plan.facts();
     let mut buf = Vec::from_elem(alloc, 0, plan.max_octets() as usize)?;

@@ -17,8 +17,8 @@ use Rattle.export_engine.specs.declared.places.Envelopes.{Envelopes}
 
 -- the refusal of the text of a capture that was read, which is to say the rate: it is no SDP of
 -- video
-abbrev pub IsFrontRefusal : (List ℕ → Type 0) → Refusal → Type 0
-IsFrontRefusal told r = (octets : List ℕ) → told octets
+abbrev pub IsPacedFrontRefusal : (List ℕ → Type 0) → Refusal → Type 0
+IsPacedFrontRefusal told r = (octets : List ℕ) → told octets
     → (x : List ℕ × List ℕ) × (front_at octets ≡ Ok x) × IsDescriptionRefusal x.0 r
 
 -- a capture that was read is at fault at its front
@@ -45,7 +45,7 @@ pub record IsReadAhead (told : List ℕ → Type 0) : Type 0 where
 abbrev pub IsAheadRefusal : (List ℕ → Type 0) → Refusal → Type 0
 IsAheadRefusal told (refusal.Capture f) =
     IsReadRefusal told (refusal.Capture f) × (HasFrontFault told f ⊎ HasRate told)
-IsAheadRefusal told (refusal.Sdp at) = IsFrontRefusal told (refusal.Sdp at)
+IsAheadRefusal told (refusal.Sdp at) = IsPacedFrontRefusal told (refusal.Sdp at)
 IsAheadRefusal told r = ⊥
 
 -- The refusal of `export --paced`: the texts are no flows to addresses; or they are, and it is that

@@ -25,7 +25,7 @@ stamp_of s k first =
     }
 
 -- The datagrams of picture k by some raster plan, and then others, whose numbers run on
-pub record IsNext (s : Sender) (k first : ℕ) (p : Values) (later : ℕ → List (List ℕ) → Type 0)
+pub record IsNextSent (s : Sender) (k first : ℕ) (p : Values) (later : ℕ → List (List ℕ) → Type 0)
     (datagrams : List (List ℕ)) : Type 0 where
   pub size : ℕ
   pub packets : List (List PacketRun)
@@ -39,7 +39,7 @@ pub record IsNext (s : Sender) (k first : ℕ) (p : Values) (later : ℕ → Lis
 -- pictures from the k-th on, the first packet's number given
 abbrev pub SendsFrom : Sender → ℕ → List Values → ℕ → List (List ℕ) → Type 0
 SendsFrom s k [] first datagrams = datagrams ≡ []
-SendsFrom s k (p ∷ ps) first datagrams = IsNext s k first p (SendsFrom s (k + 1) ps) datagrams
+SendsFrom s k (p ∷ ps) first datagrams = IsNextSent s k first p (SendsFrom s (k + 1) ps) datagrams
 
 -- A sender's list: at most 10,000 pictures (own), one after another
 pub record IsSenderList (datagrams : List (List ℕ)) (s : Sender) (first : ℕ)

@@ -29,7 +29,7 @@ pub record IsStage {A : Type 0} (plan : RasterPlan) (stamp : Stamp) (pictures : 
   pub sends : length stage.sent.items ≡ send_count events
 
 -- what the sender needs
-pub record IsReady {A : Type 0} (plan : RasterPlan) (stage : Stage A) : Type 0 where
+pub record IsReadyStage {A : Type 0} (plan : RasterPlan) (stage : Stage A) : Type 0 where
   pub room : EachHasRoom plan (length stage.buf.items)
   pub index : stage.next.index < length plan.packets
 

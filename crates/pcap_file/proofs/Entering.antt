@@ -10,7 +10,7 @@ use Rattle.pcap_file.specs.declared.pcap.PacketHead.{PacketHead}
 use Rattle.pcap_file.specs.declared.section.Step.{Step}
 use Rattle.pcap_file.specs.BlockReading.{enhanced_of, obsolete_of, simple_of}
 use Rattle.pcap_file.specs.Fields.{IsContent}
-use Rattle.pcap_file.specs.NgSteps.{GoesOn, IsWithin, Known, Stepped, describe_of, enter_of}
+use Rattle.pcap_file.specs.NgSteps.{GoesOn, IsPacketWithin, Known, Stepped, describe_of, enter_of}
 use Rattle.pcap_file.specs.NgSteps.{packet_step, step_seen, with_packet}
 
 abbrev Read : Type 0
@@ -84,11 +84,11 @@ packet_fault k at body (Err f) r found e is =
 
 pub packet_within : (at room : ℕ) (x : Read) (r : Result Step RecordingFault)
     → r ≡ packet_step x at → IfOk x (λ p. at + p.captured ≤ room)
-    → IfOk r (λ s. IsWithin s room)
+    → IfOk r (λ s. IsPacketWithin s room)
 packet_within at room (Ok p) r e is =
-    subst (λ (q : Result Step RecordingFault). IfOk q (λ s. IsWithin s room)) (sym e) is
+    subst (λ (q : Result Step RecordingFault). IfOk q (λ s. IsPacketWithin s room)) (sym e) is
 packet_within at room (Err f) r e is =
-    subst (λ (q : Result Step RecordingFault). IfOk q (λ s. IsWithin s room)) (sym e) tt
+    subst (λ (q : Result Step RecordingFault). IfOk q (λ s. IsPacketWithin s room)) (sym e) tt
 
 pub packet_goes_on : (at : ℕ) (x : Read) (r : Result Step RecordingFault) → r ≡ packet_step x at
     → IfOk r (λ s. GoesOn s)

@@ -12,7 +12,7 @@ use Rattle.std.proofs.lemmas.List.{take-append-le}
 use Rattle.std.proofs.lemmas.List.{take-take, take_at, drop_at}
 use Rattle.pcap_file.specs.declared.order.ByteOrder.{ByteOrder}
 use Rattle.pcap_file.specs.Orders.{number_by, short_at}
-use Rattle.pcap_file.specs.Blocks.{HasOption, IsOption, IsOther, LacksOption, SkipsTo}
+use Rattle.pcap_file.specs.Blocks.{HasOption, IsOption, IsOtherOption, LacksOption, SkipsTo}
 use Rattle.pcap_file.specs.Blocks.{option_octets}
 use Rattle.pcap_file.specs.BlockReading.{option_at}
 use Rattle.pcap_file.proofs.Options.{Found, at_end, at_found, at_none, at_other, by_tests, end_of}
@@ -111,7 +111,7 @@ module _ (order : ByteOrder) where
     none_skipped : (o : List ℕ) → SkipsTo order code o o
     none_skipped o = record { others = []; each = tt; parts = refl }
 
-    push : (o x q rest : List ℕ) → IsOther order code x → o ≡ x ++ q
+    push : (o x q rest : List ℕ) → IsOtherOption order code x → o ≡ x ++ q
         → SkipsTo order code q rest → SkipsTo order code o rest
     push o x q rest is parts s =
         record {
@@ -122,7 +122,7 @@ module _ (order : ByteOrder) where
               ∙ sym (append_assoc x (concat s.others) rest);
         }
 
-    push_says : (o x q : List ℕ) (r : Found) → IsOther order code x → o ≡ x ++ q → Says q r
+    push_says : (o x q : List ℕ) (r : Found) → IsOtherOption order code x → o ≡ x ++ q → Says q r
         → Says o r
     push_says o x q (Ok None) is parts s =
         record { rest = s.rest; skips = push o x q s.rest is parts s.skips; ends = s.ends }
@@ -208,12 +208,12 @@ module _ (order : ByteOrder) where
     -- ---- what stands there is read
 
     skip_again : (others : List (List ℕ)) (rest : List ℕ)
-        → AllByRecursion (IsOther order code) others
+        → AllByRecursion (IsOtherOption order code) others
         → option_at order code (concat others ++ rest) ≡ option_at order code rest
     skip_again [] rest each = refl
     skip_again (x ∷ xs) rest each =
         let more : List ℕ = concat xs ++ rest in
-        let other : IsOther order code x = each.0 in
+        let other : IsOtherOption order code x = each.0 in
         let f = fronted x more other.found other.value other.is in
         ap (λ (y : List ℕ). option_at order code y) (append_assoc x (concat xs) rest)
         ∙ sym (at_other order code (x ++ more) more f.long

@@ -24,7 +24,8 @@ use Rattle.pcap_file.specs.Pcap.{foreign_of}
 use Rattle.pcap_file.specs.NgReading.{block_at, front_at, section_at}
 use Rattle.pcap_file.specs.declared.order.ByteOrder.TheVariants.{Big}
 use Rattle.pcap_file.specs.NgSteps.{GaveStep, GoesOn}
-use Rattle.pcap_file.specs.NgSteps.{IsWithin, Known, Stepped, enter_of, entered, first_at, first_by}
+use Rattle.pcap_file.specs.NgSteps.{IsPacketWithin, Known, Stepped, enter_of, entered, first_at}
+use Rattle.pcap_file.specs.NgSteps.{first_by}
 use Rattle.pcap_file.specs.NgSteps.{fresh}
 use Rattle.pcap_file.specs.NgSteps.{other_step}
 use Rattle.pcap_file.specs.NgSteps.{section_step, section_type, step_at, step_by}
@@ -79,7 +80,7 @@ module _ (front : List ℕ) where
 -- ---- another block
 
 -- a packet's octets are at the same place in a buffer as in its front
-seen_front : (s : Step) (count : ℕ) (buf : List ℕ) → IsWithin s (length (take count buf))
+seen_front : (s : Step) (count : ℕ) (buf : List ℕ) → IsPacketWithin s (length (take count buf))
     → step_seen s (take count buf) ≡ step_seen s buf
 seen_front End count buf w = refl
 seen_front Passed count buf w = refl
@@ -116,7 +117,7 @@ module _ (room : ℕ) (k : Known) (front : List ℕ) where
       (q : Result Step RecordingFault) (after : Known) → type ≡ long_at k.order 0 front
       → Takes (block_at k.order room front) old new (Some (take count buf))
       → IfOk q (λ s. enter_of k type (take count buf) ≡ Ok (after, step_seen s (take count buf)))
-      → IfOk q (λ s. IsWithin s (length (take count buf)))
+      → IfOk q (λ s. IsPacketWithin s (length (take count buf)))
       → IfOk q (λ s. Takes (other_step room k front) old new (after, step_seen s buf))
   unfolding other_step
   other_gives old new type count buf (Ok s) after e p is within =
@@ -143,8 +144,8 @@ module _ (room : ℕ) (k : Known) (front : List ℕ) where
       (ap (λ (n : ℕ). enter_of k n body) (sym e) ∙ is))
 
 pub within_front : (q : Result Step RecordingFault) (count : ℕ) (buf : List ℕ)
-    → IfOk q (λ s. IsWithin s (length (take count buf)))
-    → IfOk q (λ s. IsWithin s (length buf))
+    → IfOk q (λ s. IsPacketWithin s (length (take count buf)))
+    → IfOk q (λ s. IsPacketWithin s (length buf))
 within_front (Ok End) count buf w = tt
 within_front (Ok Passed) count buf w = tt
 within_front (Ok (Packet p at)) count buf w = omega (arith, length-take count buf, w)

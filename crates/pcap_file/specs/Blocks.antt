@@ -61,7 +61,7 @@ pub record IsOption (order : ByteOrder) (octets : List ℕ) (code : ℕ) (value 
   pub whole : octets ≡ front ++ (value ++ padding)
 
 -- an option of another code, which doesn't end the options
-pub record IsOther (order : ByteOrder) (code : ℕ) (octets : List ℕ) : Type 0 where
+pub record IsOtherOption (order : ByteOrder) (code : ℕ) (octets : List ℕ) : Type 0 where
   pub found : ℕ
   pub value : List ℕ
   pub is : IsOption order octets found value
@@ -71,7 +71,7 @@ pub record IsOther (order : ByteOrder) (code : ℕ) (octets : List ℕ) : Type 0
 -- Options of other codes, and what is behind them.
 pub record SkipsTo (order : ByteOrder) (code : ℕ) (octets rest : List ℕ) : Type 0 where
   pub others : List (List ℕ)
-  pub each : AllByRecursion (IsOther order code) others
+  pub each : AllByRecursion (IsOtherOption order code) others
   pub parts : octets ≡ concat others ++ rest
 
 -- the first option of a code, which isn't 0, has this value

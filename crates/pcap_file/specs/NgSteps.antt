@@ -47,10 +47,10 @@ step_seen Passed buffer = Some None
 step_seen (Packet p at) buffer = Some (Some (recorded_at p at buffer))
 
 -- a packet's octets lie in so many
-abbrev pub IsWithin : Step → ℕ → Type 0
-IsWithin End room = ⊤
-IsWithin Passed room = ⊤
-IsWithin (Packet p at) room = at + p.captured ≤ room
+abbrev pub IsPacketWithin : Step → ℕ → Type 0
+IsPacketWithin End room = ⊤
+IsPacketWithin Passed room = ⊤
+IsPacketWithin (Packet p at) room = at + p.captured ≤ room
 
 -- a step that isn't the end
 abbrev pub GoesOn : Step → Type 0

@@ -4,7 +4,7 @@ ghost use Rattle.std.specs.Prelude.{◌≡◌, ◌≤◌, ◌<◌, ◌+◌, ◌-
 ghost use Rattle.std.specs.Prelude.{IfErr, IfOk, IfSome, OnOk};
 ghost use Rattle.pcap_file.specs.Fields.{CountsDevice, GaveFault};
 ghost use Rattle.st_format.specs.Given.{GaveValue};
-ghost use Rattle.pcap_file.specs.NgSteps.{IsWithin, known};
+ghost use Rattle.pcap_file.specs.NgSteps.{IsPacketWithin, known};
 ghost use Rattle.pcap_file.specs.Openings.{behind_at, blocks_laid, laid_behind, pcap_laid};
 ghost use Rattle.pcap_file.specs.Pcap.{foreign_of};
 ghost use Rattle.pcap_file.specs.Runs.{HasFailed, HasRead, ReadsFault, ReadsNext, ReadsStep};
@@ -209,7 +209,7 @@ fn pcap_step<S: ByteSource>(
 ) -> Result<Step, RecordingFault>
     requires { 0 < length buf.old }
     ensures room { length buf.new ≡ length buf.old }
-    ensures within { IfOk result (λ s. IsWithin s (length buf.new)) }
+    ensures within { IfOk result (λ s. IsPacketWithin s (length buf.new)) }
     ensures read { IfOk result (λ s. ReadsStep (length buf.old) (S.gave source.old)
         (S.gave source.new) (S.ended source.new) (in_pcap file.now left.old)
         (in_pcap file.now left.new) s buf.new) }
@@ -239,7 +239,7 @@ fn block_step<S: ByteSource>(
 ) -> Result<Step, RecordingFault>
     requires { 0 < length buf.old }
     ensures room { length buf.new ≡ length buf.old }
-    ensures within { IfOk result (λ s. IsWithin s (length buf.new)) }
+    ensures within { IfOk result (λ s. IsPacketWithin s (length buf.new)) }
     ensures read { IfOk result (λ s. ReadsStep (length buf.old) (S.gave source.old)
         (S.gave source.new) (S.ended source.new) (in_blocks (known section.old) left.old)
         (in_blocks (known section.new) left.new) s buf.new) }
@@ -264,7 +264,7 @@ fn step<S: ByteSource>(
 ) -> Result<Step, RecordingFault>
     requires { 0 < length buf.old }
     ensures room { length buf.new ≡ length buf.old }
-    ensures within { IfOk result (λ s. IsWithin s (length buf.new)) }
+    ensures within { IfOk result (λ s. IsPacketWithin s (length buf.new)) }
     ensures read { IfOk result (λ s. ReadsStep (length buf.old) (S.gave source.old)
         (S.gave source.new) (S.ended source.new) (layout_seen layout.old)
         (layout_seen layout.new) s buf.new) }

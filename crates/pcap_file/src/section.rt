@@ -4,7 +4,7 @@ ghost use Rattle.std.specs.Prelude.{◌≡◌, ◌≤◌, ◌<◌, ◌+◌, leng
 ghost use Rattle.std.specs.Prelude.{Ok, Err};
 ghost use Rattle.pcap_file.specs.Fields.{CountsDevice, Fails, GaveFault, IsContent};
 ghost use Rattle.st_format.specs.Given.{GaveValue, Takes};
-ghost use Rattle.pcap_file.specs.NgSteps.{GaveStep, GoesOn, IsWithin, describe_of, enter_of};
+ghost use Rattle.pcap_file.specs.NgSteps.{GaveStep, GoesOn, IsPacketWithin, describe_of, enter_of};
 ghost use Rattle.pcap_file.specs.NgSteps.{first_at};
 ghost use Rattle.pcap_file.specs.NgSteps.{fresh, packet_step};
 ghost use Rattle.pcap_file.specs.NgSteps.{known, other_step};
@@ -62,7 +62,7 @@ impl Section {
 fn describe(section: &mut Section, body: &[u8]) -> Result<Step, RecordingFault>
     ensures ok { IfOk result (λ s. describe_of (known section.old) body.now
         ≡ Ok (known section.new, step_seen s body.now)) }
-    ensures within { IfOk result (λ s. IsWithin s (length body.now)) }
+    ensures within { IfOk result (λ s. IsPacketWithin s (length body.now)) }
     ensures goes_on { IfOk result (λ s. GoesOn s) }
     ensures fault { IfErr result (λ f. describe_of (known section.old) body.now ≡ Err f) }
     ensures named { IfErr result IsContent }
@@ -92,7 +92,7 @@ fn packet_step(
 fn enter(section: &mut Section, kind: u32, body: &[u8]) -> Result<Step, RecordingFault>
     ensures ok { IfOk result (λ s. enter_of (known section.old) kind body.now
         ≡ Ok (known section.new, step_seen s body.now)) }
-    ensures within { IfOk result (λ s. IsWithin s (length body.now)) }
+    ensures within { IfOk result (λ s. IsPacketWithin s (length body.now)) }
     ensures goes_on { IfOk result (λ s. GoesOn s) }
     ensures fault { IfErr result (λ f. enter_of (known section.old) kind body.now ≡ Err f) }
     ensures named { IfErr result IsContent }
@@ -123,7 +123,7 @@ fn next_section<S: ByteSource>(
     requires room { 0 < length buf.old }
     requires front { length front.now ≡ 8 }
     ensures room { length buf.new ≡ length buf.old }
-    ensures within { IfOk result (λ s. IsWithin s (length buf.new)) }
+    ensures within { IfOk result (λ s. IsPacketWithin s (length buf.new)) }
     ensures goes_on { IfOk result (λ s. GoesOn s) }
     ensures read { IfOk result
         (λ s. Takes (section_step front.now) (S.to_give source.old) (S.to_give source.new)
@@ -151,7 +151,7 @@ fn next_other<S: ByteSource>(
     requires room { 0 < length buf.old }
     requires front { length front.now ≡ 8 }
     ensures room { length buf.new ≡ length buf.old }
-    ensures within { IfOk result (λ s. IsWithin s (length buf.new)) }
+    ensures within { IfOk result (λ s. IsPacketWithin s (length buf.new)) }
     ensures goes_on { IfOk result (λ s. GoesOn s) }
     ensures read { IfOk result
         (λ s. Takes (other_step (length buf.old) (known section.old) front.now)
@@ -195,7 +195,7 @@ pub fn next_block<S: ByteSource>(
 ) -> Result<Step, RecordingFault>
     requires { 0 < length buf.old }
     ensures room { length buf.new ≡ length buf.old }
-    ensures within { IfOk result (λ s. IsWithin s (length buf.new)) }
+    ensures within { IfOk result (λ s. IsPacketWithin s (length buf.new)) }
     ensures read { IfOk result
         (λ s. Takes (step_at (length buf.old) (known section.old)) (S.to_give source.old)
         (S.to_give source.new) (known section.new, step_seen s buf.new)) }

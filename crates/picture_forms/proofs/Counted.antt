@@ -16,7 +16,7 @@ use Rattle.picture_forms.specs.declared.number_part.NumberPart.{NumberPart}
 use Rattle.picture_forms.specs.declared.number_part.NumberStep.TheVariants.{More, Done, Wrong}
 use Rattle.picture_forms.specs.declared.number_part.Stage.{Stage}
 use Rattle.picture_forms.specs.declared.number_part.Stage.TheVariants.{Front, Gap, Digits}
-use Rattle.picture_forms.specs.Numbers.{IsCount, IsGapOf, count_at, digit_step, ends_comment}
+use Rattle.picture_forms.specs.Numbers.{IsGapOf, IsPixmapNumber, count_at, digit_step, ends_comment}
 use Rattle.picture_forms.specs.Numbers.{is_white, number_by, number_step}
 use Rattle.picture_forms.specs.Numbers.{uncommented, value_step, white_step}
 use Rattle.picture_forms.proofs.Numbered.{none_on, one_on, over_on}
@@ -411,7 +411,7 @@ stands_of Front gap digits is some = (is, some)
 stands_of Gap gap digits is some = some
 stands_of Digits gap digits is some = absurd is
 
-pub count_says : (s : Stage) (text behind : List ℕ) (v : ℕ) → IsCount s text v
+pub count_says : (s : Stage) (text behind : List ℕ) (v : ℕ) → IsPixmapNumber s text v
     → count_at s (text ++ behind) ≡ Ok (v, behind)
 unfolding count_at
 count_says s text behind v is =
@@ -427,7 +427,7 @@ count_says s text behind v is =
 -- the text of a number, and what is behind it
 pub record IsCounted (s : Stage) (octets rest : List ℕ) (v : ℕ) : Type 0 where
   pub text : List ℕ
-  pub is : IsCount s text v
+  pub is : IsPixmapNumber s text v
   pub whole : octets ≡ text ++ rest
 
 counted : (s : Stage) (octets rest : List ℕ) (v : ℕ) (q : Found false s 0 1024 octets rest v)

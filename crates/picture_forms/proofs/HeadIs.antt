@@ -26,7 +26,8 @@ use Rattle.st_format.proofs.Readings.{bind_ok}
 use Rattle.picture_forms.specs.declared.fault.FormFault.{FormFault}
 use Rattle.picture_forms.specs.declared.fault.FormFault.TheVariants.{BadHeader, BadMagic, Truncated}
 use Rattle.picture_forms.specs.declared.fault.FormFault.TheVariants.{UnsupportedForm}
-use Rattle.picture_forms.specs.Heads.{HasHead, IsHead, IsNumberText, IsOther, IsProgressive, IsTold}
+use Rattle.picture_forms.specs.Heads.{HasHead, IsHead, IsLastWord, IsNumberText, IsOtherWord}
+use Rattle.picture_forms.specs.Heads.{IsProgressive}
 use Rattle.picture_forms.specs.Heads.{colour_at, colour_named, colour_word, head_at, head_walk}
 use Rattle.picture_forms.specs.Heads.{last_of, limited, name_at, name_of, needed, number_at}
 use Rattle.picture_forms.specs.Heads.{rate_at, rate_parts, scan_at, told, told_last, words}
@@ -50,11 +51,11 @@ abbrev Found : Type 0
 Found = Option (List ℕ)
 
 abbrev Others : ℕ → List (List ℕ) → Type 0
-Others letter ws = AllByRecursion (IsOther letter) ws
+Others letter ws = AllByRecursion (IsOtherWord letter) ws
 
 record Tells (letter : ℕ) (before : Found) (ws : List (List ℕ)) : Type 0 where
   text : List ℕ
-  is : IsTold letter ws text
+  is : IsLastWord letter ws text
   answer : told_last letter before ws ≡ Some text
 
 record Keeps (letter : ℕ) (before : Found) (ws : List (List ℕ)) : Type 0 where
@@ -109,16 +110,16 @@ told_cases letter (word ∷ ws) before =
     one_word letter word ws before (told_cases letter ws (told letter before word))
 
 told_by : (letter : ℕ) (ws : List (List ℕ)) (text : List ℕ) → Telling letter None ws
-    → told_last letter None ws ≡ Some text → IsTold letter ws text
+    → told_last letter None ws ≡ Some text → IsLastWord letter ws text
 told_by letter ws text (inl h) e =
-    subst (λ (t : List ℕ). IsTold letter ws t) (some_same h.text text (sym h.answer ∙ e)) h.is
+    subst (λ (t : List ℕ). IsLastWord letter ws t) (some_same h.text text (sym h.answer ∙ e)) h.is
 told_by letter ws text (inr h) e =
     let none : Found = None in
     let bad : none ≡ Some text = sym h.answer ∙ e in
     absurd cc
 
 told_found : (letter : ℕ) (ws : List (List ℕ)) (text : List ℕ)
-    → told_last letter None ws ≡ Some text → IsTold letter ws text
+    → told_last letter None ws ≡ Some text → IsLastWord letter ws text
 told_found letter ws text e = told_by letter ws text (told_cases letter ws None) e
 
 untold_by : (letter : ℕ) (ws : List (List ℕ)) → Telling letter None ws
@@ -152,7 +153,7 @@ told_front letter [] text behind before last =
 told_front letter (w ∷ front) text behind before last =
     told_front letter front text behind (told letter before w) last
 
-told_says : (letter : ℕ) (ws : List (List ℕ)) (text : List ℕ) → IsTold letter ws text
+told_says : (letter : ℕ) (ws : List (List ℕ)) (text : List ℕ) → IsLastWord letter ws text
     → told_last letter None ws ≡ Some text
 told_says letter ws text is =
     ap (told_last letter None) is.parts ∙ told_front letter is.front text is.behind None is.last

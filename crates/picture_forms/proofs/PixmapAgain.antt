@@ -34,7 +34,7 @@ use Rattle.picture_forms.specs.declared.number_part.Stage.{Stage}
 use Rattle.picture_forms.specs.declared.number_part.Stage.TheVariants.{Front, Gap}
 use Rattle.picture_forms.specs.Heads.{limited}
 use Rattle.picture_forms.specs.Layouts.{IsRgb, pixmap_head}
-use Rattle.picture_forms.specs.Numbers.{IsCount, IsGapOf, count_at, is_white, uncommented}
+use Rattle.picture_forms.specs.Numbers.{IsGapOf, IsPixmapNumber, count_at, is_white, uncommented}
 use Rattle.picture_forms.specs.Pixmaps.{HasPixmapHead, IsPixmapHead, depth_by, magic_at, magic_of}
 use Rattle.picture_forms.specs.Pixmaps.{pixmap_format, pixmap_head_walk}
 use Rattle.picture_forms.specs.Walks.{field_at}
@@ -232,7 +232,7 @@ head_found n d octets rest f e =
         parts = refl;
         is_width = width.is;
         is_height = height.is;
-        is_most = subst (λ (k : ℕ). IsCount Gap most.text k) is.most most.is;
+        is_most = subst (λ (k : ℕ). IsPixmapNumber Gap most.text k) is.most most.is;
         format =
             is.format
             ∙ ap (λ (x : Fields). let s : Result Fields FormatFault = Ok x in s) (sym same.0);
@@ -265,7 +265,7 @@ digits_plain (o ∷ ds) all =
 -- a number behind white space that needs no comment
 number_text : (s : Stage) (gap : List ℕ) (k last : ℕ) → k < 100000 → IsGapOf s gap
     → list_all is_white gap ≡ true → uncommented (gap ++ decimal k) false ≡ Some (gap ++ decimal k)
-    → length gap ≤ 1 → is_white last ≡ true → IsCount s (gap ++ (decimal k ++ last ∷ [])) k
+    → length gap ≤ 1 → is_white last ≡ true → IsPixmapNumber s (gap ++ (decimal k ++ last ∷ [])) k
 number_text s gap k last small before white plain short ended =
     let wide : k < 2 ^ 64 = omega (arith, small) in
     let few : length (decimal k) ≤ 5 =

@@ -14,7 +14,7 @@ use Rattle.picture_forms.specs.declared.fault.FormFault.TheVariants.{BadHeader, 
 use Rattle.picture_forms.specs.declared.fault.FormFault.TheVariants.{BadFormat, Truncated}
 use Rattle.picture_forms.specs.declared.fault.FormFault.TheVariants.{ValueTooLarge}
 use Rattle.picture_forms.specs.Faults.{IfContent, IsShown}
-use Rattle.picture_forms.specs.Walks.{Fails, Finds, GaveFault, Gives, IsCut, IsShort}
+use Rattle.picture_forms.specs.Walks.{Fails, GaveFault, Gives, IsCut, IsFaultIn, IsShort}
 use Rattle.picture_forms.specs.Walks.{Reads, Refuses, field_at}
 
 abbrev pub Reading : Type 0 → Type 0
@@ -69,14 +69,14 @@ reads_pure {X} r o l x e = record {
 -- ---- a fault
 
 finds_first : {X Y : Type 0} (first : Reading X) (next : X → Reading Y) (f : FormFault)
-    (part : List ℕ) (l : Option (List ℕ)) (e : Type 0) → Finds first f part l e
-    → Finds (then_reads first next) f part l e
+    (part : List ℕ) (l : Option (List ℕ)) (e : Type 0) → IsFaultIn first f part l e
+    → IsFaultIn (then_reads first next) f part l e
 finds_first {X} {Y} first next f part l e p = by f p
   where
     on : (o : List ℕ) (g : FormFault) → first o ≡ Err g → then_reads first next o ≡ Err g
     on o g is = ap (λ (r : Result (X × List ℕ) FormFault). r >>= λ z. next z.0 z.1) is
 
-    by : (f : FormFault) → Finds first f part l e → Finds (then_reads first next) f part l e
+    by : (f : FormFault) → IsFaultIn first f part l e → IsFaultIn (then_reads first next) f part l e
     by NoMemory p = tt
     by Device p = tt
     by BadMagic p = λ behind. on (part ++ behind) BadMagic (p behind)
@@ -99,7 +99,7 @@ refuses_first first next w l a b e f p = record {
 finds_behind : {X Y : Type 0} (r : Reading X) (s : Reading Y) (front part : List ℕ)
     (f : FormFault) (l : Option (List ℕ)) (e : Type 0)
     → ((o : List ℕ) (g : FormFault) → r o ≡ Err g → s (front ++ o) ≡ Err g)
-    → Finds r f part l e → Finds s f (front ++ part) l e
+    → IsFaultIn r f part l e → IsFaultIn s f (front ++ part) l e
 finds_behind {X} {Y} r s front part f l e step p = by f p
   where
     on : (g : FormFault) (behind : List ℕ) → r (part ++ behind) ≡ Err g
@@ -107,7 +107,7 @@ finds_behind {X} {Y} r s front part f l e step p = by f p
     on g behind is =
         ap s (append_assoc front part behind) ∙ step (part ++ behind) g is
 
-    by : (f : FormFault) → Finds r f part l e → Finds s f (front ++ part) l e
+    by : (f : FormFault) → IsFaultIn r f part l e → IsFaultIn s f (front ++ part) l e
     by NoMemory p = tt
     by Device p = tt
     by BadMagic p = λ behind. on BadMagic behind (p behind)
@@ -140,7 +140,7 @@ refuses_then {X} {Y} first next w m l a b c e x f p q =
 -- what octets show by themselves
 finds_shown : {X : Type 0} (r : Reading X) (part : List ℕ) (l : Option (List ℕ)) (e : Type 0)
     (f : FormFault) → IsShown f → ((behind : List ℕ) → r (part ++ behind) ≡ Err f)
-    → Finds r f part l e
+    → IsFaultIn r f part l e
 finds_shown r part l e NoMemory is p = tt
 finds_shown r part l e Device is p = tt
 finds_shown r part l e BadMagic is p = p
@@ -250,7 +250,7 @@ field_refuses f n w l a b e p = record {
   finds = by f p.short;
 }
   where
-    by : (f : FormFault) → IsShort f n p.part l e → Finds (field_at n) f p.part l e
+    by : (f : FormFault) → IsShort f n p.part l e → IsFaultIn (field_at n) f p.part l e
     by NoMemory s = absurd s
     by Device s = tt
     by BadMagic s = absurd s
@@ -304,7 +304,7 @@ refuses_fails r (Some o) (Some rest) a b e f p = by f p.finds
     is : o ≡ p.part ++ rest
     is = p.gives.given
 
-    by : (f : FormFault) → Finds r f p.part (Some rest) e → IfContent f (r o ≡ Err f)
+    by : (f : FormFault) → IsFaultIn r f p.part (Some rest) e → IfContent f (r o ≡ Err f)
     by NoMemory q = tt
     by Device q = tt
     by BadMagic q = ap r is ∙ q rest
@@ -323,7 +323,7 @@ refuses_gave r w l a b e f p = record {
   says = λ behind all. by f p.finds behind all;
 }
   where
-    by : (f : FormFault) → Finds r f p.part l e → (behind : List ℕ) → (e → behind ≡ [])
+    by : (f : FormFault) → IsFaultIn r f p.part l e → (behind : List ℕ) → (e → behind ≡ [])
         → IfContent f (r (p.part ++ behind) ≡ Err f)
     by NoMemory q behind all = tt
     by Device q behind all = tt

@@ -29,16 +29,16 @@ words text = slice_split (λ octet. octet == 32) text
 -- WHAT A HEAD IS
 
 -- a word of another letter, or of none
-abbrev pub IsOther : ℕ → List ℕ → Type 0
-IsOther letter [] = ⊤
-IsOther letter (first ∷ text) = first ≢ letter
+abbrev pub IsOtherWord : ℕ → List ℕ → Type 0
+IsOtherWord letter [] = ⊤
+IsOtherWord letter (first ∷ text) = first ≢ letter
 
 -- this stands behind a letter in the last word that begins with it
-pub record IsTold (letter : ℕ) (ws : List (List ℕ)) (text : List ℕ) : Type 0 where
+pub record IsLastWord (letter : ℕ) (ws : List (List ℕ)) (text : List ℕ) : Type 0 where
   pub front : List (List ℕ)
   pub behind : List (List ℕ)
   pub parts : ws ≡ front ++ (letter ∷ text) ∷ behind
-  pub last : AllByRecursion (IsOther letter) behind
+  pub last : AllByRecursion (IsOtherWord letter) behind
 
 -- decimal digits, one to ten, of this number, which 32 bits hold
 pub record IsNumberText (text : List ℕ) (n : ℕ) : Type 0 where
@@ -47,7 +47,7 @@ pub record IsNumberText (text : List ℕ) (n : ℕ) : Type 0 where
 
 -- the last word of I is `Ip`, or there is none
 abbrev pub IsProgressive : List (List ℕ) → Type 0
-IsProgressive ws = IsTold 73 ws (codes "p") ⊎ AllByRecursion (IsOther 73) ws
+IsProgressive ws = IsLastWord 73 ws (codes "p") ⊎ AllByRecursion (IsOtherWord 73) ws
 
 -- what stands behind C for sampling and depth (RGB has nothing)
 abbrev pub colour_word : Sampling → Depth → List ℕ
@@ -74,16 +74,16 @@ pub record IsHead (text : List ℕ) (f : Fields) : Type 0 where
   pub rate : List ℕ
   pub n_text : List ℕ
   pub d_text : List ℕ
-  pub is_width : IsTold 87 (words text) width_text
+  pub is_width : IsLastWord 87 (words text) width_text
   pub width_is : IsNumberText width_text width
-  pub is_height : IsTold 72 (words text) height_text
+  pub is_height : IsLastWord 72 (words text) height_text
   pub height_is : IsNumberText height_text height
-  pub is_rate : IsTold 70 (words text) rate
+  pub is_rate : IsLastWord 70 (words text) rate
   pub rate_is : parted 58 rate ≡ Some (n_text, d_text)
   pub n_is : IsNumberText n_text n
   pub d_is : IsNumberText d_text d
   pub scan : IsProgressive (words text)
-  pub is_colour : IsTold 67 (words text) (colour_word sampling depth)
+  pub is_colour : IsLastWord 67 (words text) (colour_word sampling depth)
   pub ycc : IsYcc sampling
   pub format : format_at sampling depth width height n d ≡ Ok f
 

@@ -44,7 +44,7 @@ IsGapOf Digits gap = ⊥
 
 -- Octets are the text of a number: without its comments white space and decimal digits, of a value
 -- below 100,000, and then one octet of white space. They are 1,024 at most.
-pub record IsCount (stage : Stage) (text : List ℕ) (value : ℕ) : Type 0 where
+pub record IsPixmapNumber (stage : Stage) (text : List ℕ) (value : ℕ) : Type 0 where
   pub front : List ℕ
   pub last : ℕ
   pub gap : List ℕ

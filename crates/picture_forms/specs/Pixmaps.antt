@@ -18,7 +18,7 @@ use Rattle.picture_forms.specs.declared.number_part.Stage.TheVariants.{Front, Ga
 use Rattle.picture_forms.specs.Frames.{fitting}
 use Rattle.picture_forms.specs.Heads.{limited}
 use Rattle.picture_forms.specs.Layouts.{pixmap_spelling}
-use Rattle.picture_forms.specs.Numbers.{IsCount, count_at}
+use Rattle.picture_forms.specs.Numbers.{IsPixmapNumber, count_at}
 use Rattle.picture_forms.specs.Planes.{sample_size}
 use Rattle.picture_forms.specs.Walks.{field_at}
 
@@ -32,9 +32,9 @@ pub record IsPixmapHead (n d : ℕ) (head : List ℕ) (f : Fields) : Type 0 wher
   pub height_text : List ℕ
   pub most_text : List ℕ
   pub parts : head ≡ codes "P6" ++ (width_text ++ (height_text ++ most_text))
-  pub is_width : IsCount Front width_text width
-  pub is_height : IsCount Gap height_text height
-  pub is_most : IsCount Gap most_text (2 ^ bits_of depth - 1)
+  pub is_width : IsPixmapNumber Front width_text width
+  pub is_height : IsPixmapNumber Gap height_text height
+  pub is_most : IsPixmapNumber Gap most_text (2 ^ bits_of depth - 1)
   pub format : format_at Rgb depth width height n d ≡ Ok f
 
 -- octets begin with such a head, and this is behind it

@@ -69,13 +69,13 @@ pub record Reads {X : Type 0} (reading : List ℕ → Result (X × List ℕ) For
 
 -- In this part a reading finds a fault. Where octets are missing, the source has ended; each other
 -- fault of the content is found whatever is behind the part.
-abbrev pub Finds : {X : Type 0} → (List ℕ → Result (X × List ℕ) FormFault) → FormFault
+abbrev pub IsFaultIn : {X : Type 0} → (List ℕ → Result (X × List ℕ) FormFault) → FormFault
     → List ℕ → Option (List ℕ) → Type 0 → Type 0
-Finds reading NoMemory part left ended = ⊤
-Finds reading Device part left ended = ⊤
-Finds reading Truncated part left ended =
+IsFaultIn reading NoMemory part left ended = ⊤
+IsFaultIn reading Device part left ended = ⊤
+IsFaultIn reading Truncated part left ended =
     ended × (IsAtEnd left × (reading part ≡ Err Truncated))
-Finds reading f part left ended = (behind : List ℕ) → reading (part ++ behind) ≡ Err f
+IsFaultIn reading f part left ended = (behind : List ℕ) → reading (part ++ behind) ≡ Err f
 
 -- a source gave a part in which the reading finds this fault
 pub record Refuses {X : Type 0} (reading : List ℕ → Result (X × List ℕ) FormFault)
@@ -83,7 +83,7 @@ pub record Refuses {X : Type 0} (reading : List ℕ → Result (X × List ℕ) F
     : Type 0 where
   pub part : List ℕ
   pub gives : Gives was left before now part
-  pub finds : Finds reading f part left ended
+  pub finds : IsFaultIn reading f part left ended
 
 -- a fault where so many octets were to come: the device's, or the source has ended before them
 abbrev pub IsShort : FormFault → ℕ → List ℕ → Option (List ℕ) → Type 0 → Type 0

@@ -25,7 +25,7 @@ pub record IsAskedBy (words : PictureWords) (asked : PictureAsked) : Type 0 wher
 
 -- `picture` does so with the files that its words name; `-` is standard input, and with marks no
 -- picture is held.
-pub record IsPictureOf (words : PictureWords) (asked : PictureAsked) (state : FileSource)
+pub record IsPictureRun (words : PictureWords) (asked : PictureAsked) (state : FileSource)
     (hold : Option FileSource) (out : FileOutput) : Type 0 where
   pub asked_is : IsAskedBy words asked
   pub state_is : words.state.now ≢ codes "-" → file_path state ≡ words.state.now

@@ -8,7 +8,7 @@ ghost use Rattle.devices.specs.Passed.{writing_failures};
 ghost use Rattle.picture_engine.specs.Refused.{IsShowRefusal};
 ghost use Rattle.picture_engine.specs.Shown.{ShowsFrame};
 ghost use Rattle.picture_engine.specs.Views.{SaysNoView, SaysView};
-ghost use Rattle.picture_runs.specs.Picturing.{IsAskedBy, IsPictureOf, IsViewAsked};
+ghost use Rattle.picture_runs.specs.Picturing.{IsAskedBy, IsPictureRun, IsViewAsked};
 ghost use Rattle.run_outcome.specs.Fault.{Accounts, IfRefused, counts, failures_in};
 ghost use Rattle.run_outcome.specs.Moments.{WasRead, pair};
 ghost use Rattle.run_outcome.specs.Refusing.{OfRefusal};
@@ -40,7 +40,7 @@ impl<'a> PictureCommand<'a> {
     /// The command of these words, of which nothing is done yet.
     pub fn new(rt: &'a HostRuntime, words: &PictureWords<'a>) -> Self
         ensures new { ⟦<PictureCommand<'a> as Command>⟧.is_new result }
-        ensures asked { IsPictureOf words.now result.asked result.state result.hold result.out }
+        ensures asked { IsPictureRun words.now result.asked result.state result.hold result.out }
     {
         let state = given_file(rt, words.state);
         let hold = held_file(rt, words);

@@ -9,7 +9,8 @@ use Rattle.media_file.specs.StateFile.{Kept, state_text}
 use Rattle.path_receiver.specs.Frames.{Holds, State, joined_frames}
 use Rattle.receiver_file.specs.Saved.{kept_of}
 use Rattle.run_outcome.specs.Frames.{frame_lines}
-use Rattle.receiver_engines.specs.MergedAll.{AreAlike, GiveReceivers, IsFileOf, JoinsAll, JoinsEach}
+use Rattle.receiver_engines.specs.MergedAll.{AreOpenAlike, GiveReceivers, IsFileOf, JoinsAll}
+use Rattle.receiver_engines.specs.MergedAll.{JoinsEach}
 use Rattle.receiver_engines.specs.MergedAll.{JoinsOne, MergesAll, PrintsAll, SavesAll}
 use Rattle.receiver_engines.specs.MergedAll.{behind_each_other, merged_all}
 use Rattle.receiver_engines.specs.Merging.{GivesReceiver, IsAgain, JoinsFirst, SaysReceiver}
@@ -44,14 +45,14 @@ again_all s r (t ∷ ts) [] is each = absurd each
 again_all s r (t ∷ ts) (q ∷ rs) is each =
     again_all (merged_state s t) (merged_state r q) ts rs (again_both s t r q is each.0) each.1
 
-alike_head : (s t : State) (ts : List State) → AreAlike s (t ∷ ts) → s.opening ≡ t.opening
+alike_head : (s t : State) (ts : List State) → AreOpenAlike s (t ∷ ts) → s.opening ≡ t.opening
 alike_head s t ts alike = alike 0 t (omega arith)
 
-alike_tail : (s t : State) (ts : List State) → AreAlike s (t ∷ ts) → AreAlike s ts
+alike_tail : (s t : State) (ts : List State) → AreOpenAlike s (t ∷ ts) → AreOpenAlike s ts
 alike_tail s t ts alike = λ k d lt. alike (suc k) d (omega (arith, lt))
 
 alike_again : (s r : State) (ts rs : List State) → IsAgain s r → AllZip IsAgain ts rs
-    → AreAlike r rs → AreAlike s ts
+    → AreOpenAlike r rs → AreOpenAlike s ts
 alike_again s r [] [] is each alike = All-nil (λ (t : State). s.opening ≡ t.opening)
 alike_again s r [] (q ∷ rs) is each alike = absurd each
 alike_again s r (t ∷ ts) [] is each alike = absurd each
@@ -207,7 +208,7 @@ joins_first left right r m says same one = record {
 
 -- ---- what is written and printed
 
-holds_all : (s : State) (ts : List State) → AreAlike s ts → (xs : List (List ℕ))
+holds_all : (s : State) (ts : List State) → AreOpenAlike s ts → (xs : List (List ℕ))
     (rest : List (List (List ℕ))) → Holds s xs → AllZip Holds ts rest
     → Holds (merged_all s ts) (xs ++ behind_each_other rest)
 holds_all s [] alike xs [] holds each =
@@ -221,7 +222,7 @@ holds_all s (t ∷ ts) alike xs (ys ∷ rest) holds each =
     (holds_both s t (alike_head s t ts alike) xs ys holds each.0) each.1)
 
 saves_all : (s : State) (ts : List State) (old new : List ℕ) (m : State)
-    → AreAlike s ts × IsAgain (merged_all s ts) m → new ≡ old ++ state_text (kept_of m)
+    → AreOpenAlike s ts × IsAgain (merged_all s ts) m → new ≡ old ++ state_text (kept_of m)
     → SavesAll s ts old new
 saves_all s ts old new m is taken = record {
   alike = is.0;

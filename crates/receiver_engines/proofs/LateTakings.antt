@@ -18,7 +18,7 @@ use Rattle.st_format.proofs.Histories.{grew_more, grew_none, since_more, since_n
 use Rattle.st_format.specs.Device.{GrowsPart}
 use Rattle.st_format.specs.History.{since}
 use Rattle.st_format.specs.declared.path.Path.TheVariants.{A}
-use Rattle.receiver_engines.specs.Late.{IsLate, StandsLate, late_datagrams, late_octets}
+use Rattle.receiver_engines.specs.Late.{IsLateCapture, StandsLate, late_datagrams, late_octets}
 
 abbrev front : List ℕ → List ℕ
 front text = front_text Two text
@@ -79,7 +79,7 @@ nothing_in n o is =
 
 -- a datagram that is written is one more
 late_takes : (b : Bool) (text : List ℕ) (m : ℕ) (o d : List ℕ) → length text < 2 ^ 16
-    → IsLate b (length text) m o → m < 2 ^ 64 → IsShortEnough d
+    → IsLateCapture b (length text) m o → m < 2 ^ 64 → IsShortEnough d
     → late_datagrams (length text) (o ++ late_octets b text m d)
     ≡ late_datagrams (length text) o ++ d ∷ []
 late_takes true text m o d few is lt fits = more_takes (length text) m o d is lt fits
@@ -94,7 +94,7 @@ late_takes false text m o d few is lt fits =
     ∙ ap (λ (ds : List (List ℕ)). ds ++ d ∷ []) (sym (nothing_in n o is.0))
 
 late_is : (b : Bool) (text : List ℕ) (m : ℕ) (o d : List ℕ) → length text < 2 ^ 16
-    → IsLate b (length text) m o → IsShortEnough d
+    → IsLateCapture b (length text) m o → IsShortEnough d
     → IsWritten OnlyA (length text) (moment_behind OnlyA m) (o ++ late_octets b text m d)
 late_is true text m o d few is fits = more_is (length text) m o d is fits
 late_is false text m o d few is fits =
@@ -132,7 +132,7 @@ cut_first text d k few fits short =
     ]
 
 late_keeps : (b : Bool) (text : List ℕ) (m : ℕ) (o d : List ℕ) (k : ℕ) → length text < 2 ^ 16
-    → IsLate b (length text) m o → m < 2 ^ 64
+    → IsLateCapture b (length text) m o → m < 2 ^ 64
     → IsShortEnough d → k < length (late_octets b text m d)
     → late_datagrams (length text) (o ++ take k (late_octets b text m d))
     ≡ late_datagrams (length text) o

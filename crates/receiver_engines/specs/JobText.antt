@@ -41,10 +41,10 @@ IsJobText text (Wipe w) = IsWipeText text w
 IsJobText text Key = text ≡ codes "key"
 
 -- a job that has no numbers
-abbrev pub IsPlain : Job → Type 0
-IsPlain (Limit range) = ⊤
-IsPlain (Gain g) = ⊥
-IsPlain ToYcc444 = ⊤
-IsPlain ToYcc422 = ⊤
-IsPlain (Wipe w) = ⊥
-IsPlain Key = ⊤
+abbrev pub IsPlainJob : Job → Type 0
+IsPlainJob (Limit range) = ⊤
+IsPlainJob (Gain g) = ⊥
+IsPlainJob ToYcc444 = ⊤
+IsPlainJob ToYcc422 = ⊤
+IsPlainJob (Wipe w) = ⊥
+IsPlainJob Key = ⊤

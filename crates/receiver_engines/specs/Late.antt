@@ -33,9 +33,9 @@ late_octets is_begun text moment octets =
 
 -- What a sink took of a capture that is whole, of a text of this length: nothing before the first
 -- datagram, and then the capture of datagrams.
-abbrev pub IsLate : Bool → ℕ → ℕ → List ℕ → Type 0
-IsLate false text_len moment octets = (octets ≡ []) × (moment ≡ 0)
-IsLate true text_len moment octets = IsWritten OnlyA text_len moment octets
+abbrev pub IsLateCapture : Bool → ℕ → ℕ → List ℕ → Type 0
+IsLateCapture false text_len moment octets = (octets ≡ []) × (moment ≡ 0)
+IsLateCapture true text_len moment octets = IsWritten OnlyA text_len moment octets
 
 -- where a capture stands, by what its sink took, `before` before it was made and `took` so far
 pub record StandsLate (is_begun is_cut : Bool) (text : List ℕ) (moment : ℕ)
@@ -43,7 +43,7 @@ pub record StandsLate (is_begun is_cut : Bool) (text : List ℕ) (moment : ℕ)
   pub fits : moment < 2 ^ 64
   pub few : length text < 2 ^ 16
   pub grew : GrewFrom before took
-  pub whole : is_cut ≡ false → IsLate is_begun (length text) moment (since before took)
+  pub whole : is_cut ≡ false → IsLateCapture is_begun (length text) moment (since before took)
 
 -- The datagrams of a capture of a text of this length, by what its sink took since it was made:
 -- those whose records are whole.

@@ -3,7 +3,7 @@
 use Rattle.std.specs.Prelude.{◌≡◌, ℕ, ◌⊎◌, List, ◌∷◌, ◌++◌}
 use Rattle.path_receiver.specs.Frames.{State}
 use Rattle.receiver_engines.specs.Merging.{GivesReceiver, SaysReceiver}
-use Rattle.receiver_engines.specs.MergedAll.{AreAlike}
+use Rattle.receiver_engines.specs.MergedAll.{AreOpenAlike}
 use Rattle.receiver_engines.specs.MergeRefused.{AreUnlike}
 use Rattle.receiver_engines.specs.Reading.{SayReceivers}
 use Rattle.receiver_engines.specs.States.{IsStateRefusal}
@@ -20,7 +20,7 @@ pub record StopsMerge {S : Type 0} (s : State) (told : S → List ℕ → Type 0
   pub parts : others ≡ front ++ at ∷ behind
   pub receivers : List State
   pub receivers_are : SayReceivers told front receivers
-  pub alike : AreAlike s receivers
+  pub alike : AreOpenAlike s receivers
   pub is : Is (told at)
 
 -- what was read is the file of a receiver, which is opened unlike this one

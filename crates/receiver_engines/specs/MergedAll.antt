@@ -16,8 +16,8 @@ merged_all s [] = s
 merged_all s (t ∷ ts) = merged_all (merged_state s t) ts
 
 -- receivers are each opened as the first is
-abbrev pub AreAlike : State → List State → Type 0
-AreAlike s ts = All (λ t. s.opening ≡ t.opening) ts
+abbrev pub AreOpenAlike : State → List State → Type 0
+AreOpenAlike s ts = All (λ t. s.opening ≡ t.opening) ts
 
 -- lists of datagrams, one behind the other
 abbrev pub behind_each_other : List (List (List ℕ)) → List (List ℕ)
@@ -26,7 +26,7 @@ behind_each_other lists = flat_map (λ datagrams. datagrams) lists
 -- A sink took the file of receivers merged, which are opened alike. So it is the file of one that
 -- holds the datagrams of all.
 pub record SavesAll (s : State) (ts : List State) (old new : List ℕ) : Type 0 where
-  pub alike : AreAlike s ts
+  pub alike : AreOpenAlike s ts
   pub taken : new ≡ old ++ state_text (kept_of (merged_all s ts))
   pub holds : (datagrams : List (List ℕ)) (others : List (List (List ℕ))) → Holds s datagrams
       → AllZip Holds ts others
@@ -57,7 +57,7 @@ pub record PrintsAll {S : Type 0} (first : List ℕ → Type 0) (told : S → Li
   pub receivers : List State
   pub receiver_is : SaysReceiver first receiver
   pub receivers_are : SayReceivers told others receivers
-  pub alike : AreAlike receiver receivers
+  pub alike : AreOpenAlike receiver receivers
   pub printed : new ≡ old ++ frame_lines (merged_all receiver receivers)
 
 -- ---- a receiver that is not written yet
@@ -79,7 +79,7 @@ pub record JoinsEach {S : Type 0} (told : S → List ℕ → Type 0) (others : L
     (before after : State) : Type 0 where
   pub receivers : List State
   pub receivers_are : AllZip (λ s r. IsFileOf (told s) r) others receivers
-  pub alike : AreAlike before receivers
+  pub alike : AreOpenAlike before receivers
   pub joined : IsAgain (merged_all before receivers) after
 
 -- a receiver is that of a first file and of others merged
@@ -89,6 +89,6 @@ pub record JoinsAll {S : Type 0} (first : List ℕ → Type 0) (told : S → Lis
   pub receivers : List State
   pub receiver_is : SaysReceiver first receiver
   pub receivers_are : SayReceivers told others receivers
-  pub all : AreAlike receiver receivers × IsAgain (merged_all receiver receivers) m
+  pub all : AreOpenAlike receiver receivers × IsAgain (merged_all receiver receivers) m
   pub joined : (s : State) (ts : List State) → GivesReceiver first s
-      → GiveReceivers told others ts → AreAlike s ts × IsAgain (merged_all s ts) m
+      → GiveReceivers told others ts → AreOpenAlike s ts × IsAgain (merged_all s ts) m

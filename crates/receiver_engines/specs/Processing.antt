@@ -101,5 +101,5 @@ pub record SendsSaidPart (text : List ℕ) (size : ℕ) (stamp : Stamp) (old new
   pub written : new ≡ old ++ take count (late_text text datagrams)
 
 -- so with an empty text
-abbrev pub SendsPart : ℕ → Stamp → List ℕ → List ℕ → Type 0
-SendsPart size stamp old new = SendsSaidPart [] size stamp old new
+abbrev pub SendsUnsaidPart : ℕ → Stamp → List ℕ → List ℕ → Type 0
+SendsUnsaidPart size stamp old new = SendsSaidPart [] size stamp old new

@@ -1,6 +1,7 @@
 //! The text of a job.
 ghost use Rattle.std.specs.Prelude.{◌≡◌, ℕ, codes, IfNone, IfSome};
-ghost use Rattle.receiver_engines.specs.JobText.{IsJobText, IsPlain, IsWipeText, IsWordAndNumber};
+ghost use Rattle.receiver_engines.specs.JobText.{IsJobText, IsPlainJob, IsWipeText};
+ghost use Rattle.receiver_engines.specs.JobText.{IsWordAndNumber};
 ghost use Rattle.receiver_engines.specs.JobText.{axis_word};
 
 use bt709_fixed::RangeKind;
@@ -32,7 +33,7 @@ pub fn read_job(text: &[u8]) -> Option<Job>
 /// A job whose text has no numbers, and so is one of a few.
 fn read_plain(text: &[u8]) -> Option<Job>
     ensures is { IfSome result (λ job. IsJobText text.now job) }
-    ensures none { IfNone result ((job : Job) → IsPlain job → IsJobText text.now job → ⊥) }
+    ensures none { IfNone result ((job : Job) → IsPlainJob job → IsJobText text.now job → ⊥) }
 {
     if text == b"limit:nominal".as_slice() {
         return Some(Job::Limit(RangeKind::Nominal));

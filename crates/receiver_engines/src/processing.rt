@@ -12,7 +12,7 @@ ghost use Rattle.run_outcome.specs.declared.fault.Fault.TheVariants.{Refused};
 ghost use Rattle.run_outcome.specs.declared.refusal.Refusal.TheVariants.{ProcessJob};
 ghost use Rattle.run_outcome.specs.TextRefusals.{SaysText};
 ghost use Rattle.receiver_engines.specs.JobText.{IsJobText};
-ghost use Rattle.receiver_engines.specs.Processing.{PrintsSent, SendsFiles, SendsPart};
+ghost use Rattle.receiver_engines.specs.Processing.{PrintsSent, SendsFiles, SendsUnsaidPart};
 ghost use Rattle.receiver_engines.specs.Processing.{SendsSaidFiles, SendsSaidJob, SendsSaidPart};
 ghost use Rattle.receiver_engines.specs.Processing.{TakesSaid, WritesJob, of_send_job};
 ghost use Rattle.receiver_engines.specs.Refused.{IsJobOrPlanRefusal, IsJobRefusal, IsRunRefusal};
@@ -81,7 +81,7 @@ where
         wanted.entry.stamp (K.took sink.old) (K.took sink.new) count
         × PrintsSent count (O.took output.old) (O.took output.new)) }
     // Where it fails, what was written is a first part of such a capture.
-    ensures part { OnErr result (SendsPart wanted.entry.max_octets wanted.entry.stamp
+    ensures part { OnErr result (SendsUnsaidPart wanted.entry.max_octets wanted.entry.stamp
         (K.took sink.old) (K.took sink.new)) }
     ensures refused { IfErr result (λ f. IfRefused f (sink.new ≡ sink.old)) }
     ensures quiet { IfErr result (λ f. IfRefused f (output.new ≡ output.old)) }

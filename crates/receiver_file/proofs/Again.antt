@@ -39,7 +39,7 @@ use Rattle.receiver_file.specs.Front.{count_at, window_count, flag_at, flag_of, 
 use Rattle.receiver_file.specs.Front.{only_one, payload_type_at, payload_type_of, ssrc_at, ssrc_of}
 use Rattle.receiver_file.specs.Numbers.{number_at}
 use Rattle.receiver_file.specs.Saved.{IsSaved, kept_of, timestamp_in}
-use Rattle.receiver_file.specs.StateFaults.{IsHead, block_front, frames_front, kept_head_text}
+use Rattle.receiver_file.specs.StateFaults.{IsStateHead, block_front, frames_front, kept_head_text}
 use Rattle.receiver_file.specs.StateReading.{all_held_at, held_at, new_of, state_walk}
 use Rattle.receiver_file.specs.StateReading.{timestamp_at}
 use Rattle.receiver_file.proofs.Found.{behind_block, behind_frames, behind_head, with_head}
@@ -113,7 +113,7 @@ count_again n rest some few =
     (λ (b : Bool). let r : Result ℕ FileFault =
     cond b (Err BadField) (Ok n) in with_rest r rest) (le-ltb 16 n few)
 
-pub head_again : (h : Head) (rest : List ℕ) → IsHead h
+pub head_again : (h : Head) (rest : List ℕ) → IsStateHead h
     → head_at (kept_head_text h ++ rest) ≡ with_head h.payload_type h.ssrc h.count rest
 unfolding head_at
 head_again h rest is =
@@ -228,7 +228,7 @@ state_formed f rest is =
     ∙ state_named (format_text f ++ rest)
     ∙ ap (λ (r : Result (Fields × List ℕ) FileFault). r >>= behind_block) (block_tells f rest is)
 
-pub state_headed : (f : Fields) (h : Head) (rest : List ℕ) → IsFormat f → IsHead h
+pub state_headed : (f : Fields) (h : Head) (rest : List ℕ) → IsFormat f → IsStateHead h
     → state_walk ((block_front f ++ kept_head_text h) ++ rest)
     ≡ (all_held_at f h.count [] rest >>= behind_frames f h)
 state_headed f h rest is head =
@@ -254,7 +254,7 @@ state_whole k rest is =
     = omega (arith, length-map k.frames timestamp_in, is.window.size.some) in
     let few : length k.frames ≤ 16
     = omega (arith, length-map k.frames timestamp_in, is.window.size.most) in
-    let head : IsHead (head_of k) = record {
+    let head : IsStateHead (head_of k) = record {
       payload_type = is.payload_type;
       ssrc = is.kept.ssrc;
       count = record { some = some; most = few };

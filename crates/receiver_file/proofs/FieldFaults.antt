@@ -24,7 +24,8 @@ use Rattle.receiver_file.specs.declared.front.Head.{Head}
 use Rattle.receiver_file.specs.Front.{count_at, flag_at, flag_of, head_at, payload_type_at, ssrc_at}
 use Rattle.receiver_file.specs.Front.{ssrc_of}
 use Rattle.receiver_file.specs.Numbers.{number_at, octet_at}
-use Rattle.receiver_file.specs.StateFaults.{HasNoBlock, HasNumber, HasOctet, IsHead, flag_octet}
+use Rattle.receiver_file.specs.StateFaults.{HasNoBlock, HasNumber, HasOctet, IsStateHead}
+use Rattle.receiver_file.specs.StateFaults.{flag_octet}
 use Rattle.receiver_file.proofs.Found.{flag_takes, number_takes, octet_takes, type_takes, with_flag}
 use Rattle.receiver_file.proofs.Found.{with_head, with_number, with_source}
 use Rattle.receiver_file.proofs.FrameFaults.{FieldFails, number_begins, number_fails, number_read}
@@ -341,7 +342,7 @@ count_read octets x h =
 -- ---- all of them
 
 pub head_read : (octets : List ℕ) (x : Head × List ℕ) → AreOctets octets → head_at octets ≡ Ok x
-    → IsHead x.0
+    → IsStateHead x.0
 unfolding head_at
 head_read octets x bytes h =
     let a
@@ -356,9 +357,9 @@ head_read octets x bytes h =
     = ap (λ (r : Result (Head × List ℕ) FileFault). given r x) c.next in
     let second : AreOctets a.first.1
     = behind (a.first.0 ∷ []) octets a.first.1 bytes (type_takes octets a.first bytes a.is) in
-    let is : IsHead made = record {
+    let is : IsStateHead made = record {
       payload_type = type_read octets a.first a.is;
       ssrc = ssrc_read a.first.1 b.first second b.is;
       count = count_read b.first.1 c.first c.is;
     } in
-    subst (λ (p : Head × List ℕ). IsHead p.0) same is
+    subst (λ (p : Head × List ℕ). IsStateHead p.0) same is

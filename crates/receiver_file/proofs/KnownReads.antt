@@ -20,7 +20,7 @@ use Rattle.st_format.specs.Given.{Takes, field_by, with_rest}
 use Rattle.st_format.specs.Reading.{◌>>=◌}
 use Rattle.media_file.specs.Groups.{Shape, group_at}
 use Rattle.frame_assembly.specs.Marks.{contested_mask}
-use Rattle.receiver_file.specs.Known.{IsKnown, cells_known, mixed_at}
+use Rattle.receiver_file.specs.Known.{IsKnownGroup, cells_known, mixed_at}
 use Rattle.receiver_file.specs.Numbers.{octet_at}
 use Rattle.receiver_file.proofs.Knowing.{none_zeroed, zeroed_same}
 use Rattle.receiver_file.proofs.Valued.{value_cut, value_gives, valued}
@@ -162,13 +162,13 @@ state_bad s old mid n none one two p = group_fails s old mid n n BadField refl p
 
 -- ---- what a frame is given
 
-pub known_bits : (s : Shape) (state : GroupState) (octets : List ℕ) → IsKnown s state octets
+pub known_bits : (s : Shape) (state : GroupState) (octets : List ℕ) → IsKnownGroup s state octets
     → (i : ℕ) → s.samples ≤ i → bit_at (contested_mask state) i ≡ 0
 known_bits s Gone octets k i le = bit_at-zero i
 known_bits s Whole octets k i le = bit_at-zero i
 known_bits s (Mixed mask) octets k i le = bit_at_above mask s.samples i k.0 le
 
-pub known_zero : (s : Shape) (state : GroupState) (octets : List ℕ) → IsKnown s state octets
+pub known_zero : (s : Shape) (state : GroupState) (octets : List ℕ) → IsKnownGroup s state octets
     → values_in s.bits octets ≡ blanked_samples (contested_mask state) (values_in s.bits octets)
 known_zero s Gone octets k =
     sym (zeroed_same 0 (values_in s.bits octets) (none_zeroed (values_in s.bits octets)))

@@ -19,7 +19,8 @@ use Rattle.media_file.proofs.PictureFaults.{block_short}
 use Rattle.receiver_file.specs.declared.front.Head.{Head}
 use Rattle.receiver_file.specs.Front.{count_at, flag_at, head_at, payload_type_at, ssrc_at}
 use Rattle.receiver_file.specs.Saved.{timestamp_in}
-use Rattle.receiver_file.specs.StateFaults.{AreFewer, IsBadAt, IsCutAt, IsHead, IsMixedAt, CanStand}
+use Rattle.receiver_file.specs.StateFaults.{AreFewer, IsBadAt, IsCutAt, IsStateHead, IsMixedAt}
+use Rattle.receiver_file.specs.StateFaults.{CanStand}
 use Rattle.receiver_file.specs.StateFaults.{FieldPlace, block_front, flag_octet, frames_front}
 use Rattle.receiver_file.specs.StateFaults.{kept_head_text}
 use Rattle.receiver_file.specs.StateFaults.{shape_by, text_before}
@@ -294,7 +295,7 @@ held_reach f h hs file octets e said whole (InGroups g) =
     (whole ∙ ap (λ (t : List ℕ). front ++ t) g.text ∙ sym (append_assoc front begun g.rest)) g.wrong
 
 pub frames_reach : (f : Fields) (h : Head) (file octets : List ℕ) (e : FileFault) → IsFormat f
-    → IsHead h → file ≡ (block_front f ++ kept_head_text h) ++ octets → AreOctets octets
+    → IsStateHead h → file ≡ (block_front f ++ kept_head_text h) ++ octets → AreOctets octets
     → all_held_at f h.count [] octets ≡ Err e → Reached file e
 frames_reach f h file octets e is head whole bytes x =
     let front : List ℕ = block_front f ++ kept_head_text h in

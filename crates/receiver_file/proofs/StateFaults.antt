@@ -33,7 +33,8 @@ use Rattle.media_file.proofs.PictureFaults.{block_stands, neither}
 use Rattle.receiver_file.specs.declared.front.Head.{Head}
 use Rattle.receiver_file.specs.Front.{head_at, name_at, only_one}
 use Rattle.receiver_file.specs.Saved.{IsSaved, kept_frames_text, timestamp_in}
-use Rattle.receiver_file.specs.StateFaults.{HasMore, HasPlace, IsBadAt, IsCutAt, IsCutState, IsHead}
+use Rattle.receiver_file.specs.StateFaults.{HasMore, HasPlace, IsBadAt, IsCutAt, IsCutState}
+use Rattle.receiver_file.specs.StateFaults.{IsStateHead}
 use Rattle.receiver_file.specs.StateFaults.{IsMixedAt, CanStand, FieldPlace, IsStateFault}
 use Rattle.receiver_file.specs.StateFaults.{block_front}
 use Rattle.receiver_file.specs.StateFaults.{kept_head_text, text_before}
@@ -165,7 +166,7 @@ reached_fault octets e bytes r =
     place_fault octets e r (place_faults r.place r.behind e
     (behind (text_before r.place) octets r.behind bytes r.whole) r.fails)
 
-saved : (f : Fields) (h : Head) (hs : List Held) → IsFormat f → IsHead h
+saved : (f : Fields) (h : Head) (hs : List Held) → IsFormat f → IsStateHead h
     → AreFrames f h.count [] hs → IsSaved (kept_made f h hs)
 saved f h hs is head frames =
     let count : length hs ≡ h.count = frames.count in
@@ -210,7 +211,7 @@ formed octets rest x bytes whole h =
 
 -- all that stands before the frames, and the octets behind it
 record Headed (f : Fields) (octets : List ℕ) (x : Head × List ℕ) : Type 0 where
-  head : IsHead x.0
+  head : IsStateHead x.0
   whole : octets ≡ (block_front f ++ kept_head_text x.0) ++ x.1
   bytes : AreOctets x.1
 

@@ -23,7 +23,7 @@ use Rattle.media_file.specs.Groups.{Shape, group_at, groups_at}
 use Rattle.media_file.specs.StateFile.{cut_cells}
 use Rattle.receiver_file.specs.Giving.{GaveOf}
 use Rattle.receiver_file.specs.Known.{shape_in}
-use Rattle.receiver_file.specs.Taking.{AreBlank, AreGroups, Gained, IsGiven}
+use Rattle.receiver_file.specs.Taking.{AreBlank, AreGroups, Gained, IsGivenGroup}
 use Rattle.receiver_file.proofs.CutCells.{cut_add, cut_alike, cut_one}
 use Rattle.receiver_file.proofs.Giving.{fault_two, gave_none, gave_one, gave_two}
 use Rattle.receiver_file.proofs.GroupRuns.{groups_more, groups_none, groups_one, groups_one_fault}
@@ -216,7 +216,7 @@ gained_replaced s first n x a b was left cells old new grown told bytes p long l
 -- of one group that was read
 pub gained_one : (s : Shape) (number : ℕ) (cells : List Cell) (a b : List ℕ)
     (was left : Option (List ℕ)) (old new : List Cell) → Takes (group_at s) was left cells
-    → GaveOf (group_at s) a b cells → IsGiven s number cells old new
+    → GaveOf (group_at s) a b cells → IsGivenGroup s number cells old new
     → Gained s number 1 a b was left old new
 gained_one s number cells a b was left old new read gave given =
     let same : cells ∷ [] ≡ cells_from s number 1 new =
@@ -305,11 +305,11 @@ gained_wrong s done n a b d was mid old new ended f lt p q =
 
 pub given_replaced : (s : Shape) (number : ℕ) (cells old new : List Cell)
     → length cells ≡ s.samples → s.samples * number ≤ length old
-    → new ≡ replaced_cells (s.samples * number) cells old → IsGiven s number cells old new
+    → new ≡ replaced_cells (s.samples * number) cells old → IsGivenGroup s number cells old new
 given_replaced s number cells old new long le e =
     let k : ℕ = s.samples in
     let one : length cells ≡ k * 1 = omega (arith, long) in
-    subst (IsGiven s number cells old) (sym e) (record {
+    subst (IsGivenGroup s number cells old) (sym e) (record {
       is = replaced_at (k * number) k cells old le long;
       before = replaced_before (k * number) cells old le;
       behind = replaced_behind k number 1 cells old one le;
@@ -317,7 +317,7 @@ given_replaced s number cells old new long le e =
 
 pub given_missing : (s : Shape) (number groups : ℕ) (cells : List Cell) → number < groups
     → AreBlank s number groups cells
-    → IsGiven s number (replicate s.samples Missing) cells cells
+    → IsGivenGroup s number (replicate s.samples Missing) cells cells
 given_missing s number groups cells lt blank =
     let d : ℕ = groups - number in
     let some : s.samples ≤ s.samples * d =

@@ -43,10 +43,10 @@ cells_known s Whole octets = map Value (values_in s.bits octets)
 cells_known s (Mixed mask) octets = cells_by mask (values_in s.bits octets)
 
 -- a mask has no bit beyond the group's samples, and a contested sample is 0
-abbrev pub IsKnown : Shape → GroupState → List ℕ → Type 0
-IsKnown s Gone octets = ⊤
-IsKnown s Whole octets = ⊤
-IsKnown s (Mixed mask) octets =
+abbrev pub IsKnownGroup : Shape → GroupState → List ℕ → Type 0
+IsKnownGroup s Gone octets = ⊤
+IsKnownGroup s Whole octets = ⊤
+IsKnownGroup s (Mixed mask) octets =
     (mask < 2 ^ s.samples) × (are_zeroed mask (values_in s.bits octets) ≡ true)
 
 -- the mask and the octets of a group some of whose samples are contested

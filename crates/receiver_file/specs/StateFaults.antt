@@ -31,7 +31,7 @@ abbrev pub kept_head_text : Head → List ℕ
 kept_head_text h = h.payload_type ∷ (ssrc_text h.ssrc ++ h.count ∷ [])
 
 -- fields behind the format block that a file can have
-pub record IsHead (h : Head) : Type 0 where
+pub record IsStateHead (h : Head) : Type 0 where
   pub payload_type : h.payload_type < 128
   pub ssrc : SsrcFits h.ssrc
   pub count : IsWindowSize h.count
@@ -79,7 +79,7 @@ text_before (AtGroup f h frames timestamp groups) =
 -- frames of different timestamps, fewer than the head counts
 pub record AreFewer (f : Fields) (h : Head) (frames : List Held) : Type 0 where
   pub format : IsFormat f
-  pub head : IsHead h
+  pub head : IsStateHead h
   pub held : AllByRecursion (IsHeld f) frames
   pub different : AreDifferent (map timestamp_in frames)
   pub fewer : length frames < h.count

@@ -18,7 +18,7 @@ AreBlank s first groups cells = (d : ℕ) → first + d ≡ groups
     → drop (s.samples * first) cells ≡ replicate (s.samples * d) Missing
 
 -- The group of a number became one of these cells. No other cell changed.
-pub record IsGiven (s : Shape) (number : ℕ) (cells old new : List Cell) : Type 0 where
+pub record IsGivenGroup (s : Shape) (number : ℕ) (cells old new : List Cell) : Type 0 where
   pub is : take s.samples (drop (s.samples * number) new) ≡ cells
   pub before : take (s.samples * number) new ≡ take (s.samples * number) old
   pub behind : drop (s.samples * (number + 1)) new ≡ drop (s.samples * (number + 1)) old

@@ -11,8 +11,8 @@ ghost use Rattle.media_file.specs.Fields.{Fails, GaveFault};
 ghost use Rattle.st_format.specs.Given.{Takes};
 ghost use Rattle.media_file.specs.Groups.{are_zeroed, cells_by, group_at};
 ghost use Rattle.receiver_file.specs.Giving.{GaveOf};
-ghost use Rattle.receiver_file.specs.Known.{IsKnown, cells_known, mixed_at, shape_in};
-ghost use Rattle.receiver_file.specs.Taking.{AreBlank, Gained, IsGiven};
+ghost use Rattle.receiver_file.specs.Known.{IsKnownGroup, cells_known, mixed_at, shape_in};
+ghost use Rattle.receiver_file.specs.Taking.{AreBlank, Gained, IsGivenGroup};
 
 use crate::octets::read_octet;
 use frame_assembly::{Frame, GroupState, MOST_GROUP_OCTETS};
@@ -65,9 +65,9 @@ fn give_known<A: Allocator>(
     requires number { number < groups }
     requires blank { AreBlank (shape_in format.now) number groups frame.old.cells }
     requires octets { length octets.now ≡ (shape_in format.now).octets }
-    requires known { IsKnown (shape_in format.now) state octets.now }
+    requires known { IsKnownGroup (shape_in format.now) state octets.now }
     ensures format { frame.new.format ≡ format.now }
-    ensures given { IsGiven (shape_in format.now) number
+    ensures given { IsGivenGroup (shape_in format.now) number
         (cells_known (shape_in format.now) state octets.now) frame.old.cells frame.new.cells }
 {
     frame.facts();
@@ -89,7 +89,7 @@ fn give_mixed<A: Allocator>(
     requires format { frame.old.format ≡ format.now }
     requires number { number < group_count format.now }
     requires octets { length octets.now ≡ (shape_in format.now).octets }
-    requires known { IsKnown (shape_in format.now) (Mixed mask) octets.now }
+    requires known { IsKnownGroup (shape_in format.now) (Mixed mask) octets.now }
     ensures format { frame.new.format ≡ format.now }
     ensures cells { frame.new.cells
         ≡ replaced_cells ((shape_in format.now).samples * number)
@@ -109,7 +109,7 @@ fn read_known<S: ByteSource>(
 ) -> Result<GroupState, FileFault>
     requires { length octets.old ≡ (pixel_group format.now.sampling format.now.depth).octets }
     ensures room { length octets.new ≡ length octets.old }
-    ensures known { IfOk result (λ state. IsKnown (shape_in format.now) state octets.new) }
+    ensures known { IfOk result (λ state. IsKnownGroup (shape_in format.now) state octets.new) }
     ensures read { IfOk result
         (λ state. Takes (group_at (shape_in format.now)) (S.to_give source.old)
         (S.to_give source.new) (cells_known (shape_in format.now) state octets.new)) }
@@ -143,7 +143,7 @@ fn read_mixed<S: ByteSource>(
 ) -> Result<GroupState, FileFault>
     requires { length octets.old ≡ (pixel_group format.now.sampling format.now.depth).octets }
     ensures room { length octets.new ≡ length octets.old }
-    ensures known { IfOk result (λ state. IsKnown (shape_in format.now) state octets.new) }
+    ensures known { IfOk result (λ state. IsKnownGroup (shape_in format.now) state octets.new) }
     ensures read { IfOk result
         (λ state. Takes (mixed_at (shape_in format.now)) (S.to_give source.old)
         (S.to_give source.new) (cells_known (shape_in format.now) state octets.new)) }

@@ -16,7 +16,8 @@ use Rattle.std.specs.FinSet.{contains}
 use Rattle.std.specs.List.{Contains}
 use Rattle.std.specs.Ordering.{is_gt, nat_cmp}
 use Rattle.std.specs.declared.cmp.Ordering.TheVariants.{Equal, Less}
-use Rattle.recording_counts.specs.Runs.{Apart, AreRuns, BeginsRun, HasOneMore, Holds, IsLastFrom}
+use Rattle.recording_counts.specs.Runs.{Apart, AreRunsApart, BeginsRun, HasOneMore, HoldsNumber}
+use Rattle.recording_counts.specs.Runs.{IsLastFrom}
 use Rattle.recording_counts.specs.Runs.{IsPut, all_runs, begin_of}
 use Rattle.recording_counts.specs.Runs.{in_run, is_in, numbers_of, reaches, run_of, runs_of}
 use Rattle.recording_counts.specs.declared.number_set.Run.{Run}
@@ -70,7 +71,7 @@ inside n (x ∷ es) e (suc k, lt, is) h =
     or_right (in_run n (run_of x)) (is_in n (map run_of es))
     (inside n es e (k, omega (arith, lt), is) h)
 
-pub held : (m : Tree) (n : ℕ) → IsOrdered nat_cmp m → is_in n (runs_of m) ≡ true → Holds m n
+pub held : (m : Tree) (n : ℕ) → IsOrdered nat_cmp m → is_in n (runs_of m) ≡ true → HoldsNumber m n
 held m n o h =
     let r = found n m.entries h in
     let b = and_parts _ _ r.2 in (
@@ -81,7 +82,7 @@ held m n o h =
       leb-true _ _ b.1,
     )
 
-pub holds : (m : Tree) (n : ℕ) → IsOrdered nat_cmp m → Holds m n → is_in n (runs_of m) ≡ true
+pub holds : (m : Tree) (n : ℕ) → IsOrdered nat_cmp m → HoldsNumber m n → is_in n (runs_of m) ≡ true
 holds m n o (k, l, g, le, ge) =
     inside n m.entries (k, l) ((btree_map_get_iff nat_cmp_total exact_unsigned m o k l).0 g)
     (and_from (nat_le k n) (nat_le n l) (le_test k n le) (le_test n l ge))
@@ -92,11 +93,11 @@ holds m n o (k, l, g, le, ge) =
 -- ---- the last run that begins at a number or before it
 
 module _ (limit : ℕ) (m : Tree) (n : ℕ) (apart : Apart limit m) where
-  pub reached : (r : Option Run) → IsLastFrom n m r → reaches r n ≡ true → Holds m n
+  pub reached : (r : Option Run) → IsLastFrom n m r → reaches r n ≡ true → HoldsNumber m n
   reached None l h = absurd (cc)
   reached (Some r) l h = (r.first, r.last, l.0, l.1, leb-true _ _ h)
 
-  pub unreached : (r : Option Run) → IsLastFrom n m r → reaches r n ≡ false → Holds m n → ⊥
+  pub unreached : (r : Option Run) → IsLastFrom n m r → reaches r n ≡ false → HoldsNumber m n → ⊥
   unreached None l h (k, j, g, le, ge) = no_value (at m k) j (l k le) g
   unreached (Some r) l h (k, j, g, le, ge) =
       let past : r.last < n = leb-false _ _ h in
@@ -261,7 +262,7 @@ module _ (limit first n last : ℕ) (old new : Tree) (apart : Apart limit old)
   pub joined_more : HasOneMore old n new
   joined_more = ((first, last, joined.own, begins.bound, reach), kept, only)
     where
-      kept : (q : ℕ) → Holds old q → Holds new q
+      kept : (q : ℕ) → HoldsNumber old q → HoldsNumber new q
       kept q (k, l, g, le, ge) =
           ⊎_elim
           (λ own.
@@ -280,7 +281,7 @@ module _ (limit first n last : ℕ) (old new : Tree) (apart : Apart limit old)
           (λ far. (k, l, joined.others k other far ∙ g, le, ge)) (cases_eq k (n + 1)))
           (cases_eq k first)
 
-      only : (q : ℕ) → Holds new q → q ≢ n → Holds old q
+      only : (q : ℕ) → HoldsNumber new q → q ≢ n → HoldsNumber old q
       only q (k, l, g, le, ge) apart_n =
           ⊎_elim
           (λ own.
@@ -301,7 +302,7 @@ module _ (limit first n last : ℕ) (old new : Tree) (apart : Apart limit old)
 
 -- a number is in the top run, or in one of the tree
 abbrev pub In : Run → Tree → ℕ → Type 0
-In top m q = ((top.first ≤ q) × (q ≤ top.last)) ⊎ Holds m q
+In top m q = ((top.first ≤ q) × (q ≤ top.last)) ⊎ HoldsNumber m q
 
 module _ (top : Run) (m : Tree) (ordered : IsOrdered nat_cmp m) where
   pub has : (q : ℕ) → In top m q → contains (numbers_of (all_runs (Some top) m)) q ≡ true
@@ -324,8 +325,8 @@ module _ (top : Run) (m : Tree) (ordered : IsOrdered nat_cmp m) where
       (cases_Bool (in_run q top))
 
 -- a number that comes to runs that it isn't in
-pub put_is : (top next : Run) (old new : Tree) (n : ℕ) → AreRuns (Some top) old
-    → AreRuns (Some next) new → (In top old n → ⊥) → In next new n
+pub put_is : (top next : Run) (old new : Tree) (n : ℕ) → AreRunsApart (Some top) old
+    → AreRunsApart (Some next) new → (In top old n → ⊥) → In next new n
     → ((q : ℕ) → In top old q → In next new q) → ((q : ℕ) → In next new q → q ≢ n → In top old q)
     → IsPut (Some top) old n (Some next) new
 put_is top next old new n was are none own more only = (
@@ -360,7 +361,7 @@ abbrev only_run : ℕ → Run
 only_run n = record { first = n; last = n }
 
 pub first_put : (top : Option Run) (m : Tree) (n : ℕ) → ((t : Run) → top ≡ Some t → ⊥)
-    → AreRuns top m → IsPut top m n (Some (only_run n)) m
+    → AreRunsApart top m → IsPut top m n (Some (only_run n)) m
 first_put (Some t) m n e are = absurd (e t refl)
 first_put None m n e are = (
   nothing m n are,
@@ -378,8 +379,8 @@ first_put None m n e are = (
       let a : n ≤ q = w.0 in let b : q ≤ n = w.1 in absurd (omega (arith, other))
   only q other (inr (k, l, g, le, ge)) = absurd (empty_holds m k l are g)
 
-module _ (top : Run) (m : Tree) (n : ℕ) (are : AreRuns (Some top) m) where
-  holds_below : (q : ℕ) → Holds m q → q + 2 ≤ top.first
+module _ (top : Run) (m : Tree) (n : ℕ) (are : AreRunsApart (Some top) m) where
+  holds_below : (q : ℕ) → HoldsNumber m q → q + 2 ≤ top.first
   holds_below q (k, l, g, le, ge) =
       let b : l + 2 ≤ top.first = are.1.below k l g in omega (arith, ge)
 
@@ -389,7 +390,7 @@ module _ (top : Run) (m : Tree) (n : ℕ) (are : AreRuns (Some top) m) where
       let a : n + 2 ≤ top.first = holds_below n w in
       let b : top.first ≤ top.last = are.0 in absurd (omega (arith, lt))
 
-  none_below : n < top.first → (Holds m n → ⊥) → In top m n → ⊥
+  none_below : n < top.first → (HoldsNumber m n → ⊥) → In top m n → ⊥
   none_below lt none (inl w) = let a : top.first ≤ n = w.0 in absurd (omega (arith, lt))
   none_below lt none (inr w) = none w
 
@@ -476,7 +477,7 @@ module _ (top : Run) (m : Tree) (n : ℕ) (are : AreRuns (Some top) m) where
           let a : n ≤ q = w.0 in let b : q ≤ n = w.1 in absurd (omega (arith, other))
       only q (inr (k, l, g, le, ge)) other = old_one q k l le ge (which k l g)
 
-  pub put_apart : (new : Tree) → n < top.first → (Holds m n → ⊥) → Apart top.first new
+  pub put_apart : (new : Tree) → n < top.first → (HoldsNumber m n → ⊥) → Apart top.first new
       → HasOneMore m n new → IsPut (Some top) m n (Some top) new
   put_apart new lt none apart more =
       put_is top top m new n are (are.0, apart) (none_below lt none) (inr more.0)
@@ -484,7 +485,7 @@ module _ (top : Run) (m : Tree) (n : ℕ) (are : AreRuns (Some top) m) where
       (λ q w other. ⊎_elim (λ x. inl x) (λ x. inr (more.2 q x other)) w)
 
   -- a number right below the top run, which then begins where the run before it did
-  pub led : (new : Tree) (first : ℕ) → n + 1 ≡ top.first → (Holds m n → ⊥)
+  pub led : (new : Tree) (first : ℕ) → n + 1 ≡ top.first → (HoldsNumber m n → ⊥)
       → BeginsRun first n m → IsOrdered nat_cmp new → at new first ≡ None
       → ((q : ℕ) → q ≢ first → at new q ≡ at m q)
       → IsPut (Some top) m n (Some (record { first = first; last = top.last })) new
@@ -558,12 +559,12 @@ le_is a b c f g =
     (λ e. e ∙ sym (false_from_ne_true c (λ h. let l : a ≤ b = g h in let n : b < a = leb-false a b e in absurd (omega arith))))
     (cases_Bool (nat_le a b))
 
-pub none_in : (top : Option Run) (m : Tree) (n : ℕ) → top ≡ None → AreRuns top m
+pub none_in : (top : Option Run) (m : Tree) (n : ℕ) → top ≡ None → AreRunsApart top m
     → contains (numbers_of (all_runs top m)) n ≡ false
 none_in (Some t) m n e are = absurd (cc)
 none_in None m n e are = nothing m n are
 
-pub in_top : (top : Option Run) (t : Run) (m : Tree) (n : ℕ) → top ≡ Some t → AreRuns top m
+pub in_top : (top : Option Run) (t : Run) (m : Tree) (n : ℕ) → top ≡ Some t → AreRunsApart top m
     → t.first ≤ n → nat_le n t.last ≡ contains (numbers_of (all_runs top m)) n
 in_top None t m n e are le = absurd (cc)
 in_top (Some u) t m n e are le =
@@ -578,7 +579,7 @@ in_top (Some u) t m n e are le =
     le
 
 pub in_below : (top : Option Run) (t : Run) (m : Tree) (n : ℕ) (r : Option Run) → top ≡ Some t
-    → AreRuns top m → n < t.first → IsLastFrom n m r
+    → AreRunsApart top m → n < t.first → IsLastFrom n m r
     → reaches r n ≡ contains (numbers_of (all_runs top m)) n
 in_below None t m n r e are lt l = absurd (cc)
 in_below (Some u) t m n r e are lt l =
@@ -592,11 +593,11 @@ in_below (Some u) t m n r e are lt l =
     (λ h. none_below u m n are less (unreached u.first m n are.1 r l no) (had u m are.1.ordered n h))))
     (cases_Bool (reaches r n))
 
-pub there : (top : Run) (m : Tree) (n : ℕ) → AreRuns (Some top) m → Holds m n
+pub there : (top : Run) (m : Tree) (n : ℕ) → AreRunsApart (Some top) m → HoldsNumber m n
     → contains (numbers_of (all_runs (Some top) m)) n ≡ true
 there top m n are w = has top m are.1.ordered n (inr w)
 
-pub there_top : (top : Option Run) (t : Run) (m : Tree) (n : ℕ) → top ≡ Some t → AreRuns top m
+pub there_top : (top : Option Run) (t : Run) (m : Tree) (n : ℕ) → top ≡ Some t → AreRunsApart top m
     → t.first ≤ n → n ≤ t.last → contains (numbers_of (all_runs top m)) n ≡ true
 there_top top t m n e are le ge =
     sym (in_top top t m n e are le) ∙ le_is n t.last true (λ h. refl) (λ h. ge)

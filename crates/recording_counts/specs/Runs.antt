@@ -43,8 +43,8 @@ all_runs None below = runs_of below
 all_runs (Some top) below = top ∷ runs_of below
 
 -- a number is in a run of a tree
-abbrev pub Holds : BTreeMap ℕ ℕ → ℕ → Type 0
-Holds runs n = (first : ℕ) × (last : ℕ) × (get nat_cmp runs first ≡ Some last)
+abbrev pub HoldsNumber : BTreeMap ℕ ℕ → ℕ → Type 0
+HoldsNumber runs n = (first : ℕ) × (last : ℕ) × (get nat_cmp runs first ≡ Some last)
     × (first ≤ n) × (n ≤ last)
 
 -- Between a run and the next one is a number or more, and so between the last one and a limit.
@@ -57,9 +57,9 @@ pub record Apart (limit : ℕ) (runs : BTreeMap ℕ ℕ) : Type 0 where
 
 -- The runs below the top one lie apart from it and from one another; without a top one there are
 -- none.
-abbrev pub AreRuns : Option Run → BTreeMap ℕ ℕ → Type 0
-AreRuns None below = below.entries ≡ []
-AreRuns (Some top) below = (top.first ≤ top.last) × Apart top.first below
+abbrev pub AreRunsApart : Option Run → BTreeMap ℕ ℕ → Type 0
+AreRunsApart None below = below.entries ≡ []
+AreRunsApart (Some top) below = (top.first ≤ top.last) × Apart top.first below
 
 -- the last run that begins at a number or before it, if there is one
 abbrev pub IsLastFrom : ℕ → BTreeMap ℕ ℕ → Option Run → Type 0
@@ -91,8 +91,8 @@ begin_of (Some r) n = if r.last + 1 == n then r.first else n
 -- the runs of a tree have one number more
 abbrev pub HasOneMore : BTreeMap ℕ ℕ → ℕ → BTreeMap ℕ ℕ → Type 0
 HasOneMore old n new =
-    (Holds new n) × ((q : ℕ) → Holds old q → Holds new q)
-    × ((q : ℕ) → Holds new q → q ≢ n → Holds old q)
+    (HoldsNumber new n) × ((q : ℕ) → HoldsNumber old q → HoldsNumber new q)
+    × ((q : ℕ) → HoldsNumber new q → q ≢ n → HoldsNumber old q)
 
 -- A number is put to runs, and this is the top one then; or it is there, and the runs stay.
 abbrev pub IsPut : Option Run → BTreeMap ℕ ℕ → ℕ → Option Run → BTreeMap ℕ ℕ → Type 0
@@ -100,5 +100,5 @@ IsPut top old n None new =
     (contains (numbers_of (all_runs top old)) n ≡ true) × (new.entries ≡ old.entries)
 IsPut top old n (Some next) new =
     (contains (numbers_of (all_runs top old)) n ≡ false)
-    × AreRuns (Some next) new
+    × AreRunsApart (Some next) new
     × (numbers_of (all_runs (Some next) new) ≡ insert (numbers_of (all_runs top old)) n)

@@ -2,7 +2,8 @@
 ghost use Rattle.std.specs.Prelude.{◌≡◌, ◌+◌, ◌^◌, ◌<◌, ℕ, false, not};
 ghost use Rattle.std.specs.Prelude.{IfOk, OnErr, OnOk, Some};
 ghost use Rattle.std.specs.FinSet as set;
-ghost use Rattle.recording_counts.specs.Runs.{Apart, AreRuns, BeginsRun, HasOneMore, IsLastFrom};
+ghost use Rattle.recording_counts.specs.Runs.{Apart, AreRunsApart, BeginsRun, HasOneMore};
+ghost use Rattle.recording_counts.specs.Runs.{IsLastFrom};
 ghost use Rattle.recording_counts.specs.Runs.{IsPut};
 ghost use Rattle.recording_counts.specs.Runs.{begin_of, reaches};
 
@@ -31,7 +32,7 @@ impl<A: Allocator> Model for NumberSet<A> {
     ghost use Rattle.std.specs.Ordering.{nat_cmp};
     ghost use Rattle.std.specs.FinSet as set;
     ghost use Rattle.std.specs.Coded.{coded_ℕ};
-    ghost use Rattle.recording_counts.specs.Runs.{AreRuns, all_runs, numbers_of};
+    ghost use Rattle.recording_counts.specs.Runs.{AreRunsApart, all_runs, numbers_of};
 
     // The numbers
     ghost Value = { set.FinSet nat_cmp };
@@ -40,7 +41,7 @@ impl<A: Allocator> Model for NumberSet<A> {
 
     ghost view = { λ s. numbers_of (all_runs s.top s.below) };
 
-    ghost invariant = { λ s. AreRuns s.top s.below };
+    ghost invariant = { λ s. AreRunsApart s.top s.below };
 }
 
 impl<A: Allocator> NumberSet<A> {
@@ -98,7 +99,7 @@ fn put<A: Allocator + Clone>(
     below: &mut BTreeMap<u64, u64, A>,
     number: u64,
 ) -> Result<Option<Run>, AllocError>
-    requires { AreRuns top below.old }
+    requires { AreRunsApart top below.old }
     ensures put { IfOk result (λ next. IsPut top below.old number next below.new) }
     ensures kept { OnErr result (below.new.entries ≡ below.old.entries) }
 {
@@ -123,7 +124,7 @@ fn put_above<A: Allocator + Clone>(
     below: &mut BTreeMap<u64, u64, A>,
     number: u64,
 ) -> Result<Run, AllocError>
-    requires runs { AreRuns (Some top) below.old }
+    requires runs { AreRunsApart (Some top) below.old }
     requires above { top.last < number }
     ensures put { IfOk result (λ next. IsPut (Some top) below.old number (Some next) below.new) }
     ensures kept { OnErr result (below.new.entries ≡ below.old.entries) }
@@ -147,7 +148,7 @@ fn put_below<A: Allocator + Clone>(
     below: &mut BTreeMap<u64, u64, A>,
     number: u64,
 ) -> Result<Option<Run>, AllocError>
-    requires runs { AreRuns (Some top) below.old }
+    requires runs { AreRunsApart (Some top) below.old }
     requires below { number < top.first }
     ensures put { IfOk result (λ next. IsPut (Some top) below.old number next below.new) }
     ensures kept { OnErr result (below.new.entries ≡ below.old.entries) }

@@ -24,7 +24,7 @@ use Rattle.recording_reader.specs.declared.fault.ReadingFault.{ReadingFault}
 use Rattle.recording_engines.specs.Files.{AllOpened, AllReady, AreLeftOut, HasKnownOctets}
 use Rattle.recording_engines.specs.Files.{IsFailedAt, IsReadByFlows, IsReady, begun_of, ended_by}
 use Rattle.recording_engines.specs.Files.{gave_by, next_entry, standing_of, standings}
-use Rattle.recording_engines.specs.Imported.{AreOver, AsksFlows, Imports, IsJoinRefusal}
+use Rattle.recording_engines.specs.Imported.{AreOver, AsksFlows, Imports, IsLateRefusal}
 use Rattle.recording_engines.specs.Joining.{ComesLater, ComesNoFault, ComesNoSooner, GoFurther}
 use Rattle.recording_engines.specs.Joining.{IsAtNoFault, IsJoinedNext, JoinsByMoment, JoinsTo}
 use Rattle.recording_engines.specs.Joining.{OneAt, OneHasMore, Strand}
@@ -293,7 +293,7 @@ pub has_stopped : {X S : Type 0} (gave : S → List ℕ) (ended : S → Type 0)
     → map begun_of news ≡ map begun_of mids → AllByRecursion (HasKnownOctets gave ended) news
     → AllByRecursion IsReadByFlows news → mid ≡ took ++ front_text Two text
     → StopsJoining r news mid took'
-    → IsJoinRefusal (WasRead (gave_by gave) (ended_by ended)) each text (zip olds news) took took' r
+    → IsLateRefusal (WasRead (gave_by gave) (ended_by ended)) each text (zip olds news) took took' r
 has_stopped gave ended each olds mids news text took mid took' r opened same known kind front
     (inl (f, told, had)) =
     let all = all_but f r news told had.ends.1 in

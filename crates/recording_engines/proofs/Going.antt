@@ -3,7 +3,7 @@ use Rattle.std.proofs.Common.{◌≡◌, ℕ, List, Bool, true, false, Option, S
 use Rattle.std.proofs.Common.{sym, ap, subst, ◌∙◌}
 use Rattle.flow.specs.declared.flows.Flows.{Flows}
 use Rattle.media_file.specs.Records.{Entry}
-use Rattle.recording_reader.specs.FileReader.{FileReader, Finds, FindsFault, IsNewFileReader}
+use Rattle.recording_reader.specs.FileReader.{FileReader, FindsFault, FindsRecord, IsNewFileReader}
 use Rattle.recording_reader.specs.FileReader.{IsSameFile}
 use Rattle.recording_reader.specs.declared.fault.ReadingFault.{ReadingFault}
 use Rattle.recording_reader.specs.declared.way.Standing.{Standing as Stand}
@@ -29,7 +29,7 @@ new_begun flows told r new is =
     ap (λ (f : Option Flows). both f r.before.gave) new.by_flows
     ∙ ap (λ (t : Told). both flows t.gave) is
 
-pub found_ready : {S : Type 0} (b : Bool) (old new : FileReader S) → Finds b old new
+pub found_ready : {S : Type 0} (b : Bool) (old new : FileReader S) → FindsRecord b old new
     → HasAhead new.standing new.at_hand
 found_ready true old new one =
     subst (λ (s : Stand). HasAhead s new.at_hand) (sym one.reads)
@@ -38,7 +38,7 @@ found_ready false old new none =
     subst (λ (s : Stand). HasAhead s new.at_hand) (sym none.ended)
     (subst (λ (h : Option Entry). HasAhead Ended h) (sym none.at_hand) tt)
 
-pub found_more : {S : Type 0} (b : Bool) (old new : FileReader S) → Finds b old new
+pub found_more : {S : Type 0} (b : Bool) (old new : FileReader S) → FindsRecord b old new
     → ReadsMore old.records (ahead_by new.standing new.at_hand) new.records
 found_more true old new one =
     subst (λ (s : Stand). ReadsMore old.records (ahead_by s new.at_hand) new.records) (sym one.reads)

@@ -18,7 +18,8 @@ use Rattle.run_outcome.specs.declared.refusal.Refusal.{Refusal}
 use Rattle.run_outcome.specs.LowerFaults.{reading_fault}
 use Rattle.st_format.specs.History.{IsRead}
 use Rattle.recording_engines.specs.Faults.{opening_fault}
-use Rattle.recording_engines.specs.Files.{AllClosed, AllOpened, HasKnownOctets, IsClosed, IsOpened}
+use Rattle.recording_engines.specs.Files.{AllClosed, AllOpened, HasKnownOctets, IsClosed}
+use Rattle.recording_engines.specs.Files.{IsOpenedFile}
 use Rattle.recording_engines.specs.Files.{ReadsFileOn, ReadsToFault, begun_of, ended_by, gave_by}
 use Rattle.recording_engines.specs.Files.{IsReadByFlows, standing_of}
 use Rattle.recording_engines.specs.Joining.{IsAtNoFault, Strand}
@@ -138,7 +139,7 @@ abbrev pub OpenedUpTo : {A S : Type 0} → (S → List ℕ) → ℕ → List (Op
     → List (ImportFile A S) → List (ImportFile A S) → Type 0
 OpenedUpTo gave zero each olds news = news ≡ olds
 OpenedUpTo gave (suc k) (f ∷ fs) (o ∷ os) (n ∷ ns) =
-    IsOpened gave f o n × OpenedUpTo gave k fs os ns
+    IsOpenedFile gave f o n × OpenedUpTo gave k fs os ns
 OpenedUpTo gave (suc k) each olds news = ⊥
 
 -- the next one is as it was
@@ -160,13 +161,13 @@ closed_there (o ∷ os) (suc k) d closed lt = closed_there os k d closed.1 (omeg
 opened_suc : {A S : Type 0} (gave : S → List ℕ) (k : ℕ) (each : List (Option Flows))
     (olds news : List (ImportFile A S)) (e : Option Flows) (d y : ImportFile A S)
     → OpenedUpTo gave k each olds news → k < length olds → length each ≡ length olds
-    → IsOpened gave (get_or each k e) (get_or news k d) y
+    → IsOpenedFile gave (get_or each k e) (get_or news k d) y
     → OpenedUpTo gave (suc k) each olds (set news k y)
 opened_suc gave k each [] news e d y had lt long is = absurd (omega (arith, lt))
 opened_suc gave k [] (o ∷ os) news e d y had lt long is = absurd (omega (arith, long))
 opened_suc gave zero (f ∷ fs) (o ∷ os) news e d y had lt long is =
     subst (λ (l : List _). OpenedUpTo gave 1 (f ∷ fs) (o ∷ os) (set l 0 y)) (sym had)
-    (subst (λ (x : _). IsOpened gave f x y) (ap (λ (l : List _). get_or l 0 d) had) is, refl)
+    (subst (λ (x : _). IsOpenedFile gave f x y) (ap (λ (l : List _). get_or l 0 d) had) is, refl)
 opened_suc gave (suc k) (f ∷ fs) (o ∷ os) [] e d y had lt long is = absurd had
 opened_suc gave (suc k) (f ∷ fs) (o ∷ os) (n ∷ ns) e d y had lt long is = (
   had.0,
@@ -176,7 +177,7 @@ opened_suc gave (suc k) (f ∷ fs) (o ∷ os) (n ∷ ns) e d y had lt long is = 
 pub opened_more : {A S : Type 0} (gave : S → List ℕ) (k : ℕ) (each : List (Option Flows))
     (olds news : List (ImportFile A S)) (e : Option Flows) (d y : ImportFile A S)
     → OpenedUpTo gave k each olds news → k < length olds → length each ≡ length olds
-    → IsOpened gave (get_or each k e) (get_or news k d) y
+    → IsOpenedFile gave (get_or each k e) (get_or news k d) y
     → OpenedUpTo gave (k + 1) each olds (set news k y)
 opened_more gave k each olds news e d y had lt long is =
     subst (λ (n : ℕ). OpenedUpTo gave n each olds (set news k y)) (sym (add-one k))

@@ -163,7 +163,7 @@ pub record IsNew {A S : Type 0} (flows : Option Flows) (before : List ℕ) (f : 
   pub unread : IsUnread f
 
 -- it was opened by these flows, and read on to its first record
-pub record IsOpened {A S : Type 0} (gave : S → List ℕ) (flows : Option Flows)
+pub record IsOpenedFile {A S : Type 0} (gave : S → List ℕ) (flows : Option Flows)
     (old new : ImportFile A S) : Type 0 where
   pub begun : begun_of new ≡ (flows, gave_by gave old)
   pub ready : IsReady new
@@ -174,7 +174,7 @@ abbrev pub AllOpened : {A S : Type 0} → (S → List ℕ) → List (Option Flow
     → List (ImportFile A S) → List (ImportFile A S) → Type 0
 AllOpened gave [] [] [] = ⊤
 AllOpened gave (f ∷ fs) (o ∷ os) (n ∷ ns) =
-    IsOpened gave f o n × AllOpened gave fs os ns
+    IsOpenedFile gave f o n × AllOpened gave fs os ns
 AllOpened gave each olds news = ⊥
 
 -- ---- what was left out

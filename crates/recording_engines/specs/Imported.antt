@@ -94,19 +94,19 @@ pub record Imports {S : Type 0} (a b : Option (List ℕ)) (Said : List ℕ → T
 -- ---- refusals
 
 -- a word is no flow's
-abbrev pub IsWordRefusal : Option (List ℕ) → Refusal → Type 0
-IsWordRefusal None r = ⊥
-IsWordRefusal (Some text) r = (r ≡ refusal.ImportFlow) × ((f : Flow) → IsFlowText text f → ⊥)
+abbrev pub IsNoFlowRefusal : Option (List ℕ) → Refusal → Type 0
+IsNoFlowRefusal None r = ⊥
+IsNoFlowRefusal (Some text) r = (r ≡ refusal.ImportFlow) × ((f : Flow) → IsFlowText text f → ⊥)
 
 -- the SDP's flows have this fault
-abbrev pub IsSaidRefusal : List ℕ → Refusal → Type 0
-IsSaidRefusal said (refusal.Flows f) = IsFlowsFault (lines said) f
-IsSaidRefusal said r = ⊥
+abbrev pub IsSdpFlowsRefusal : List ℕ → Refusal → Type 0
+IsSdpFlowsRefusal said (refusal.Flows f) = IsFlowsFault (lines said) f
+IsSdpFlowsRefusal said r = ⊥
 
 -- The refusals of flows: of a word; where there is none, of the SDP's.
-abbrev pub IsFlowsRefusal : Option (List ℕ) → Option (List ℕ) → List ℕ → Refusal → Type 0
-IsFlowsRefusal None None said r = IsSaidRefusal said r
-IsFlowsRefusal a b said r = IsWordRefusal a r ⊎ IsWordRefusal b r
+abbrev pub IsImportFlowsRefusal : Option (List ℕ) → Option (List ℕ) → List ℕ → Refusal → Type 0
+IsImportFlowsRefusal None None said r = IsSdpFlowsRefusal said r
+IsImportFlowsRefusal a b said r = IsNoFlowRefusal a r ⊎ IsNoFlowRefusal b r
 
 -- both paths have one place, and there aren't two recordings
 abbrev pub IsPlacesRefusal : Flows → ℕ → Refusal → Type 0
@@ -127,9 +127,9 @@ pub record StopsImport {S : Type 0} (Ends : List Strand → Type 0) (Number : �
 
 -- The refusals of files that are written: the fault of the one whose turn it is, where no other is
 -- at a fault; that there are too many records, where none is.
-abbrev pub IsJoinRefusal : {S : Type 0} → (S → List ℕ → Type 0) → List (Option Flows) → List ℕ
+abbrev pub IsLateRefusal : {S : Type 0} → (S → List ℕ → Type 0) → List (Option Flows) → List ℕ
     → List S → List ℕ → List ℕ → Refusal → Type 0
-IsJoinRefusal told each text files took took' r =
+IsLateRefusal told each text files took took' r =
     ((f : ReadingFault) × (reading_fault f ≡ Refused r)
     × StopsImport (OneAt f) (λ n. ⊤) told each text files took took')
     ⊎ ((r ≡ refusal.ImportRecords)
@@ -137,12 +137,12 @@ IsJoinRefusal told each text files took took' r =
 
 -- The refusals of files by these flows: the first of one before its first record, and then nothing
 -- is written; and where there is none such, one behind that.
-abbrev pub IsFilesRefusal : {S : Type 0} → (S → List ℕ → Type 0) → Flows → List ℕ → List S
+abbrev pub IsInputsRefusal : {S : Type 0} → (S → List ℕ → Type 0) → Flows → List ℕ → List S
     → List ℕ → List ℕ → Refusal → Type 0
-IsFilesRefusal told flows text files took took' r =
+IsInputsRefusal told flows text files took took' r =
     (each : List (Option Flows)) × TakesBy flows (length files) each
     × (((took' ≡ took) × IsFirstStop told (zip files each) r)
-    ⊎ IsJoinRefusal told each text files took took' r)
+    ⊎ IsLateRefusal told each text files took took' r)
 
 -- The refusals of `import`, in their order, the first that there is: of the SDP text; of the flows;
 -- of the files.
@@ -152,6 +152,6 @@ abbrev pub IsImportRefusal : {S : Type 0} → Option (List ℕ) → Option (List
 IsImportRefusal a b sdp Said told files took took' r =
     ((took' ≡ took) × IsTextRefusal refusal.ImportSdp sdp r)
     ⊎ ((text : List ℕ) × Said text × IsCaptureText text
-    × (((took' ≡ took) × IsFlowsRefusal a b text r)
+    × (((took' ≡ took) × IsImportFlowsRefusal a b text r)
     ⊎ ((flows : Flows) × AsksFlows a b text flows
-    × IsFilesRefusal told flows text files took took' r)))
+    × IsInputsRefusal told flows text files took took' r)))

@@ -110,8 +110,8 @@ OneComes [] = ⊥
 OneComes (s ∷ ss) = ((e : Entry) × (s.ahead ≡ Coming e)) ⊎ OneComes ss
 
 -- as many as there may be were, and there is one more
-abbrev pub HasMore : {X S : Type 0} → List Entry → List (ImportFile X S) → Type 0
-HasMore entries files =
+abbrev pub HasOneTooMany : {X S : Type 0} → List Entry → List (ImportFile X S) → Type 0
+HasOneTooMany entries files =
     (length entries ≡ 16777216) × AllByRecursion IsReady files × OneComes (standings files)
 
 -- What was written where it ends by a refusal: what came before the fault of a file; or as many
@@ -121,4 +121,4 @@ abbrev pub StopsJoining : {X S : Type 0} → Refusal → List (ImportFile X S) �
 StopsJoining r files' old new =
     ((f : ReadingFault) × (reading_fault f ≡ Refused r)
     × EndsJoining (HasStopped f) files' old new)
-    ⊎ ((r ≡ ImportRecords) × EndsJoining HasMore files' old new)
+    ⊎ ((r ≡ ImportRecords) × EndsJoining HasOneTooMany files' old new)

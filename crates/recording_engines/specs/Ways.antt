@@ -3,7 +3,7 @@ use Rattle.std.specs.Prelude.{◌≡◌, ◌≢◌, ℕ, ◌⊎◌, List, [], Op
 use Rattle.std.specs.Prelude.{Result, Ok, Err, map, replicate}
 use Rattle.flow.specs.Flow.{IsOnePlace}
 use Rattle.flow.specs.declared.flows.Flows.{Flows}
-use Rattle.recording_engines.specs.Imported.{AsksFlows, IsSaidRefusal, SaysFlows}
+use Rattle.recording_engines.specs.Imported.{AsksFlows, IsSdpFlowsRefusal, SaysFlows}
 use Rattle.recording_engines.specs.Strands.{TellsPaths}
 use Rattle.run_outcome.specs.declared.refusal.Refusal.{Refusal}
 use Rattle.run_outcome.specs.declared.refusal.Refusal.TheVariants as refusal
@@ -14,7 +14,7 @@ abbrev pub IsWays : Option (List ℕ) → Option (List ℕ) → Option (List ℕ
     → Type 0
 IsWays None None None w = w ≡ Err refusal.ReceiveNoSdp
 IsWays None None (Some text) (Ok flows) = SaysFlows text flows
-IsWays None None (Some text) (Err r) = IsSaidRefusal text r
+IsWays None None (Some text) (Err r) = IsSdpFlowsRefusal text r
 IsWays a b said (Ok flows) = AsksFlows a b [] flows
 IsWays a b said (Err r) = ⊥
 

@@ -13,9 +13,10 @@ ghost use Rattle.st_format.specs.History.{IsRead};
 ghost use Rattle.recording_engines.specs.Files.{AllClosed, AllReady, AreLeftOut, HasKnownOctets};
 ghost use Rattle.recording_engines.specs.Files.{IsReadByFlows, begun_of, ended_by, failures_by};
 ghost use Rattle.recording_engines.specs.Files.{gave_by, standings};
-ghost use Rattle.recording_engines.specs.Imported.{AsksFlows, Imports, IsAsked, IsFlowsRefusal};
+ghost use Rattle.recording_engines.specs.Imported.{AsksFlows, Imports, IsAsked};
+ghost use Rattle.recording_engines.specs.Imported.{IsImportFlowsRefusal};
 ghost use Rattle.recording_engines.specs.Imported.{IsImportRefusal, IsPlacesRefusal};
-ghost use Rattle.recording_engines.specs.Imported.{IsSaidRefusal, IsWordRefusal, SaysFlows};
+ghost use Rattle.recording_engines.specs.Imported.{IsNoFlowRefusal, IsSdpFlowsRefusal, SaysFlows};
 ghost use Rattle.recording_engines.specs.Progress.{HasWrittenAll, StopsJoining};
 ghost use Rattle.recording_engines.specs.Steps.{AllFresh};
 ghost use Rattle.recording_engines.specs.Strands.{TakesBy, TellsPaths, only_a, only_b};
@@ -155,7 +156,7 @@ fn join_all<A: Allocator, S: ByteSource, K: ByteSink>(
 /// The flow that a word says, where one is given; `ImportFlow` where it says none.
 fn flow_of(word: Option<&[u8]>) -> Result<Option<Flow>, Fault>
     ensures asked { IfOk result (λ f. IsAsked (option_copied word.entry) f) }
-    ensures refusal { IfErr result (λ f. OfRefusal f (IsWordRefusal (option_copied word.entry))) }
+    ensures refusal { IfErr result (λ f. OfRefusal f (IsNoFlowRefusal (option_copied word.entry))) }
     ensures failures { Accounts result [] }
 {
     let Some(text) = word else {
@@ -175,7 +176,7 @@ fn flow_of(word: Option<&[u8]>) -> Result<Option<Flow>, Fault>
 pub fn flows_of(wanted: FlowWords<'_>, said: &[u8]) -> Result<Flows, Fault>
     ensures asked { IfOk result (λ f. AsksFlows (option_copied wanted.entry.a)
         (option_copied wanted.entry.b) said.now f) }
-    ensures refusal { IfErr result (λ f. OfRefusal f (IsFlowsRefusal
+    ensures refusal { IfErr result (λ f. OfRefusal f (IsImportFlowsRefusal
         (option_copied wanted.entry.a) (option_copied wanted.entry.b) said.now)) }
     ensures failures { Accounts result [] }
 {
@@ -190,7 +191,7 @@ pub fn flows_of(wanted: FlowWords<'_>, said: &[u8]) -> Result<Flows, Fault>
 /// The flows of an SDP: the first video section's is path A's, the second's path B's.
 fn said_flows(said: &[u8]) -> Result<Flows, Fault>
     ensures said { IfOk result (λ f. SaysFlows said.now f) }
-    ensures refusal { IfErr result (λ f. OfRefusal f (IsSaidRefusal said.now)) }
+    ensures refusal { IfErr result (λ f. OfRefusal f (IsSdpFlowsRefusal said.now)) }
     ensures failures { Accounts result [] }
 {
     let flows = read_flows(said)?;

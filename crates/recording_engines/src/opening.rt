@@ -1,7 +1,8 @@
 //! Opening files.
 ghost use Rattle.std.specs.Prelude.{◌≡◌, ◌≤◌, ◌∷◌, [], length, IfErr, OnOk};
 ghost use Rattle.std.specs.List.{sum_by, zip};
-ghost use Rattle.recording_engines.specs.Files.{AllClosed, AllOpened, IsClosed, IsNew, IsOpened};
+ghost use Rattle.recording_engines.specs.Files.{AllClosed, AllOpened, IsClosed, IsNew};
+ghost use Rattle.recording_engines.specs.Files.{IsOpenedFile};
 ghost use Rattle.recording_engines.specs.Files.{IsReady, IsUnread, begun_of, ended_by};
 ghost use Rattle.recording_engines.specs.Files.{failures_by, gave_by, standing_of};
 ghost use Rattle.recording_engines.specs.Opened.{AllBegin, IsFirstStop, IsStopRefusal};
@@ -109,7 +110,7 @@ fn begin_file<A: Allocator, S: ByteSource + Drop>(
     requires closed { IsClosed file.old }
     requires text { 65535 ≤ length text.old }
     ensures room { length text.new ≡ length text.old }
-    ensures opened { OnOk result (IsOpened S.gave flows file.old file.new) }
+    ensures opened { OnOk result (IsOpenedFile S.gave flows file.old file.new) }
     ensures begins { OnOk result (AllBegin (IsRead (gave_by S.gave file.old)
         (gave_by S.gave file.new) (ended_by S.ended file.new)) flows) }
     ensures refusal { IfErr result (λ f. OfRefusal f (IsStopRefusal (IsRead

@@ -1,7 +1,7 @@
 //! By which flows recordings are taken among captures.
 ghost use Rattle.std.specs.Prelude.{◌≡◌, ◌⊎◌, [], IfErr, IfOk, Ok, map};
 ghost use Rattle.std.specs.Option.{option_copied};
-ghost use Rattle.recording_engines.specs.Imported.{IsWordRefusal};
+ghost use Rattle.recording_engines.specs.Imported.{IsNoFlowRefusal};
 ghost use Rattle.recording_engines.specs.Ways.{AreWaysBy, IsWays};
 ghost use Rattle.run_outcome.specs.Fault.{Accounts};
 ghost use Rattle.run_outcome.specs.Refusing.{OfRefusal};
@@ -26,8 +26,8 @@ pub fn ways_each<A: Allocator + Copy>(
     ensures ways { IfOk result (λ each. AreWaysBy (option_copied wanted.entry.a)
         (option_copied wanted.entry.b) (option_copied said.entry) count each.items) }
     ensures refusal { IfErr result (λ f. OfRefusal f (λ r.
-        IsWordRefusal (option_copied wanted.entry.a) r
-        ⊎ IsWordRefusal (option_copied wanted.entry.b) r)) }
+        IsNoFlowRefusal (option_copied wanted.entry.a) r
+        ⊎ IsNoFlowRefusal (option_copied wanted.entry.b) r)) }
     ensures failures { Accounts result [] }
 {
     let flows = match ways_of(wanted, said)? {
@@ -60,8 +60,8 @@ fn ways_of(wanted: FlowWords<'_>, said: Option<&[u8]>) -> Result<Result<Flows, R
     ensures ways { IfOk result (λ w. IsWays (option_copied wanted.entry.a)
         (option_copied wanted.entry.b) (option_copied said.entry) w) }
     ensures refusal { IfErr result (λ f. OfRefusal f (λ r.
-        IsWordRefusal (option_copied wanted.entry.a) r
-        ⊎ IsWordRefusal (option_copied wanted.entry.b) r)) }
+        IsNoFlowRefusal (option_copied wanted.entry.a) r
+        ⊎ IsNoFlowRefusal (option_copied wanted.entry.b) r)) }
     ensures failures { Accounts result [] }
 {
     if wanted.a.is_some() || wanted.b.is_some() {

@@ -16,7 +16,7 @@ use Rattle.recording_reader.specs.Files.{records_of_file, text_of_file}
 use Rattle.recording_reader.specs.Found.{entry_at}
 use Rattle.recording_reader.specs.Reading.{entry_there}
 use Rattle.recording_reader.specs.Sound.{IsSound}
-use Rattle.recording_reader.specs.Ways.{BeginsWay, FailsNextBy, FindsNext, HasRoom, IsAtHand}
+use Rattle.recording_reader.specs.Ways.{BeginsWay, FailsNextBy, FindsNext, HasSpace, IsAtHand}
 use Rattle.recording_reader.specs.Ways.{WayStands, is_recording_way, left_out_by}
 use Rattle.recording_reader.specs.declared.came.Came.{Came}
 use Rattle.recording_reader.specs.declared.fault.ReadingFault.{ReadingFault}
@@ -72,7 +72,7 @@ module _ (way : Way) (flows : Option Flows) (before now : List ℕ) (ended : Typ
         (way_known way flows Reads before now ended text [] octets begins read)
 
   pub sound_first : (found : Option Found) (count : ℕ) (came : Came) (text_len : ℕ)
-      → HasRoom way count → AreNoted came [] → length text ≡ text_len
+      → HasSpace way count → AreNoted came [] → length text ≡ text_len
       → IsSound way flows Reads before now ended (text_of_file (since before now))
       (records_of_file flows (since before now)) found count came text_len
   sound_first found count came text_len roomy noted size =

@@ -11,7 +11,7 @@ use Rattle.recording_reader.specs.Files.{text_of_file}
 use Rattle.recording_reader.specs.Found.{entry_at}
 use Rattle.recording_reader.specs.Kinds.{is_recording}
 use Rattle.recording_reader.specs.Reading.{entry_there}
-use Rattle.recording_reader.specs.Ways.{FailsNextBy, FindsNext, HasRoom, IsAtHand}
+use Rattle.recording_reader.specs.Ways.{FailsNextBy, FindsNext, HasSpace, IsAtHand}
 use Rattle.recording_reader.specs.Ways.{RecordingStands, WayStands}
 use Rattle.recording_reader.specs.Ways.{is_recording_way, left_out_by}
 use Rattle.recording_reader.specs.declared.fault.ReadingFault.{ReadingFault}
@@ -206,14 +206,14 @@ same_kind_failed (Recording t) Capture f old new ended next = absurd next
 same_kind_failed (Recording t) (Recording u) f old new ended next = refl
 
 pub same_room : (was way : Way) (o : Option Found) (buffer old new : List ℕ) (ended : Type 0)
-    (count : ℕ) → FindsNext was way o buffer old new ended → HasRoom was count → HasRoom way count
+    (count : ℕ) → FindsNext was way o buffer old new ended → HasSpace was count → HasSpace way count
 same_room Capture Capture o buffer old new ended count next is = is
 same_room Capture (Recording u) o buffer old new ended count next is = absurd next
 same_room (Recording t) Capture o buffer old new ended count next is = absurd next
 same_room (Recording t) (Recording u) o buffer old new ended count next is = is
 
 pub same_room_failed : (was way : Way) (f : ReadingFault) (old new : List ℕ) (ended : Type 0)
-    (count : ℕ) → FailsNextBy was way f old new ended → HasRoom was count → HasRoom way count
+    (count : ℕ) → FailsNextBy was way f old new ended → HasSpace was count → HasSpace way count
 same_room_failed Capture Capture f old new ended count next is = is
 same_room_failed Capture (Recording u) f old new ended count next is = absurd next
 same_room_failed (Recording t) Capture f old new ended count next is = absurd next

@@ -7,7 +7,8 @@ use Rattle.st_format.specs.Turns.{CountsTurn, IsEnd, IsWithin, TakesTurn, arrive
 use Rattle.st_format.specs.declared.device.Turn.{Turn}
 use Rattle.st_format.specs.declared.device.Turn.TheVariants.{Datagram, Quiet, End}
 use Rattle.st_format.specs.declared.path.Path.{Path}
-use Rattle.recording_reader.specs.FileReader.{FileReader, Finds, FindsNone, FindsOne, TellsNext}
+use Rattle.recording_reader.specs.FileReader.{FileReader, FindsNone, FindsOne, FindsRecord}
+use Rattle.recording_reader.specs.FileReader.{TellsNext}
 use Rattle.recording_reader.specs.FileReader.{TellsOne, TellsTurn}
 use Rattle.recording_reader.specs.Files.{datagrams_of}
 use Rattle.recording_reader.specs.declared.way.Standing.TheVariants.{Reads, Ended}
@@ -86,7 +87,7 @@ tells_none old mid new End buf finds turn records standing delivered none =
     }
 
 pub tells_next : {S : Type 0} (old mid new : FileReader S) (b : Bool) (t : Turn) (buf : List ℕ)
-    → Finds b old mid → TellsTurn mid.at_hand t buf
+    → FindsRecord b old mid → TellsTurn mid.at_hand t buf
     → new.records ≡ mid.records → new.standing ≡ mid.standing → new.delivered ≡ mid.delivered
     → new.at_hand ≡ None → TellsNext t buf old new
 tells_next old mid new true t buf finds turn records standing delivered none =

@@ -125,9 +125,9 @@ pub record FindsNone {S : Type 0} (old new : FileReader S) : Type 0 where
   pub delivered : new.delivered ≡ old.delivered
 
 -- by what a call answers
-abbrev pub Finds : {S : Type 0} → Bool → FileReader S → FileReader S → Type 0
-Finds true old new = FindsOne old new
-Finds false old new = FindsNone old new
+abbrev pub FindsRecord : {S : Type 0} → Bool → FileReader S → FileReader S → Type 0
+FindsRecord true old new = FindsOne old new
+FindsRecord false old new = FindsNone old new
 
 -- A fault was found, at which the reader stays.
 pub record FindsFault {S : Type 0} (f : ReadingFault) (old new : FileReader S) : Type 0 where

@@ -106,9 +106,9 @@ left_out_by Capture = left_out_of []
 left_out_by (Recording t) = t.left_out
 
 -- there is the room that it needs
-abbrev pub HasRoom : Way → ℕ → Type 0
-HasRoom Capture count = 65535 ≤ count
-HasRoom (Recording t) count = count ≡ most_packet
+abbrev pub HasSpace : Way → ℕ → Type 0
+HasSpace Capture count = 65535 ≤ count
+HasSpace (Recording t) count = count ≡ most_packet
 
 -- a datagram is at hand only between records
 abbrev pub IsAtHand : Standing → Option Found → Type 0

@@ -5,7 +5,7 @@ ghost use Rattle.flow.specs.declared.flows.Flows.{Flows as Ways};
 ghost use Rattle.recording_counts.specs.LeftOut.{left_out_of};
 ghost use Rattle.recording_reader.specs.Kinds.{is_magic};
 ghost use Rattle.recording_reader.specs.Opening.{CountsOpening, IsByFlows, StopsOpening};
-ghost use Rattle.recording_reader.specs.Ways.{BeginsWay, HasRoom, left_out_by};
+ghost use Rattle.recording_reader.specs.Ways.{BeginsWay, HasSpace, left_out_by};
 
 use crate::fault::{FileOpeningFault, ReadingFault};
 use crate::kinds::is_magic;
@@ -39,7 +39,7 @@ pub(crate) fn begin<A: Allocator, S: ByteSource>(
         (S.ended source.new) (take b.text_len text.new)) }
     ensures text_len { IfOk result (λ b. b.text_len < 65536) }
     ensures found { IfOk result (λ b. b.room.found ≡ None) }
-    ensures roomy { IfOk result (λ b. HasRoom b.way (vec_len b.room.octets)) }
+    ensures roomy { IfOk result (λ b. HasSpace b.way (vec_len b.room.octets)) }
     ensures left_out { IfOk result (λ b. left_out_by b.way ≡ left_out_of []) }
     ensures fault { IfErr result (λ f. StopsOpening flows (S.gave source.old) (S.gave source.new)
         (S.ended source.new) f) }
@@ -78,7 +78,7 @@ fn begin_capture<A: Allocator, S: ByteSource>(
         (take b.text_len text.new)) }
     ensures text_len { IfOk result (λ b. b.text_len < 65536) }
     ensures found { IfOk result (λ b. b.room.found ≡ None) }
-    ensures roomy { IfOk result (λ b. HasRoom b.way (vec_len b.room.octets)) }
+    ensures roomy { IfOk result (λ b. HasSpace b.way (vec_len b.room.octets)) }
     ensures left_out { IfOk result (λ b. left_out_by b.way ≡ left_out_of []) }
     ensures fault { IfErr result (λ f. (before : List ℕ) (flows : Option Ways)
         → S.gave source.old ≡ before ++ four.now
@@ -110,7 +110,7 @@ fn begin_recording<A: Allocator, S: ByteSource>(
         → BeginsWay b.way (Some flows) before (S.gave source.new) (S.ended source.new) []) }
     ensures text_len { IfOk result (λ b. b.text_len ≡ 0) }
     ensures found { IfOk result (λ b. b.room.found ≡ None) }
-    ensures roomy { IfOk result (λ b. HasRoom b.way (vec_len b.room.octets)) }
+    ensures roomy { IfOk result (λ b. HasSpace b.way (vec_len b.room.octets)) }
     ensures left_out { IfOk result (λ b. left_out_by b.way ≡ left_out_of []) }
     ensures fault { IfErr result (λ f. (before : List ℕ) → S.gave source.old ≡ before ++ four.now
         → StopsOpening (Some flows) before (S.gave source.new) (S.ended source.new) f) }

@@ -3,7 +3,7 @@ ghost use Rattle.std.specs.Prelude.{◌≡◌, ◌≤◌, ◌<◌, ◌↔◌, �
 ghost use Rattle.std.specs.Prelude.{IfErr, IfOk, IfSome, IsSome, OnErr, OnOk, MatchResult};
 ghost use Rattle.std.specs.Prelude.{length, take};
 ghost use Rattle.std.specs.Option.{option_map};
-ghost use Rattle.recording_reader.specs.FileReader.{CountsDeviceAt, Finds, FindsFault};
+ghost use Rattle.recording_reader.specs.FileReader.{CountsDeviceAt, FindsFault, FindsRecord};
 ghost use Rattle.recording_reader.specs.FileReader.{HasGivenFile, HasGivenRecords, IsExact};
 ghost use Rattle.recording_reader.specs.FileReader.{IsNewFileReader, IsSameFile};
 ghost use Rattle.recording_reader.specs.FileReader.{TellsNext, TellsTurn, fault_of, last_fault_of};
@@ -180,7 +180,7 @@ impl<A: Allocator, S: ByteSource> DatagramReader<A, S> {
     ///   `BadInterface`, `TooManyInterfaces`, `BadTime`; `PacketTooLong` where a packet has more
     ///   than 1,048,576 octets; `TooManyBlocks`.
     pub fn advance(&mut self) -> Result<bool, ReadingFault>
-        ensures found { IfOk result (λ is_one. Finds is_one self.old self.new) }
+        ensures found { IfOk result (λ is_one. FindsRecord is_one self.old self.new) }
         ensures fault { IfErr result (λ f. FindsFault f self.old self.new) }
         ensures device { self.old.standing ≡ Reads
             → CountsReading (S.failures self.old.source) (S.failures self.new.source) result }

@@ -6,7 +6,7 @@ ghost use Rattle.std.specs.Option.{option_map};
 ghost use Rattle.recording_reader.specs.FileReader.{octets_at_hand, record_seen};
 ghost use Rattle.recording_reader.specs.Files.{CountsReading};
 ghost use Rattle.recording_reader.specs.Reading.{entry_there};
-ghost use Rattle.recording_reader.specs.Ways.{FailsNextBy, FindsNext, HasRoom};
+ghost use Rattle.recording_reader.specs.Ways.{FailsNextBy, FindsNext, HasSpace};
 
 use crate::fault::ReadingFault;
 use crate::found::Found;
@@ -56,7 +56,7 @@ impl<A: Allocator> Room<A> {
         way: &mut Way,
         source: &mut S,
     ) -> Result<Option<Path>, ReadingFault>
-        requires { HasRoom way.old (vec_len self.old.octets) }
+        requires { HasSpace way.old (vec_len self.old.octets) }
         ensures room { vec_len self.new.octets ≡ vec_len self.old.octets }
         ensures read { OnOk result (FindsNext way.old way.new self.new.found self.new.octets.items
             (S.gave source.old) (S.gave source.new) (S.ended source.new)) }

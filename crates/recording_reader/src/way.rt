@@ -1,7 +1,7 @@
 //! What kind of file is read, and what was read of it between its records.
 ghost use Rattle.std.specs.Prelude.{◌≡◌, ◌≤◌, ◌-◌, length, IfErr, IfOk, IfSome};
 ghost use Rattle.recording_reader.specs.Files.{CountsReading};
-ghost use Rattle.recording_reader.specs.Ways.{FailsNextBy, FindsNext, HasRoom, is_recording_way};
+ghost use Rattle.recording_reader.specs.Ways.{FailsNextBy, FindsNext, HasSpace, is_recording_way};
 ghost use Rattle.recording_reader.specs.Ways.{left_out_by};
 
 use crate::fault::ReadingFault;
@@ -46,7 +46,7 @@ impl Way {
         source: &mut S,
         buf: &mut [u8],
     ) -> Result<Option<Found>, ReadingFault>
-        requires { HasRoom self.old (length buf.old) }
+        requires { HasSpace self.old (length buf.old) }
         ensures room { length buf.new ≡ length buf.old }
         ensures read { IfOk result (λ r. FindsNext self.old self.new r buf.new
             (S.gave source.old) (S.gave source.new) (S.ended source.new)) }

@@ -14,7 +14,7 @@ use Rattle.run_outcome.specs.Moments.{WasRead}
 use Rattle.run_outcome.specs.Sources.{IsSourceText}
 use Rattle.run_outcome.specs.Timestamps.{AreTimestamps}
 use Rattle.capture_engines.specs.Taking.{AnnouncesStream}
-use Rattle.receiver_engines.specs.MergedAll.{AreAlike, GiveReceivers, MergesAll}
+use Rattle.receiver_engines.specs.MergedAll.{AreOpenAlike, GiveReceivers, MergesAll}
 use Rattle.receiver_engines.specs.MergedAll.{behind_each_other, merged_all}
 use Rattle.receiver_engines.specs.Merging.{GivesReceiver, MergesFiles, merged_state}
 use Rattle.receiver_engines.specs.Reading.{SayReceivers}
@@ -72,7 +72,7 @@ two_merged : {L R : Type 0} (gave : L → List ℕ) (ended : L → Type 0) (also
     → MergesFiles (WasRead gave ended left) (WasRead also_gave also_ended right) old new
     → (s : State) (ts : List State) → IsReceiverFile (read_of gave left) s
     → AreReceiverFiles (read_of also_gave right ∷ []) ts
-    → AreAlike s ts × (since old new ≡ state_text (kept_of (merged_all s ts)))
+    → AreOpenAlike s ts × (since old new ≡ state_text (kept_of (merged_all s ts)))
 two_merged gave ended also_gave also_ended left right old new m s [] is are = absurd are
 two_merged gave ended also_gave also_ended left right old new m s (t ∷ []) is are =
     let saves =
@@ -107,14 +107,14 @@ few_refusals : (s : State) (ts : List State) → length s.refusals ≤ 64
 few_refusals s [] few = few
 few_refusals s (t ∷ ts) few = few_refusals (merged_state s t) ts (omega arith)
 
-alike_head : (s t : State) (ts : List State) → AreAlike s (t ∷ ts) → s.opening ≡ t.opening
+alike_head : (s t : State) (ts : List State) → AreOpenAlike s (t ∷ ts) → s.opening ≡ t.opening
 alike_head s t ts alike = alike 0 t (omega arith)
 
-alike_tail : (s t : State) (ts : List State) → AreAlike s (t ∷ ts) → AreAlike s ts
+alike_tail : (s t : State) (ts : List State) → AreOpenAlike s (t ∷ ts) → AreOpenAlike s ts
 alike_tail s t ts alike = λ k d lt. alike (suc k) d (omega (arith, lt))
 
 holds_all : (s : State) (ts : List State) (datagrams : List (List ℕ))
-    (lists : List (List (List ℕ))) → AreAlike s ts → Holds s datagrams → AllZip Holds ts lists
+    (lists : List (List (List ℕ))) → AreOpenAlike s ts → Holds s datagrams → AllZip Holds ts lists
     → Holds (merged_all s ts) (datagrams ++ behind_each_other lists)
 holds_all s [] datagrams [] alike holds each = subst (Holds s) (sym (append-nil datagrams)) holds
 holds_all s [] datagrams (l ∷ ls) alike holds each = absurd each

@@ -20,8 +20,8 @@ use Rattle.run_outcome.specs.Text.{GivesText}
 use Rattle.run_outcome.specs.declared.refusal.Refusal.{Refusal}
 use Rattle.run_outcome.specs.declared.refusal.Refusal.TheVariants as why
 use Rattle.recording_engines.specs.Imported.{AreOf, AreOver, AsksFlows, Imports, IsAsked}
-use Rattle.recording_engines.specs.Imported.{IsFilesRefusal, IsFlowsRefusal, IsImportRefusal}
-use Rattle.recording_engines.specs.Imported.{IsJoinRefusal, IsSaidRefusal, IsWordRefusal}
+use Rattle.recording_engines.specs.Imported.{IsImportFlowsRefusal, IsImportRefusal, IsInputsRefusal}
+use Rattle.recording_engines.specs.Imported.{IsLateRefusal, IsNoFlowRefusal, IsSdpFlowsRefusal}
 use Rattle.recording_engines.specs.Joining.{IsJoinedNext, JoinsByMoment, JoinsTo, OneAt, OneHasMore}
 use Rattle.recording_engines.specs.Joining.{Strand}
 use Rattle.recording_engines.specs.Opened.{IsFirstStop, IsStopRefusal}
@@ -127,19 +127,19 @@ one_asked (Some s) b text fs gs h k =
     flows_is fs gs (asked_once (Some s) fs.a gs.a h.0 k.0) (asked_once b fs.b gs.b h.1 k.1)
 
 word_not : (word : Option (List ℕ)) (o : Option Flow) (r : Refusal) → IsAsked word o
-    → IsWordRefusal word r → ⊥
+    → IsNoFlowRefusal word r → ⊥
 word_not None o r asked wrong = wrong
 word_not (Some t) None r asked wrong = asked
 word_not (Some t) (Some f) r asked wrong = wrong.1 f asked
 
 said_not : (text : List ℕ) (flows : Flows) (r : Refusal) → AsksFlows None None text flows
-    → IsSaidRefusal text r → ⊥
+    → IsSdpFlowsRefusal text r → ⊥
 said_not text flows (why.Flows e) asked wrong =
     sections_not (lines text) (video_sections (lines text)) asked.0 e asked.1 wrong
 said_not text flows r asked wrong = absurd wrong
 
 flows_not : (a b : Option (List ℕ)) (text : List ℕ) (flows : Flows) (r : Refusal)
-    → AsksFlows a b text flows → IsFlowsRefusal a b text r → ⊥
+    → AsksFlows a b text flows → IsImportFlowsRefusal a b text r → ⊥
 flows_not None None text flows r asked wrong = said_not text flows r asked wrong
 flows_not None (Some t) text flows r asked (inl wrong) = wrong
 flows_not None (Some t) text flows r asked (inr wrong) = word_not (Some t) flows.b r asked.1 wrong
@@ -329,7 +329,7 @@ module _ {D F : Type 0} (text_gave : D → List ℕ) (text_ended : D → Type 0)
         ∙ omega (arith, over_total joined.left joined.ends)
 
     join_not : (text other other' : List ℕ) (r : Refusal)
-        → IsJoinRefusal (WasRead gave ended) run.each text files other other' r → ⊥
+        → IsLateRefusal (WasRead gave ended) run.each text files other other' r → ⊥
     join_not text other other' r (inl (f, told, stops)) =
         let out = stops.joined octets (zipped gave ended files) in
         none_at f out.left
@@ -351,7 +351,7 @@ module _ {D F : Type 0} (text_gave : D → List ℕ) (text_ended : D → Type 0)
         )
 
     files_not : (text other other' : List ℕ) (r : Refusal)
-        → IsFilesRefusal (WasRead gave ended) run.flows text files other other' r → ⊥
+        → IsInputsRefusal (WasRead gave ended) run.flows text files other other' r → ⊥
     files_not text other other' r (each, takes, inl wrong) =
         let same : each ≡ run.each =
         one_each run.flows (length files) each run.each takes run.taken_by in
@@ -363,7 +363,7 @@ module _ {D F : Type 0} (text_gave : D → List ℕ) (text_ended : D → Type 0)
         wrong.1
     files_not text other other' r (each, takes, inr wrong) =
         join_not text other other' r
-        (subst (λ (fs : List (Option Flows)). IsJoinRefusal (WasRead gave ended) fs text files other
+        (subst (λ (fs : List (Option Flows)). IsLateRefusal (WasRead gave ended) fs text files other
         other' r) (one_each run.flows (length files) each run.each takes run.taken_by) wrong)
 
     pub import_not : (other other' : List ℕ) (r : Refusal)
@@ -375,11 +375,11 @@ module _ {D F : Type 0} (text_gave : D → List ℕ) (text_ended : D → Type 0)
         (was_read text_gave text_ended (sdp, later))) run.described wrong.1
     import_not other other' r (inr (text, said, described, inl wrong)) =
         flows_not a b run.text run.flows r run.asked
-        (subst (λ (t : List ℕ). IsFlowsRefusal a b t r) (one_text text said) wrong.1)
+        (subst (λ (t : List ℕ). IsImportFlowsRefusal a b t r) (one_text text said) wrong.1)
     import_not other other' r (inr (text, said, described, inr (flows, asked, wrong))) =
         let same : flows ≡ run.flows =
         one_asked a b run.text flows run.flows
         (subst (λ (t : List ℕ). AsksFlows a b t flows) (one_text text said) asked) run.asked in
         files_not text other other' r
-        (subst (λ (fs : Flows). IsFilesRefusal (WasRead gave ended) fs text files other other' r)
+        (subst (λ (fs : Flows). IsInputsRefusal (WasRead gave ended) fs text files other other' r)
         same wrong)

@@ -33,7 +33,7 @@ use Rattle.capture_engines.specs.Looped.{IsLoopRefusal}
 use Rattle.capture_engines.specs.Looping.{Link, Loops}
 use Rattle.receiver_engines.specs.MergeAllRefused.{IsMergeAllRefusal, StopsMerge, StopsMergeBehind}
 use Rattle.receiver_engines.specs.MergeRefused.{AreUnlike, IsMergeRefusal}
-use Rattle.receiver_engines.specs.MergedAll.{AreAlike, MergesAll}
+use Rattle.receiver_engines.specs.MergedAll.{AreOpenAlike, MergesAll}
 use Rattle.receiver_engines.specs.Merging.{GivesReceiver, MergesFiles, SaysReceiver}
 use Rattle.receiver_engines.specs.Reading.{SayReceivers}
 use Rattle.receiver_engines.specs.Reporting.{Reports}
@@ -96,10 +96,10 @@ gives told octets r there says =
     let file : IsReceiverFile octets r = says octets there in
     record { read = subst told file.whole there; writable = file.writable }
 
-alike_first : (s r : State) (rs : List State) → AreAlike s (r ∷ rs) → s.opening ≡ r.opening
+alike_first : (s r : State) (rs : List State) → AreOpenAlike s (r ∷ rs) → s.opening ≡ r.opening
 alike_first s r rs all = all zero r (omega arith)
 
-alike_others : (s r : State) (rs : List State) → AreAlike s (r ∷ rs) → AreAlike s rs
+alike_others : (s r : State) (rs : List State) → AreOpenAlike s (r ∷ rs) → AreOpenAlike s rs
 alike_others s r rs all = λ k d lt. all (suc k) d (omega (arith, lt))
 
 -- the receiver of one of the files, and that it is opened as the first is
@@ -109,7 +109,7 @@ record OneOf {S : Type 0} (told : S → List ℕ → Type 0) (at : S) (s : State
   alike : s.opening ≡ receiver.opening
 
 one_of : {S : Type 0} (told : S → List ℕ → Type 0) (front : List S) (at : S) (behind : List S)
-    (s : State) (rs : List State) → SayReceivers told (front ++ at ∷ behind) rs → AreAlike s rs
+    (s : State) (rs : List State) → SayReceivers told (front ++ at ∷ behind) rs → AreOpenAlike s rs
     → OneOf told at s
 one_of told [] at behind s [] say all = absurd say
 one_of told [] at behind s (r ∷ rs) say all = record {

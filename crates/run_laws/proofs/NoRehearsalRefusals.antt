@@ -38,7 +38,7 @@ use Rattle.script_engines.specs.Rehearsal.{IsFaultyHead, IsFaultyRehearsal, IsMa
 use Rattle.script_engines.specs.Rehearsal.{Said, SaysCount, SaysMax, SaysRehearsal, SaysStamp}
 use Rattle.script_engines.specs.Rehearsal.{SaysWindow}
 use Rattle.script_engines.specs.RehearsalForms.{IsCountLine, IsStampLine, IsWindowLine}
-use Rattle.script_engines.specs.Rehearsed.{IsPlanOf, IsRefusedScript, IsUnplanned}
+use Rattle.script_engines.specs.Rehearsed.{IsRefusedScript, IsRehearsalPlan, IsUnplanned}
 use Rattle.script_engines.specs.Rehearsed.{IsUnplayed, IsUnplayedBy, PlaysSaid, Rehearses, scene_by}
 use Rattle.script_engines.specs.Script.{line_behind, numbered_lines}
 use Rattle.script_engines.proofs.LinesOnce.{one_format}
@@ -244,7 +244,7 @@ module _ {A : Type 0} (lines : Numbered) (said : Said) (says : SaysRehearsal lin
     receivers : IsReceiverCount other.heading.receivers
     receivers = subst (λ (n : ℕ). IsReceiverCount n) alike.receivers plays.receivers
 
-    module _ (by : RasterPlan) (by_is : IsPlanOf by other.heading) where
+    module _ (by : RasterPlan) (by_is : IsRehearsalPlan by other.heading) where
       pictures : ArePictures other.pictures by.format
       pictures = record {
         few = subst (λ (n : ℕ). n ≤ 10000) bodies.0 plays.pictures.few;

@@ -20,8 +20,8 @@ use Rattle.capture_engines.specs.Received.{StopsFile}
 use Rattle.capture_engines.specs.declared.way.Way.{Way}
 use Rattle.stream_inspection.specs.Aim.{Announces, IsBeginRefusal, IsTarget}
 use Rattle.capture_engines.proofs.Untaken.{front_stop}
-use Rattle.stream_inspection.specs.Read.{EndsBy, HasRecords, HaveRecords, IsStartRefusal}
-use Rattle.stream_inspection.specs.Told.{IsStreamsRefusal, Tells, begins}
+use Rattle.stream_inspection.specs.Read.{EndsAfter, HasRecords, HaveRecords, IsStartRefusal}
+use Rattle.stream_inspection.specs.Told.{IsStreamsRefusal, TellsStreams, begins}
 use Rattle.stream_inspection.specs.declared.target.Target.{Target}
 use Rattle.stream_inspection.specs.declared.target.Wanted.{Wanted}
 use Rattle.stream_inspection.specs.declared.target.Wanted.TheVariants.{Said, Given}
@@ -80,7 +80,7 @@ one_not : (w : Way) (octets : List ℕ) (records : List Entry) (f : ReadingFault
     → IsTakenWhole w octets → HasRecords w octets records (Some f) → ⊥
 one_not w octets records f is has = by has.ends
   where
-    by : EndsBy (flows_in w) octets records (Some f) → ⊥
+    by : EndsAfter (flows_in w) octets records (Some f) → ⊥
     by (inl wrong) = fault_twice octets f is.whole wrong.1
     by (inr many) =
         omega (
@@ -179,7 +179,7 @@ module _ {S : Type 0} (gave : S → List ℕ) (ended : S → Type 0) where
   pub streams_not : (w : Wanted) (form : Form) (sdp : Option (List ℕ))
       (ways : List (Result Flows Refusal)) (files : List (S × S))
       (shown shown' other other' : List ℕ) (r : Refusal)
-      → Tells w form sdp ways (WasRead gave ended) files None shown shown'
+      → TellsStreams w form sdp ways (WasRead gave ended) files None shown shown'
       → HaveFew ways (all_read gave files)
       → IsStreamsRefusal w form sdp ways (WasRead gave ended) files other other' r → ⊥
   streams_not w form sdp ways files shown shown' other other' r tells few (inl (same, inl begin)) =

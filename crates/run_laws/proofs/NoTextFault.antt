@@ -12,7 +12,7 @@ use Rattle.sdp_format.proofs.TextFaults.{text_fault, text_said}
 use Rattle.run_outcome.specs.declared.fault.Fault.TheVariants.{Refused}
 use Rattle.run_outcome.specs.declared.refusal.Refusal.{Refusal}
 use Rattle.run_outcome.specs.declared.refusal.Refusal.TheVariants as why
-use Rattle.script_engines.specs.Described.{Describes, IsUndescribed}
+use Rattle.script_engines.specs.Described.{DescribesVideo, IsUndescribed}
 use Rattle.script_engines.specs.Reading.{DoesScript, IsRefusedFor}
 use Rattle.script_engines.specs.Script.{IsReadFrom}
 use Rattle.run_laws.specs.Told.{AreOfOneFault}
@@ -51,7 +51,7 @@ of_one_fault r q at other is so same =
     (subst (λ (x : Refusal). AreOfOneFault (why.Sdp at) x) (sym so) same)
 
 module _ (before now : List ℕ) (ended : Type 0) (old new : List ℕ)
-    (does : DoesScript Describes before now ended old new)
+    (does : DoesScript DescribesVideo before now ended old new)
   where
     -- what was given is the script
     same : (given : List ℕ) → now ≡ before ++ given → given ≡ does.0
@@ -73,7 +73,7 @@ module _ (before now : List ℕ) (ended : Type 0) (old new : List ℕ)
 
 pub sdp_not : {S : Type 0} (gave : S → List ℕ) (ended : S → Type 0) (source later : S)
     (old new : List ℕ) (r : Refusal)
-    → DoesScript Describes (gave source) (gave later) (ended later) old new
+    → DoesScript DescribesVideo (gave source) (gave later) (ended later) old new
     → IsRefusedFor IsUndescribed (gave source) (gave later) (ended later) r → ⊥
 sdp_not gave ended source later old new r does wrong =
     by_cut (gave source) (gave later) (ended later) old new does r wrong.0 wrong.1 wrong.2 wrong.3

@@ -4,7 +4,7 @@ use Rattle.std.specs.List.{AllZip}
 use Rattle.media_file.specs.StateFile.{state_text}
 use Rattle.path_receiver.specs.Frames.{State}
 use Rattle.receiver_file.specs.Saved.{IsReceiverFile, kept_of}
-use Rattle.receiver_engines.specs.MergedAll.{AreAlike, behind_each_other, merged_all}
+use Rattle.receiver_engines.specs.MergedAll.{AreOpenAlike, behind_each_other, merged_all}
 use Rattle.run_laws.specs.Received.{IsReceivedFile}
 
 -- octets are the files of receivers, one each
@@ -19,7 +19,7 @@ pub record IsMergedFile (first : List ℕ) (others : List (List ℕ)) (file : Li
   pub others_are : AreReceiverFiles others receivers
   -- so whichever receivers' files they are
   pub merged : (s : State) (ts : List State) → IsReceiverFile first s → AreReceiverFiles others ts
-      → AreAlike s ts × (file ≡ state_text (kept_of (merged_all s ts)))
+      → AreOpenAlike s ts × (file ≡ state_text (kept_of (merged_all s ts)))
 
 -- these are received files, one of each list of datagrams, of the same words and SDP text
 abbrev pub AreReceivedFiles : List ℕ → List ℕ → List ℕ → List (List (List ℕ)) → List (List ℕ)

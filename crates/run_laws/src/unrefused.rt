@@ -38,7 +38,7 @@ ghost use Rattle.recording_engines.specs.Files.{ended_by, gave_by};
 ghost use Rattle.recording_engines.specs.Imported.{Imports, IsImportRefusal};
 ghost use Rattle.recording_engines.specs.declared.file.ImportFile.{ImportFile};
 ghost use Rattle.recording_engines.specs.declared.importing.ImportCounts.{ImportCounts as Sums};
-ghost use Rattle.script_engines.specs.Described.{Describes, IsUndescribed};
+ghost use Rattle.script_engines.specs.Described.{DescribesVideo, IsUndescribed};
 ghost use Rattle.script_engines.specs.Reading.{DoesScript, IsRefusedFor};
 ghost use Rattle.script_engines.specs.Rehearsed.{IsRefusedScript, Rehearses};
 ghost use Rattle.script_engines.specs.Traced.{IsUntraced, Traces};
@@ -51,7 +51,7 @@ ghost use Rattle.export_engine.specs.ExportRefused.{IsExportRefusal};
 ghost use Rattle.export_engine.specs.Exported.{PrintsExported};
 ghost use Rattle.inspect_engine.specs.Told.{IsInspectRefusal, Tells};
 ghost use Rattle.inspect_engine.specs.declared.form.Form.{Form};
-ghost use Rattle.stream_inspection.specs.Told.{IsStreamsRefusal, Tells as TellsStreams};
+ghost use Rattle.stream_inspection.specs.Told.{IsStreamsRefusal, TellsStreams};
 ghost use Rattle.stream_inspection.specs.declared.target.Wanted.{Wanted as StreamWanted};
 ghost use Rattle.stream_inspection.specs.declared.text.Form.{Form as StreamForm};
 ghost use Rattle.run_laws.specs.Received.{all_read, read_of};
@@ -122,7 +122,7 @@ pub fn export_unrefused<S: ByteSource>()
 /// The same of a run of `sdp` (`printed` of `describe`).
 pub fn sdp_unrefused<S: ByteSource>()
     ensures { (source later : S) (old new : List ℕ) (r : Refusal)
-        → DoesScript Describes (S.gave source) (S.gave later) (S.ended later) old new
+        → DoesScript DescribesVideo (S.gave source) (S.gave later) (S.ended later) old new
         → IsRefusedFor IsUndescribed (S.gave source) (S.gave later) (S.ended later) r → ⊥ }
 {}
 

@@ -22,7 +22,8 @@ use Rattle.run_outcome.specs.Refusing.{OfRefusal}
 use Rattle.run_outcome.specs.declared.script_line.LineFault.TheVariants.{Play}
 use Rattle.run_outcome.specs.LowerFaults.{of_line}
 use Rattle.script_engines.specs.Rehearsal.{Heading, IsFaultyRehearsal, Said, SaysRehearsal, said_by}
-use Rattle.script_engines.specs.Rehearsed.{IsPlanOf, IsRefusedScript, IsUnplayed, IsUnplayedBy}
+use Rattle.script_engines.specs.Rehearsed.{IsRefusedScript, IsRehearsalPlan, IsUnplayed}
+use Rattle.script_engines.specs.Rehearsed.{IsUnplayedBy}
 use Rattle.script_engines.specs.Rehearsed.{PlaysSaid, Rehearses, RehearsesPart}
 use Rattle.script_engines.specs.Rehearsed.{handed_text, receivers_text}
 use Rattle.script_engines.specs.Script.{line_behind, numbered_lines}
@@ -172,7 +173,7 @@ said_same s window pictures events w p e =
 
 pub plan_of : (plan : RasterPlan) (h : Heading) → (plan.format ≡ h.format)
     × (plan.max_octets ≡ h.max_octets) → IsFullPlan plan.packets plan.format plan.max_octets
-    → IsPlanOf plan h
+    → IsRehearsalPlan plan h
 plan_of plan h made full = record { format_is = made.0; max_is = made.1; full = full }
 
 -- what is said of a schedule that is not played
@@ -186,7 +187,7 @@ pub record SaysWhy {V : Type 0} (r : Result V PlayFault) (plan : RasterPlan) (sa
       → IsUnplayedBy (play.BadEvent place) plan said
 
 pub unplayed : {V : Type 0} (r : Result V PlayFault) (f : PlayFault) (y : Fault) (number : ℕ)
-    (plan : RasterPlan) (said : Said) → IsPlanOf plan said.heading → SaysWhy r plan said
+    (plan : RasterPlan) (said : Said) → IsRehearsalPlan plan said.heading → SaysWhy r plan said
     → r ≡ Err f → y ≡ of_line number (Play f) → IsUnplayed y said
 unplayed r play.NoMemory y number plan said of why is same =
     subst (λ (g : Fault). IsUnplayed g said) (sym same) tt

@@ -20,7 +20,7 @@ pub record IsCanonicalOf (text line : List ℕ) : Type 0 where
   pub line_is : line ≡ canonical_line described.leg ++ 10 ∷ []
 
 -- the line of a text that describes a video was printed
-pub record Describes (text old new : List ℕ) : Type 0 where
+pub record DescribesVideo (text old new : List ℕ) : Type 0 where
   pub line : List ℕ
   pub is : IsCanonicalOf text line
   pub printed : new ≡ old ++ line

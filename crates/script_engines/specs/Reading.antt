@@ -8,8 +8,8 @@ use Rattle.script_engines.specs.Script.{GivesAll, GivesScript, IsReadFrom}
 
 -- A run that succeeds was given a whole script, and one that is refused octets up to its source's
 -- end, or more than a script may have
-abbrev pub Reads : {V : Type 0} → Result V Fault → List ℕ → List ℕ → Type 0 → Type 0
-Reads result before now ended =
+abbrev pub ReadsScript : {V : Type 0} → Result V Fault → List ℕ → List ℕ → Type 0 → Type 0
+ReadsScript result before now ended =
     MatchResult result (λ _. GivesScript before now ended)
     (λ f. IfRefused f (GivesAll before now ended))
 

@@ -33,7 +33,7 @@ use Rattle.script_engines.specs.Script.{line_behind, numbered_lines}
 -- ---- what is played
 
 -- a full plan for the format and the greatest size of a rehearsal (own)
-pub record IsPlanOf (plan : RasterPlan) (h : Heading) : Type 0 where
+pub record IsRehearsalPlan (plan : RasterPlan) (h : Heading) : Type 0 where
   pub format_is : plan.format ≡ h.format
   pub max_is : plan.max_octets ≡ h.max_octets
   pub full : IsFullPlan plan.packets plan.format plan.max_octets
@@ -47,7 +47,7 @@ scene_by plan said =
 -- frame is the sender's (own)
 pub record PlaysSaid {A : Type 0} (played : Played A) (said : Said) : Type 0 where
   pub plan : RasterPlan
-  pub plan_is : IsPlanOf plan said.heading
+  pub plan_is : IsRehearsalPlan plan said.heading
   pub window : IsWindow said.heading.window
   pub pictures : ArePictures said.pictures plan.format
   pub receivers : IsReceiverCount said.heading.receivers
@@ -87,7 +87,7 @@ IsUnplayedBy play.BadReceivers plan said =
 abbrev pub IsUnplayed : Fault → Said → Type 0
 IsUnplayed (fault.Refused (Script number (line.Plan f))) said = IsUnplanned f said.heading
 IsUnplayed (fault.Refused (Script number (line.Play f))) said =
-    (plan : RasterPlan) × IsPlanOf plan said.heading × IsUnplayedBy f plan said
+    (plan : RasterPlan) × IsRehearsalPlan plan said.heading × IsUnplayedBy f plan said
 IsUnplayed fault.Memory said = ⊤
 IsUnplayed other said = ⊥
 

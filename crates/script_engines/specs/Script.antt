@@ -24,16 +24,16 @@ pub record IsWholeLines (text : List ℕ) (n : ℕ) : Type 0 where
 
 -- A script of the octets that a source gave: all of them, or, where they pass the limit, the lines
 -- that end within it; the next line is the one in which they pass it (own)
-abbrev pub IsCut : List ℕ → List ℕ → Bool → Type 0
-IsCut given script false = (script ≡ given) × (length given ≤ MOST_TEXT)
-IsCut given script true =
+abbrev pub IsCutScript : List ℕ → List ℕ → Bool → Type 0
+IsCutScript given script false = (script ≡ given) × (length given ≤ MOST_TEXT)
+IsCutScript given script true =
     (MOST_TEXT < length given) × IsWholeLines (take MOST_TEXT given) (length script)
     × (script ≡ take (length script) given)
 
 -- Between two moments a source gave such octets, and told its end but where they pass the limit.
 abbrev pub IsReadFrom : List ℕ → List ℕ → Type 0 → List ℕ → Bool → Type 0
 IsReadFrom before now ended script is_cut =
-    (given : List ℕ) × (now ≡ before ++ given) × IsCut given script is_cut
+    (given : List ℕ) × (now ≡ before ++ given) × IsCutScript given script is_cut
     × (length given ≤ MOST_TEXT → ended)
 
 -- a source gave a whole script

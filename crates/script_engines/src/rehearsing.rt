@@ -5,7 +5,7 @@ ghost use Rattle.st_format.specs.Device.{GrowsPart};
 ghost use Rattle.st_format.specs.History.{GrewFrom};
 ghost use Rattle.run_outcome.specs.Fault.{Accounts, IfRefused, counts};
 ghost use Rattle.run_outcome.specs.Refusing.{OfRefusal};
-ghost use Rattle.script_engines.specs.Reading.{DoesScript, IsRefusedFor, Reads};
+ghost use Rattle.script_engines.specs.Reading.{DoesScript, IsRefusedFor, ReadsScript};
 ghost use Rattle.script_engines.specs.Rehearsal.{said_by};
 ghost use Rattle.script_engines.specs.Rehearsed.{IsRefusedScript, IsUnplayed, PlaysSaid, Rehearses};
 ghost use Rattle.script_engines.specs.Rehearsed.{RehearsesPart};
@@ -40,7 +40,7 @@ where
     O: ByteSink,
     ensures failures { Accounts result (counts (S.failures source.old) (S.failures source.new)
         ∷ counts (O.failures output.old) (O.failures output.new) ∷ []) }
-    ensures read { Reads result (S.gave source.old) (S.gave source.new) (S.ended source.new) }
+    ensures read { ReadsScript result (S.gave source.old) (S.gave source.new) (S.ended source.new) }
     ensures grown { GrewFrom (S.gave source.old) (S.gave source.new) }
     ensures rehearses { OnOk result (DoesScript (Rehearses A) (S.gave source.old)
         (S.gave source.new) (S.ended source.new) (O.took output.old) (O.took output.new)) }

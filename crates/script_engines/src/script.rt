@@ -5,7 +5,7 @@ ghost use Rattle.std.specs.Str.Lines.{lines};
 ghost use Rattle.st_format.specs.History.{GrewFrom};
 ghost use Rattle.run_outcome.specs.Fault.{Accounts, IfRefused, counts};
 ghost use Rattle.run_outcome.specs.LowerFaults.{IsMisformed};
-ghost use Rattle.script_engines.specs.Script.{IsCut, IsReadFrom, IsWholeLines, line_behind};
+ghost use Rattle.script_engines.specs.Script.{IsCutScript, IsReadFrom, IsWholeLines, line_behind};
 ghost use Rattle.script_engines.specs.Script.{numbered_lines};
 
 use crate::line_end::line_end;
@@ -43,7 +43,7 @@ where
 /// The script of these octets, which past the limit is cut at its last whole line.
 fn cut_at_limit<A: Allocator>(mut octets: Vec<u8, A>) -> Script<A>
     ensures limit { length result.octets.items ≤ MOST_TEXT }
-    ensures cut { IsCut octets.items result.octets.items result.is_cut }
+    ensures cut { IsCutScript octets.items result.octets.items result.is_cut }
 {
     if octets.len() <= MOST_TEXT {
         return Script {

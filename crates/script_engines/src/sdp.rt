@@ -3,8 +3,8 @@ ghost use Rattle.std.specs.Prelude.{◌≡◌, ◌⊎◌, ◌∷◌, [], IfErr, 
 ghost use Rattle.st_format.specs.History.{GrewFrom};
 ghost use Rattle.run_outcome.specs.Fault.{Accounts, IfRefused, counts};
 ghost use Rattle.run_outcome.specs.Refusing.{OfRefusal};
-ghost use Rattle.script_engines.specs.Reading.{DoesScript, IsRefusedFor, Reads};
-ghost use Rattle.script_engines.specs.Described.{Describes, DescribesPart, IsCanonicalOf};
+ghost use Rattle.script_engines.specs.Reading.{DoesScript, IsRefusedFor, ReadsScript};
+ghost use Rattle.script_engines.specs.Described.{DescribesPart, DescribesVideo, IsCanonicalOf};
 ghost use Rattle.script_engines.specs.Described.{IsUndescribed, IsUndescribedText};
 
 use crate::script::read_script;
@@ -25,11 +25,11 @@ where
     A: Allocator + Copy,
     S: ByteSource,
     O: ByteSink,
-    ensures read { Reads result (S.gave source.old) (S.gave source.new) (S.ended source.new) }
+    ensures read { ReadsScript result (S.gave source.old) (S.gave source.new) (S.ended source.new) }
     ensures grown { GrewFrom (S.gave source.old) (S.gave source.new) }
     ensures failures { Accounts result (counts (S.failures source.old) (S.failures source.new)
         ∷ counts (O.failures output.old) (O.failures output.new) ∷ []) }
-    ensures printed { OnOk result (DoesScript Describes (S.gave source.old) (S.gave source.new)
+    ensures printed { OnOk result (DoesScript DescribesVideo (S.gave source.old) (S.gave source.new)
         (S.ended source.new) (O.took output.old) (O.took output.new)) }
     ensures refusal { IfErr result (λ f. OfRefusal f (IsRefusedFor IsUndescribed
         (S.gave source.old) (S.gave source.new) (S.ended source.new))) }

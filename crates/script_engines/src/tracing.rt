@@ -8,7 +8,7 @@ ghost use Rattle.script_engines.specs.FirstLines.{ReadsOpening, end_of, lines_le
 ghost use Rattle.run_outcome.specs.Fault.{Accounts, IfRefused, counts};
 ghost use Rattle.run_outcome.specs.LowerFaults.{EndsMisformed};
 ghost use Rattle.run_outcome.specs.Refusing.{OfRefusal};
-ghost use Rattle.script_engines.specs.Reading.{DoesScript, IsRefusedFor, Reads};
+ghost use Rattle.script_engines.specs.Reading.{DoesScript, IsRefusedFor, ReadsScript};
 ghost use Rattle.script_engines.specs.Session.{IsAtFault};
 ghost use Rattle.script_engines.specs.Traced.{Answers, AnswersSome, FollowsLine, IsAnswered};
 ghost use Rattle.script_engines.specs.Traced.{IsFaultyOpening, IsFaultyStart, IsPartAnswered};
@@ -43,7 +43,7 @@ where
     O: ByteSink,
     ensures failures { Accounts result (counts (S.failures source.old) (S.failures source.new)
         ∷ counts (O.failures output.old) (O.failures output.new) ∷ []) }
-    ensures read { Reads result (S.gave source.old) (S.gave source.new) (S.ended source.new) }
+    ensures read { ReadsScript result (S.gave source.old) (S.gave source.new) (S.ended source.new) }
     ensures grown { GrewFrom (S.gave source.old) (S.gave source.new) }
     ensures refusal { IfErr result (λ f. OfRefusal f (IsRefusedFor IsUntraced
         (S.gave source.old) (S.gave source.new) (S.ended source.new))) }

@@ -3,7 +3,7 @@ ghost use Rattle.std.specs.Prelude.{◌≡◌, ◌∷◌, []};
 ghost use Rattle.devices.specs.Passed.{input_ended, input_failures, input_gave};
 ghost use Rattle.devices.specs.Passed.{output_failures, output_took};
 ghost use Rattle.run_outcome.specs.Fault.{Accounts, counts};
-ghost use Rattle.script_engines.specs.Described.{Describes, IsUndescribed};
+ghost use Rattle.script_engines.specs.Described.{DescribesVideo, IsUndescribed};
 ghost use Rattle.script_engines.specs.Reading.{DoesScript, IsRefusedFor};
 
 use crate::streams::kept;
@@ -45,7 +45,7 @@ impl<'a> SdpCommand<'a> {
 impl<'a> Command for SdpCommand<'a> {
     ghost is_new = { λ c. (input_gave c.input ≡ []) × (output_took c.output ≡ []) };
 
-    ghost does = { λ old new. DoesScript Describes
+    ghost does = { λ old new. DoesScript DescribesVideo
         (input_gave old.input) (input_gave new.input) (input_ended new.input)
         (output_took old.output) (output_took new.output) };
 

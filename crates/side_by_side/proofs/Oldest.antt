@@ -9,7 +9,7 @@ use Rattle.following.specs.Serial.{ahead_of, is_newer, wrapped}
 use Rattle.following.proofs.Near.{newer-near, newer-wrapped}
 use Rattle.st_format.specs.Member.{IsMember}
 use Rattle.side_by_side.specs.Going.{first_place, goes, goes_before, is_later, one_on}
-use Rattle.side_by_side.specs.Oldest.{AreInHalf}
+use Rattle.side_by_side.specs.Oldest.{GoWithinHalf}
 use Rattle.side_by_side.specs.declared.going.Going.{Going}
 use Rattle.side_by_side.specs.declared.going.Going.TheVariants.{Unread, AtOnce, By, Never}
 use Rattle.side_by_side.proofs.Chosen.{chosen, none_first}
@@ -43,7 +43,7 @@ InHalf base AtOnce = Unit {0}
 InHalf base (By t) = ahead_of t base < 2 ^ 31
 InHalf base Never = Unit {0}
 
-in_half : (base : ℕ) (ws : List Going) (w : Going) → AreInHalf base ws → IsMember w ws
+in_half : (base : ℕ) (ws : List Going) (w : Going) → GoWithinHalf base ws → IsMember w ws
     → InHalf base w
 in_half base ws Unread half inside = tt
 in_half base ws AtOnce half inside = tt
@@ -118,7 +118,7 @@ first_same x k w is =
 -- the first one goes first: it is not behind the one that goes first of the others
 least_here : (base : ℕ) (x : Going) (ws : List Going) (later : Option (ℕ × Going))
     → first_place ws ≡ later → goes x ≡ true → is_later x later ≡ false → InHalf base x
-    → AreInHalf base ws → ((j : ℕ) (u : Going) → later ≡ Some (j, u) → IsLeast base ws u)
+    → GoWithinHalf base ws → ((j : ℕ) (u : Going) → later ≡ Some (j, u) → IsLeast base ws u)
     → ((j : ℕ) (u : Going) → later ≡ Some (j, u) → InHalf base u × (goes u ≡ true))
     → IsLeast base (x ∷ ws) x
 least_here base x ws later at does late half halves least known v (inl same) v_does =
@@ -169,7 +169,7 @@ abbrev Least : ℕ → List Going → Type 0
 Least base ws = (j : ℕ) (u : Going) → first_place ws ≡ Some (j, u) → IsLeast base ws u
 
 least_by : (base : ℕ) (x : Going) (ws : List Going) (b c : Bool) (k : ℕ) (w : Going)
-    → AreInHalf base (x ∷ ws) → goes x ≡ b → is_later x (first_place ws) ≡ c
+    → GoWithinHalf base (x ∷ ws) → goes x ≡ b → is_later x (first_place ws) ≡ c
     → cond b (cond c (one_on (first_place ws)) (Some (0, x))) (one_on (first_place ws))
     ≡ Some (k, w) → Least base ws → IsLeast base (x ∷ ws) w
 least_by base x ws true true k w half does late is rest =
@@ -189,7 +189,7 @@ least_by base x ws false c k w half does late is rest =
     let at = one_on_same (first_place ws) k w is in
     least_past base x w ws does (rest at.0 w at.1)
 
-pub least : (base : ℕ) (ws : List Going) (k : ℕ) (w : Going) → AreInHalf base ws
+pub least : (base : ℕ) (ws : List Going) (k : ℕ) (w : Going) → GoWithinHalf base ws
     → first_place ws ≡ Some (k, w) → IsLeast base ws w
 least base [] k w half first = let no : None ≡ Some (k, w) = first in absurd cc
 least base (x ∷ ws) k w half first =
@@ -198,14 +198,14 @@ least base (x ∷ ws) k w half first =
 
 -- ---- what that says
 
-pub oldest : (base place timestamp other : ℕ) (ws : List Going) → AreInHalf base ws
+pub oldest : (base place timestamp other : ℕ) (ws : List Going) → GoWithinHalf base ws
     → first_place ws ≡ Some (place, By timestamp) → IsMember (By other) ws
     → ahead_of timestamp base ≤ ahead_of other base
 oldest base place timestamp other ws half first inside =
     let le = least base ws place (By timestamp) half first (By other) inside refl in
     omega (arith, le)
 
-pub none_at_once : (base place timestamp : ℕ) (ws : List Going) → AreInHalf base ws
+pub none_at_once : (base place timestamp : ℕ) (ws : List Going) → GoWithinHalf base ws
     → first_place ws ≡ Some (place, By timestamp) → IsMember AtOnce ws → ⊥
 none_at_once base place timestamp ws half first inside =
     let le = least base ws place (By timestamp) half first AtOnce inside refl in

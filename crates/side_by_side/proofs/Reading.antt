@@ -11,7 +11,8 @@ use Rattle.recording_engines.specs.Steps.{Ahead, Coming, Over, ReadsMore, Standi
 use Rattle.recording_engines.specs.declared.file.ImportFile.{ImportFile}
 use Rattle.recording_engines.specs.declared.file.ImportFile.TheVariants.{Closed, Open, Taken}
 use Rattle.flow.specs.declared.flows.Flows.{Flows}
-use Rattle.recording_reader.specs.FileReader.{FileReader, Finds, FindsFault, FindsOne, IsSameFile}
+use Rattle.recording_reader.specs.FileReader.{FileReader, FindsFault, FindsOne, FindsRecord}
+use Rattle.recording_reader.specs.FileReader.{IsSameFile}
 use Rattle.recording_reader.specs.FileReader.{IsNewFileReader, fault_of, octets_at_hand}
 use Rattle.st_format.specs.Device.{Told}
 use Rattle.run_outcome.proofs.SetSums.{set_counted}
@@ -23,7 +24,7 @@ use Rattle.recording_reader.specs.declared.way.Standing.TheVariants.{Reads, Ende
 use Rattle.side_by_side.specs.Going.{IsReadBy, going_by}
 use Rattle.side_by_side.specs.Side.{Begun, IsAtHand, IsNewSide, IsSoundBy, IsSoundFile, IsSoundSide}
 use Rattle.side_by_side.specs.Side.{IsUnfailed, IsUnfailedFile, ReadsFile, ReadsReader, ReadsSide}
-use Rattle.side_by_side.specs.Side.{StopsFile, StopsReader, StopsSide, ahead_by, ahead_of_hand}
+use Rattle.side_by_side.specs.Side.{ComesToFault, StopsReader, StopsSide, ahead_by, ahead_of_hand}
 use Rattle.side_by_side.specs.Side.{going_found, goings, reader_standing, standing_by, standing_of}
 use Rattle.side_by_side.specs.Sides.{AllRead, AllSound, AllUnfailed, OneSideAt, standings}
 use Rattle.side_by_side.specs.Steering.{stamp_of}
@@ -175,7 +176,7 @@ standing_same w r r' same before after =
     ∙ sym (ap (λ (s : Stand). ahead_by s Unread r.at_hand) before))
 
 went_end : {S : Type 0} (stand : Stand) (r r' : FileReader S) → r.standing ≡ stand
-    → ((f : ReadingFault) → stand ≡ Failed f → ⊥) → Finds false r r'
+    → ((f : ReadingFault) → stand ≡ Failed f → ⊥) → FindsRecord false r r'
     → HasReadOn (reader_standing Unread r) (reader_standing Never r')
 went_end Reads r r' at unfailed finds =
     inr (
@@ -188,7 +189,7 @@ went_end Ended r r' at unfailed finds =
 went_end (Failed f) r r' at unfailed finds = absurd (unfailed f refl)
 
 pub read_end : {S : Type 0} (st : Steering) (r r' : FileReader S)
-    → ((f : ReadingFault) → r.standing ≡ Failed f → ⊥) → Finds false r r'
+    → ((f : ReadingFault) → r.standing ≡ Failed f → ⊥) → FindsRecord false r r'
     → ReadsReader st Never r r'
 read_end st r r' unfailed finds = record {
   sound = finds.ended;
@@ -237,14 +238,14 @@ reads_by Ended r at asks = let no : Ok true ≡ Ok false = asks.ended at in absu
 reads_by (Failed f) r at asks = let no : Ok true ≡ Err f = asks.failed f at in absurd cc
 
 found_one : {S : Type 0} (st : Steering) (octets : List ℕ) (r r' : FileReader S)
-    → Asks r (Ok true) → (finds : Finds true r r') → octets ≡ octets_at_hand r'.at_hand
+    → Asks r (Ok true) → (finds : FindsRecord true r r') → octets ≡ octets_at_hand r'.at_hand
     → ReadsReader st (going_by (stamp_of st octets)) r r'
 found_one st octets r r' asks finds is =
     read_one st (stamp_of st octets) r r' (reads_by r.standing r refl asks) finds
     (ap (stamp_of st) is ∙ ap (λ (h : Option Entry). stamp_of st (octets_at_hand h)) finds.at_hand)
 
 pub found : {S : Type 0} (st : Steering) (b : Bool) (octets : List ℕ) (r r' : FileReader S)
-    → Asks r (Ok b) → Finds b r r' → octets ≡ octets_at_hand r'.at_hand
+    → Asks r (Ok b) → FindsRecord b r r' → octets ≡ octets_at_hand r'.at_hand
     → ReadsReader st (going_found st b octets) r r'
 found st true octets r r' asks finds is = found_one st octets r r' asks finds is
 found st false octets r r' asks finds is =
@@ -315,7 +316,7 @@ has_read st old new was reads =
           so.goes_on;
     }
 
-stops_at : {A S : Type 0} (f : ReadingFault) (old new : ImportFile A S) → StopsFile f old new
+stops_at : {A S : Type 0} (f : ReadingFault) (old new : ImportFile A S) → ComesToFault f old new
     → IsFailedAt f new × HasReadOn (standing_by Unread old) (standing_by Unread new)
 stops_at f (Closed s) new stops = absurd stops
 stops_at f (Open r) (Closed s) stops = absurd stops
@@ -324,7 +325,7 @@ stops_at f (Open r) Taken stops = absurd stops
 stops_at f Taken new stops = absurd stops
 
 pub stops_side : {A S : Type 0} (f : ReadingFault) (old new : Side A S) → old.going ≡ Unread
-    → new.going ≡ Unread → StopsFile f old.file new.file → StopsSide f old new
+    → new.going ≡ Unread → ComesToFault f old.file new.file → StopsSide f old new
 stops_side f old new was is stops =
     let so = stops_at f old.file new.file stops in
     record {

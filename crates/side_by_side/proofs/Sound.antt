@@ -19,7 +19,8 @@ use Rattle.st_format.specs.declared.device.Turn.TheVariants.{Datagram, Quiet, En
 use Rattle.st_format.specs.declared.path.Path.{Path}
 use Rattle.side_by_side.specs.Side.{IsUnfailedFile}
 use Rattle.side_by_side.specs.Sides.{AllUnfailed, IsFaultOfFiles, IsSideBySide, IsUnreadSide}
-use Rattle.side_by_side.specs.Sides.{OneSideAt, Sides, StopsAll, StopsSides, TellsNext, TellsOne}
+use Rattle.side_by_side.specs.Sides.{OneSideAt, Sides, StopsAll, StopsSides, TellsNextSide}
+use Rattle.side_by_side.specs.Sides.{TellsSide}
 use Rattle.side_by_side.specs.Sides.{TellsSides, given_of, standings}
 use Rattle.side_by_side.specs.Steps.{HasGone}
 use Rattle.side_by_side.specs.declared.side.Side.{Side}
@@ -63,7 +64,7 @@ sound_new st sides begun = record {
 
 given_more : {A S : Type 0} (st : Steering) (path : Path) (count : ℕ) (buf : List ℕ)
     (olds news : List (Side A S)) (es : List Entry) → HasGone st (standings olds) es
-    → (tells : TellsOne st path count buf olds news)
+    → (tells : TellsSide st path count buf olds news)
     → given_of st news ≡ given_of st olds ++ (path, take count buf) ∷ []
 given_more st path count buf olds news es gone tells =
     let e = tells.entry in
@@ -105,7 +106,7 @@ stopped_none (Some f) olds news stopped unfailed = absurd (one_unfailed f olds s
 pub sound_told : {A S : Type 0} (st : Steering) (t : Turn) (buf : List ℕ)
     (olds news : List (Side A S)) (delivered delivered' failures : ℕ)
     (fault : Option ReadingFault) → IsSideBySide (seen st olds delivered failures fault)
-    → TellsNext st t buf olds news → AllUnfailed olds
+    → TellsNextSide st t buf olds news → AllUnfailed olds
     → IsSideBySide (seen st news delivered' failures fault)
 sound_told st (Datagram path count) buf olds news delivered delivered' failures fault is tells were =
     record {
@@ -127,7 +128,7 @@ sound_told st End buf olds news delivered delivered' failures fault is tells wer
 pub tells_turn : {A S : Type 0} (st : Steering) (t : Turn) (buf : List ℕ)
     (olds news : List (Side A S)) (delivered delivered' failures : ℕ)
     (fault : Option ReadingFault) → IsSideBySide (seen st olds delivered failures fault)
-    → TellsNext st t buf olds news → AllUnfailed news → CountsTurn t delivered delivered'
+    → TellsNextSide st t buf olds news → AllUnfailed news → CountsTurn t delivered delivered'
     → TellsSides t buf (seen st olds delivered failures fault)
     (seen st news delivered' failures fault)
 tells_turn st (Datagram path count) buf olds news delivered delivered' failures fault is tells are one =

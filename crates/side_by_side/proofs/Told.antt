@@ -16,7 +16,8 @@ use Rattle.side_by_side.specs.Going.{IsReadBy, first_place, going_by, goes, is_l
 use Rattle.side_by_side.specs.Side.{GivesDatagram, IsSoundSide, ahead_by, ahead_of_hand, goings}
 use Rattle.side_by_side.specs.Side.{IsUnfailedFile, standing_by, standing_of}
 use Rattle.side_by_side.specs.Sides.{AllOver, AllRead, AllSound, AllUnfailed, GivesHand}
-use Rattle.side_by_side.specs.Sides.{IsFreshFile, IsUnreadSide, ReadsAll, TellsEnd, TellsNext}
+use Rattle.side_by_side.specs.Sides.{IsFreshFile, IsUnreadSide, ReadsAll, TellsNextSide}
+use Rattle.side_by_side.specs.Sides.{TellsNoSide}
 use Rattle.side_by_side.specs.Sides.{standings}
 use Rattle.side_by_side.specs.Steering.{stamp_of}
 use Rattle.side_by_side.specs.Steps.{GivesAt, HasGone, HasReadOn, HaveReadOn}
@@ -158,7 +159,7 @@ told_hand : {A S : Type 0} (st : Steering) (t : Turn) (buf : List ℕ) (e : Entr
     (olds news : List (Side A S)) → TellsTurn (Some e) t buf → AllSound st news
     → ((es : List Entry) → HasGone st (standings olds) es
     → HasGone st (standings news) (es ++ e ∷ [])) → (AllOver news → ⊥)
-    → TellsNext st t buf olds news
+    → TellsNextSide st t buf olds news
 told_hand st (Datagram path count) buf e olds news turn sound gone left = record {
   entry = e;
   by = turn.0;
@@ -176,7 +177,7 @@ pub told_first : {A S : Type 0} (st : Steering) (t : Turn) (buf : List ℕ)
     (olds mids : List (Side A S)) (k : ℕ) (w : Going) (d s' : Side A S) → ReadsAll st olds mids
     → first_place (goings mids) ≡ Some (k, w)
     → TellsTurn (next_entry (get_or mids k d).file) t buf → GivesDatagram (get_or mids k d) s'
-    → TellsNext st t buf olds (set mids k s')
+    → TellsNextSide st t buf olds (set mids k s')
 told_first st t buf olds mids k w d s' reads first turn given =
     let has = has_hand st mids k w d reads.sound reads.read first in
     let lt : k < length mids = within_first mids k w d.going first in
@@ -196,9 +197,9 @@ told_first st t buf olds mids k w d s' reads first turn given =
 pub told_at : {A S : Type 0} (st : Steering) (t : Turn) (buf : List ℕ)
     (olds mids news : List (Side A S)) (k : ℕ) (w : Going) → ReadsAll st olds mids
     → first_place (goings mids) ≡ Some (k, w) → GivesHand k t buf mids news
-    → TellsNext st t buf olds news
+    → TellsNextSide st t buf olds news
 told_at st t buf olds mids news k w reads first gives =
-    subst (λ (l : List (Side _ _)). TellsNext st t buf olds l) (sym gives.now)
+    subst (λ (l : List (Side _ _)). TellsNextSide st t buf olds l) (sym gives.now)
     (told_first st t buf olds mids k w gives.other gives.given reads first gives.told gives.is)
 
 -- none goes: each is at its end
@@ -225,7 +226,7 @@ all_end st (s ∷ ss) sound read none =
     )
 
 pub told_end : {A S : Type 0} (st : Steering) (olds news : List (Side A S)) → ReadsAll st olds news
-    → first_place (goings news) ≡ None → TellsEnd st olds news
+    → first_place (goings news) ≡ None → TellsNoSide st olds news
 told_end st olds news reads none = record {
   sound = reads.sound;
   gone = λ es gone. gone_on st (standings olds) (standings news) es reads.goes_on gone;

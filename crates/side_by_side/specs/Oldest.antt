@@ -7,6 +7,6 @@ use Rattle.st_format.specs.Member.{IsMember}
 
 -- all timestamps by which datagrams go are within half of the round that begins at base. RFC 1982,
 -- 3.2
-abbrev pub AreInHalf : ℕ → List Going → Type 0
-AreInHalf base goings =
+abbrev pub GoWithinHalf : ℕ → List Going → Type 0
+GoWithinHalf base goings =
     (timestamp : ℕ) → IsMember (By timestamp) goings → ahead_of timestamp base < 2 ^ 31

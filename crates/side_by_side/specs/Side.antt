@@ -132,12 +132,12 @@ ReadsFile steering w (Open r) Taken = ⊥
 ReadsFile steering w Taken new = (w ≡ Never) × (new ≡ Taken)
 
 -- reading on, a file came to this fault
-abbrev pub StopsFile : {A S : Type 0} → ReadingFault → ImportFile A S → ImportFile A S → Type 0
-StopsFile f (Closed s) new = ⊥
-StopsFile f (Open r) (Closed s) = ⊥
-StopsFile f (Open r) (Open r') = StopsReader f r r'
-StopsFile f (Open r) Taken = ⊥
-StopsFile f Taken new = ⊥
+abbrev pub ComesToFault : {A S : Type 0} → ReadingFault → ImportFile A S → ImportFile A S → Type 0
+ComesToFault f (Closed s) new = ⊥
+ComesToFault f (Open r) (Closed s) = ⊥
+ComesToFault f (Open r) (Open r') = StopsReader f r r'
+ComesToFault f (Open r) Taken = ⊥
+ComesToFault f Taken new = ⊥
 
 -- It was read on, to its next datagram or to its end.
 pub record ReadsSide {A S : Type 0} (steering : Steering) (old new : Side A S) : Type 0 where

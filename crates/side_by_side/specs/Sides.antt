@@ -105,7 +105,7 @@ pub record GivesHand {A S : Type 0} (place : ℕ) (t : Turn) (buf : List ℕ)
   pub now : news ≡ set olds place given
 
 -- The datagram of the one that goes first was told, whose octets stand at the front of a buffer.
-pub record TellsOne {A S : Type 0} (steering : Steering) (path : Path) (count : ℕ) (buf : List ℕ)
+pub record TellsSide {A S : Type 0} (steering : Steering) (path : Path) (count : ℕ) (buf : List ℕ)
     (olds news : List (Side A S)) : Type 0 where
   pub entry : Entry
   pub by : path ≡ entry.path
@@ -117,7 +117,7 @@ pub record TellsOne {A S : Type 0} (steering : Steering) (path : Path) (count : 
   pub left : AllOver news → ⊥
 
 -- None has one.
-pub record TellsEnd {A S : Type 0} (steering : Steering) (olds news : List (Side A S))
+pub record TellsNoSide {A S : Type 0} (steering : Steering) (olds news : List (Side A S))
     : Type 0 where
   pub sound : AllSound steering news
   pub gone : (entries : List Entry) → HasGone steering (standings olds) entries
@@ -125,12 +125,12 @@ pub record TellsEnd {A S : Type 0} (steering : Steering) (olds news : List (Side
   pub over : AllOver news
 
 -- by the turn that a call told
-abbrev pub TellsNext : {A S : Type 0} → Steering → Turn → List ℕ → List (Side A S)
+abbrev pub TellsNextSide : {A S : Type 0} → Steering → Turn → List ℕ → List (Side A S)
     → List (Side A S) → Type 0
-TellsNext steering (Datagram path count) buf olds news =
-    TellsOne steering path count buf olds news
-TellsNext steering Quiet buf olds news = ⊥
-TellsNext steering End buf olds news = TellsEnd steering olds news
+TellsNextSide steering (Datagram path count) buf olds news =
+    TellsSide steering path count buf olds news
+TellsNextSide steering Quiet buf olds news = ⊥
+TellsNextSide steering End buf olds news = TellsNoSide steering olds news
 
 -- ---- a source over them
 

@@ -2,7 +2,8 @@
 ghost use Rattle.std.specs.Prelude.{◌≡◌, ◌≤◌, ◌<◌, IfErr, IfOk, OnOk, length};
 ghost use Rattle.recording_reader.specs.Files.{source_fault};
 ghost use Rattle.side_by_side.specs.Side.{AccountsFor};
-ghost use Rattle.side_by_side.specs.Sides.{AllSound, AllUnfailed, GivesHand, StopsAll, TellsNext};
+ghost use Rattle.side_by_side.specs.Sides.{AllSound, AllUnfailed, GivesHand, StopsAll};
+ghost use Rattle.side_by_side.specs.Sides.{TellsNextSide};
 ghost use Rattle.side_by_side.specs.Sides.{begun_each, failures_each};
 
 use crate::choosing::{first_side, read_all};
@@ -30,7 +31,7 @@ pub(crate) fn tell_next<A: Allocator, S: ByteSource>(
     ensures room { length buf.new ≡ length buf.old }
     ensures len { length sides.new ≡ length sides.old }
     ensures begun { begun_each sides.new ≡ begun_each sides.old }
-    ensures told { IfOk result (λ t. TellsNext steering t buf.new sides.old sides.new) }
+    ensures told { IfOk result (λ t. TellsNextSide steering t buf.new sides.old sides.new) }
     ensures unfailed { OnOk result (AllUnfailed sides.new) }
     // (none was at a fault before)
     ensures were { OnOk result (AllUnfailed sides.old) }

@@ -2,7 +2,7 @@
 ghost use Rattle.std.specs.Prelude.{◌≡◌, ◌≤◌, ℕ, List, Some};
 ghost use Rattle.following.specs.Serial.{ahead_of};
 ghost use Rattle.side_by_side.specs.Going.{first_place};
-ghost use Rattle.side_by_side.specs.Oldest.{AreInHalf};
+ghost use Rattle.side_by_side.specs.Oldest.{GoWithinHalf};
 ghost use Rattle.side_by_side.specs.declared.going.Going.{Going as When};
 ghost use Rattle.side_by_side.specs.declared.going.Going.TheVariants.{AtOnce, By};
 ghost use Rattle.st_format.specs.Member.{IsMember};
@@ -13,9 +13,9 @@ ghost use Rattle.st_format.specs.Member.{IsMember};
 /// which neither is the older.
 pub fn first_is_oldest()
     ensures oldest { (base place timestamp other : ℕ) (goings : List When) →
-        AreInHalf base goings → first_place goings ≡ Some (place, By timestamp) →
+        GoWithinHalf base goings → first_place goings ≡ Some (place, By timestamp) →
         IsMember (By other) goings → ahead_of timestamp base ≤ ahead_of other base }
     ensures none_at_once { (base place timestamp : ℕ) (goings : List When) →
-        AreInHalf base goings → first_place goings ≡ Some (place, By timestamp) →
+        GoWithinHalf base goings → first_place goings ≡ Some (place, By timestamp) →
         IsMember AtOnce goings → ⊥ }
 {}

@@ -8,7 +8,8 @@ ghost use Rattle.recording_reader.specs.FileReader.{IsSameFile, TellsTurn, fault
 ghost use Rattle.recording_reader.specs.Opening.{CountsOpening, IsByFlows, StopsOpening};
 ghost use Rattle.side_by_side.specs.Side.{AccountsFor, GivesDatagram, IsNewSide, IsSoundSide};
 ghost use Rattle.side_by_side.specs.Side.{IsUnfailed, IsUnfailedFile, ReadsFile, ReadsReader};
-ghost use Rattle.side_by_side.specs.Side.{ReadsSide, StopsFile, StopsReader, StopsSide, begun_at};
+ghost use Rattle.side_by_side.specs.Side.{ComesToFault, ReadsSide, StopsReader, StopsSide};
+ghost use Rattle.side_by_side.specs.Side.{begun_at};
 ghost use Rattle.side_by_side.specs.Side.{closed_side, going_found};
 
 use crate::going::Going;
@@ -214,7 +215,7 @@ fn read_file<A: Allocator, S: ByteSource>(
 ) -> Result<Going, ReadingFault>
     ensures begun { begun_at file.new ≡ begun_at file.old }
     ensures read { IfOk result (λ w. ReadsFile steering w file.old file.new) }
-    ensures fault { IfErr result (λ f. StopsFile f file.old file.new) }
+    ensures fault { IfErr result (λ f. ComesToFault f file.old file.new) }
     ensures device { IsUnfailedFile file.old → AccountsFor result
         (failures_by S.failures file.old) (failures_by S.failures file.new) }
 {

@@ -11,7 +11,7 @@ ghost use Rattle.receiver_engines.specs.States.{IsStateRefusal};
 ghost use Rattle.run_outcome.specs.Refusing.{TellsRefusal};
 ghost use Rattle.run_outcome.specs.Telling.{memory_line};
 ghost use Rattle.receiver_engines.specs.Reporting.{Reports, ReportsPart};
-ghost use Rattle.receiver_engines.specs.Processing.{PrintsSent, SendsFiles, SendsPart};
+ghost use Rattle.receiver_engines.specs.Processing.{PrintsSent, SendsFiles, SendsUnsaidPart};
 ghost use Rattle.receiver_engines.specs.Refused.{IsRunRefusal};
 
 use receiver_engines::{Processing, merge, process, report};
@@ -172,7 +172,7 @@ where
         (pair hold.old hold.new) wanted.entry)
         (F.took faults.old) (F.took faults.new) }
     // Unless the status is 0, what was written is a first part of such a capture.
-    ensures part { result ≢ 0 → SendsPart wanted.entry.max_octets wanted.entry.stamp
+    ensures part { result ≢ 0 → SendsUnsaidPart wanted.entry.max_octets wanted.entry.stamp
         (K.took sink.old) (K.took sink.new) }
     ensures silent { result ≡ 0 → faults.new ≡ faults.old }
     ensures memory { result ≡ 4 → F.took faults.new ≡ F.took faults.old ++ memory_line }

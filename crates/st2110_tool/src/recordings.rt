@@ -16,7 +16,7 @@ ghost use Rattle.run_outcome.specs.Telling.{memory_line};
 ghost use Rattle.run_outcome.specs.Text.{GivesText};
 ghost use Rattle.run_outcome.specs.declared.fault.Fault.{Fault as Wrong};
 ghost use Rattle.st_format.specs.History.{IsRead};
-ghost use Rattle.stream_inspection.specs.Told.{IsStreamsRefusal, Tells as TellsStreams};
+ghost use Rattle.stream_inspection.specs.Told.{IsStreamsRefusal, TellsStreams};
 
 use capture_engines::Seen;
 use export_engine::{Exporting, export};

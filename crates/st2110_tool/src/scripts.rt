@@ -4,7 +4,7 @@ ghost use Rattle.st_format.specs.History.{GrewFrom};
 ghost use Rattle.run_outcome.specs.Fault.{StatusBlames, counts};
 ghost use Rattle.run_outcome.specs.Refusing.{TellsRefusal};
 ghost use Rattle.run_outcome.specs.Telling.{memory_line};
-ghost use Rattle.script_engines.specs.Described.{Describes, DescribesPart, IsUndescribed};
+ghost use Rattle.script_engines.specs.Described.{DescribesPart, DescribesVideo, IsUndescribed};
 ghost use Rattle.script_engines.specs.Reading.{DoesScript, IsRefusedFor};
 ghost use Rattle.script_engines.specs.Rehearsed.{IsRefusedScript, Rehearses, RehearsesPart};
 ghost use Rattle.script_engines.specs.Script.{GivesAll, GivesScript};
@@ -87,7 +87,7 @@ where
     ensures silent { result ≡ 0 → faults.new ≡ faults.old }
     ensures memory { result ≡ 4 → F.took faults.new ≡ F.took faults.old ++ memory_line }
     // At 0 the canonical line of the text is printed; at 1 nothing is.
-    ensures printed { result ≡ 0 → DoesScript Describes (S.gave source.old) (S.gave source.new)
+    ensures printed { result ≡ 0 → DoesScript DescribesVideo (S.gave source.old) (S.gave source.new)
         (S.ended source.new) (O.took output.old) (O.took output.new) }
     ensures nothing { result ≡ 1 → O.took output.new ≡ O.took output.old }
 {

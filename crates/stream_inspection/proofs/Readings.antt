@@ -30,7 +30,8 @@ use Rattle.st_format.specs.History.{IsRead}
 use Rattle.st_format.proofs.Origins.{if_content, if_content_weaker}
 use Rattle.stream_inspection.specs.Aim.{Announces}
 use Rattle.stream_inspection.specs.Inspected.{IsInspected, Notes}
-use Rattle.stream_inspection.specs.Read.{EndsBy, HasRecords, IfEnd, IsEnd, IsStartRefusal, MayBe}
+use Rattle.stream_inspection.specs.Read.{EndsAfter, HasRecords, IfEnd, IsStartRefusal, MayBe}
+use Rattle.stream_inspection.specs.Read.{StandsAtEnd}
 use Rattle.stream_inspection.specs.Read.{NotesFile}
 use Rattle.stream_inspection.specs.Read.{NotesRecords, Settles, SettlesBy, counts_end, ended_by}
 use Rattle.stream_inspection.specs.declared.inspection.Inspection.{Inspection}
@@ -143,20 +144,20 @@ module _ {S : Type 0} (gave : S → List ℕ) (ended : S → Type 0) (r : FileRe
   all_there octets have =
       subst (λ (f : Option Flows). records_of_file f octets ≡ r.records) by have.records_are
 
-  ends_at : (end : Option ReadingFault) → IsEnd r.standing (length r.records) end
-      → IfEnd end ((octets : List ℕ) → Told octets → EndsBy (flows_in w) octets r.records end)
+  ends_at : (end : Option ReadingFault) → StandsAtEnd r.standing (length r.records) end
+      → IfEnd end ((octets : List ℕ) → Told octets → EndsAfter (flows_in w) octets r.records end)
   ends_at None over = λ octets read.
       let known = known_at Ended over octets read in (all_there octets known.0, known.1)
   ends_at (Some f) (inl failed) =
-      each_file f Told (λ octets. EndsBy (flows_in w) octets r.records (Some f))
+      each_file f Told (λ octets. EndsAfter (flows_in w) octets r.records (Some f))
       (λ octets read.
       file_weaker f
       (HaveFileRecords r.flows octets r.records r.left_out × IsFileFault f octets)
-      (EndsBy (flows_in w) octets r.records (Some f))
+      (EndsAfter (flows_in w) octets r.records (Some f))
       (λ known. inl (all_there octets known.0, known.1))
       (known_at (Failed f) failed octets read).1)
   ends_at (Some f) (inr many) =
-      of_file f ((octets : List ℕ) → Told octets → EndsBy (flows_in w) octets r.records (Some f))
+      of_file f ((octets : List ℕ) → Told octets → EndsAfter (flows_in w) octets r.records (Some f))
       (λ octets read. inr (
         many.1,
         many.2,
@@ -183,12 +184,12 @@ module _ {S : Type 0} (gave : S → List ℕ) (ended : S → Type 0) (r : FileRe
 
   file_noted : {A : Type 0} (text : List ℕ) (end : Option ReadingFault)
       (before after : Option Target) (old new : Inspection A) → text ≡ r.text
-      → IsEnd r.standing (length r.records) end
+      → StandsAtEnd r.standing (length r.records) end
       → NotesRecords text r.records before after old new
       → IfEnd end (NotesFile w Told end before after old new)
   file_noted text end before after old new same is notes =
       if_end end
-      ((octets : List ℕ) → Told octets → EndsBy (flows_in w) octets r.records end)
+      ((octets : List ℕ) → Told octets → EndsAfter (flows_in w) octets r.records end)
       (NotesFile w Told end before after old new)
       (λ ends. record {
         records = r.records;
@@ -214,7 +215,7 @@ pub file_noted_if : {S T A E : Type 0} (r : FileReader T) (lent : T → S) (gave
     → (r.is_recording ≡ true → IsSome r.flows)
     → HasGivenFile (λ (x : T). gave (lent x)) (λ (x : T). ended (lent x)) r
     → (r.is_recording ≡ false → HasGivenRecords (λ (x : T). gave (lent x)) (λ (x : T). ended (lent x)) r)
-    → IfOk result (IsEnd r.standing (length r.records))
+    → IfOk result (StandsAtEnd r.standing (length r.records))
     → OnOk result (NotesRecords text r.records before after i j)
     → IfOk result (λ end. IfEnd end (NotesFile w (IsRead (gave old) (gave now) (ended now)) end
     before after i j))

@@ -21,14 +21,14 @@ use Rattle.recording_counts.specs.Streams.{is_same, key_of}
 use Rattle.recording_counts.specs.Tables.{different, of_key}
 use Rattle.recording_counts.specs.declared.packet.Packet.{Packet}
 use Rattle.recording_counts.specs.declared.packet.StreamKey.{StreamKey}
-use Rattle.stream_inspection.specs.Aim.{Announces, IsAimed, IsBegun, IsTarget}
+use Rattle.stream_inspection.specs.Aim.{Announces, IsAimed, IsBegunTarget, IsTarget}
 use Rattle.stream_inspection.specs.Inspected.{IsInspected}
 use Rattle.stream_inspection.specs.Numbers.{told_stream, told_streams}
 use Rattle.stream_inspection.specs.Read.{IfEnd, IsFirstFront, IsSettled, IsStartRefusal, MayBe}
 use Rattle.stream_inspection.specs.Read.{NotesFiles, NotesUpTo, Settles, ended_by}
 use Rattle.stream_inspection.specs.Streams.{stream_lines}
 use Rattle.stream_inspection.specs.Told.{IsEndRefusal, IsStreamsRefusal, IsText}
-use Rattle.stream_inspection.specs.Told.{Prints, Tells, begins}
+use Rattle.stream_inspection.specs.Told.{PrintsText, TellsStreams, begins}
 use Rattle.stream_inspection.specs.declared.inspection.Inspection.{Inspection}
 use Rattle.stream_inspection.specs.declared.target.Target.{Target}
 use Rattle.stream_inspection.specs.declared.target.Wanted.{Wanted}
@@ -43,7 +43,7 @@ none_some x o none some = cc
 
 -- what is looked for is what is wanted
 is_target : (w : Wanted) (sdp : Option (List ℕ)) (begun after : Option Target)
-    (octets : List (List ℕ)) (t : Target) → IsBegun w sdp begun → Settles begun octets after
+    (octets : List (List ℕ)) (t : Target) → IsBegunTarget w sdp begun → Settles begun octets after
     → after ≡ Some t → IsTarget w sdp octets t
 is_target (Given u) sdp begun after octets t opens settles is =
     some_one t u
@@ -63,16 +63,16 @@ is_target Said None begun after (o ∷ os) t opens settles is =
 
 -- where nothing was begun with, none was given to begin with
 pub begun_none : (w : Wanted) (sdp : Option (List ℕ)) (begun : Option Target)
-    → IsBegun w sdp begun → begun ≡ None → begins w sdp ≡ None
+    → IsBegunTarget w sdp begun → begun ≡ None → begins w sdp ≡ None
 begun_none (Given u) sdp begun is none = absurd (none_some u begun none is)
 begun_none Said None begun is none = refl
 begun_none Said (Some text) begun is none = absurd (none_some is.0 begun none is.1)
 
 -- begun with by an SDP text
 pub said_begun : (sdp : Option (List ℕ)) (text : List ℕ) (t : Target) → sdp ≡ Some text
-    → Announces text t → IsBegun Said sdp (Some t)
+    → Announces text t → IsBegunTarget Said sdp (Some t)
 said_begun sdp text t is says =
-    subst (λ (o : Option (List ℕ)). IsBegun Said o (Some t)) (sym is) (t, refl, says)
+    subst (λ (o : Option (List ℕ)). IsBegunTarget Said o (Some t)) (sym is) (t, refl, says)
 
 -- a text speaks of no allocator
 each_line : (A : Type 0) (form : Form) (ps : List Packet) (ks : List StreamKey)
@@ -95,10 +95,10 @@ pub tells : {S A : Type 0} (w : Wanted) (form : Form) (sdp : Option (List ℕ))
     (ways : List (Result Flows Refusal)) (told : S → List ℕ → Type 0) (files : List S)
     (end : Option ReadingFault) (begun after : Option Target) (t : Target)
     (old new : Inspection A) (text shown shown' : List ℕ)
-    → IsBegun w sdp begun → ((u : Target) → IsInspected u old [])
+    → IsBegunTarget w sdp begun → ((u : Target) → IsInspected u old [])
     → NotesFiles ways told files end begun after old new → after ≡ Some t
     → ((entries : List Entry) → IsInspected t new entries → IsText form t entries text)
-    → shown' ≡ shown ++ text → Tells w form sdp ways told files end shown shown'
+    → shown' ≡ shown ++ text → TellsStreams w form sdp ways told files end shown shown'
 tells w form sdp ways told files end begun after t old new text shown shown' opens fresh notes is
     texts printed = record {
       printed = λ octets read.
@@ -125,7 +125,7 @@ refused_as Memory P h = tt
 -- the fault of a file refuses
 pub end_refused : {A : Type 0} (form : Form) (t : Target) (i : Inspection A) (f : ReadingFault)
     (end : Option ReadingFault) (shown shown' : List ℕ) → end ≡ Some f
-    → Prints form t i shown shown'
+    → PrintsText form t i shown shown'
     → OfRefusal (reading_fault f) (IsEndRefusal form t i end shown shown')
 end_refused form t i f end shown shown' is prints =
     refused_as (reading_fault f) (IsEndRefusal form t i end shown shown')
@@ -160,7 +160,7 @@ no_files {S} old new none = subst (λ (l : List S). zip l new ≡ []) (sym none)
 
 -- what is looked for is known behind files, by what is wanted
 is_aimed : (w : Wanted) (sdp : Option (List ℕ)) (begun after : Option Target)
-    (octets : List (List ℕ)) → IsBegun w sdp begun → Settles begun octets after
+    (octets : List (List ℕ)) → IsBegunTarget w sdp begun → Settles begun octets after
     → IsAimed w sdp octets
 is_aimed (Given u) sdp begun after octets opens settles = tt
 is_aimed Said (Some text) begun after octets opens settles = (opens.0, opens.2)
@@ -172,7 +172,7 @@ is_aimed Said None begun after (o ∷ os) opens settles =
 -- so the first front that is refused is the first of a run
 pub front_aimed : {S : Type 0} (w : Wanted) (sdp : Option (List ℕ)) (begun : Option Target)
     (ways : List (Result Flows Refusal)) (told : S → List ℕ → Type 0) (files : List S)
-    → IsBegun w sdp begun → (r : Refusal)
+    → IsBegunTarget w sdp begun → (r : Refusal)
     → IsFirstFront (begun ≡ None) (IsSettled begun) ways told files r
     → IsFirstFront (begins w sdp ≡ None) (IsAimed w sdp) ways told files r
 front_aimed w sdp begun ways told files opens r first = record {
@@ -199,12 +199,12 @@ front_aimed w sdp begun ways told files opens r first = record {
 module _ {S A : Type 0} (w : Wanted) (form : Form) (sdp : Option (List ℕ))
     (ways : List (Result Flows Refusal)) (told : S → List ℕ → Type 0) (files : List S)
     (end : Option ReadingFault) (begun after : Option Target) (t : Target)
-    (old new : Inspection A) (shown shown' : List ℕ) (opens : IsBegun w sdp begun)
+    (old new : Inspection A) (shown shown' : List ℕ) (opens : IsBegunTarget w sdp begun)
     (fresh : (u : Target) → IsInspected u old [])
     (notes : IfEnd end (NotesUpTo ways told files end begun after old new))
     (is : after ≡ Some t) where
-  tells_whole : end ≡ None → Prints form t new shown shown'
-      → Tells w form sdp ways told files None shown shown'
+  tells_whole : end ≡ None → PrintsText form t new shown shown'
+      → TellsStreams w form sdp ways told files None shown shown'
   tells_whole none prints =
       tells w form sdp ways told files None begun after t old new prints.text shown shown' opens
       fresh
@@ -214,8 +214,8 @@ module _ {S A : Type 0} (w : Wanted) (form : Form) (sdp : Option (List ℕ))
       is prints.is prints.printed
 
   pub told_if : {V : Type 0} (r : Result V Fault) → OnOk r (end ≡ None)
-      → OnOk r (Prints form t new shown shown')
-      → OnOk r (Tells w form sdp ways told files None shown shown')
+      → OnOk r (PrintsText form t new shown shown')
+      → OnOk r (TellsStreams w form sdp ways told files None shown shown')
   told_if (Ok v) none prints = tells_whole none prints
   told_if (Err f) none prints = tt
 

@@ -39,10 +39,10 @@ IsAimed Said None [] = ⊤
 IsAimed Said None (octets ∷ files) = (t : Target) × Announces (text_of_file octets) t
 
 -- what is known of it before files are read
-abbrev pub IsBegun : Wanted → Option (List ℕ) → Option Target → Type 0
-IsBegun (Given u) sdp begun = begun ≡ Some u
-IsBegun Said None begun = begun ≡ None
-IsBegun Said (Some text) begun = (t : Target) × (begun ≡ Some t) × Announces text t
+abbrev pub IsBegunTarget : Wanted → Option (List ℕ) → Option Target → Type 0
+IsBegunTarget (Given u) sdp begun = begun ≡ Some u
+IsBegunTarget Said None begun = begun ≡ None
+IsBegunTarget Said (Some text) begun = (t : Target) × (begun ≡ Some t) × Announces text t
 
 -- the refusals of that: those of the SDP text, where that is to say it
 abbrev pub IsBeginRefusal : Wanted → Option (List ℕ) → Refusal → Type 0

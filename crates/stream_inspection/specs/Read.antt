@@ -47,19 +47,19 @@ most_counted = 2 ^ 64 - 1
 
 -- Where a reader stands that gave so many records: at the file's end; or at its fault, or where as
 -- many records came as are counted.
-abbrev pub IsEnd : Standing → ℕ → Option ReadingFault → Type 0
-IsEnd standing count None = standing ≡ Ended
-IsEnd standing count (Some f) = (standing ≡ Failed f)
+abbrev pub StandsAtEnd : Standing → ℕ → Option ReadingFault → Type 0
+StandsAtEnd standing count None = standing ≡ Ended
+StandsAtEnd standing count (Some f) = (standing ≡ Failed f)
     ⊎ ((standing ≡ Reads) × (f ≡ Capture TooManyRecords) × (count ≡ most_counted))
 
 -- ---- a file
 
 -- Octets have these records by the flows: all that they have, and the file is whole, or this is its
 -- first fault; or the first of them, as many as are counted.
-abbrev pub EndsBy : Option Flows → List ℕ → List Entry → Option ReadingFault → Type 0
-EndsBy flows octets records None =
+abbrev pub EndsAfter : Option Flows → List ℕ → List Entry → Option ReadingFault → Type 0
+EndsAfter flows octets records None =
     (records_of_file flows octets ≡ records) × IsWholeFile octets
-EndsBy flows octets records (Some f) =
+EndsAfter flows octets records (Some f) =
     ((records_of_file flows octets ≡ records) × IsFileFault f octets)
     ⊎ ((f ≡ Capture TooManyRecords) × (length records ≡ most_counted)
     × AreFirst records (records_of_file flows octets))
@@ -69,7 +69,7 @@ pub record HasRecords (w : Way) (octets : List ℕ) (records : List Entry)
     (end : Option ReadingFault) : Type 0 where
   pub text : List ℕ
   pub has_text : HasFileText w octets text
-  pub ends : EndsBy (flows_in w) octets records end
+  pub ends : EndsAfter (flows_in w) octets records end
 
 -- Files, each taken so, have these records, one file's behind the other's: each all that it has,
 -- and the last as many as it has up to this end.

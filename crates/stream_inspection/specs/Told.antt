@@ -79,7 +79,7 @@ pub record IsText (form : Form) (t : Target) (records : List Entry) (text : List
 
 -- What was printed is the text of the records of what was read of files, each taken so, up to this
 -- end, for what is looked for.
-pub record Tells {S : Type 0} (w : Wanted) (form : Form) (sdp : Option (List ℕ))
+pub record TellsStreams {S : Type 0} (w : Wanted) (form : Form) (sdp : Option (List ℕ))
     (ways : List (Result Flows Refusal)) (told : S → List ℕ → Type 0) (files : List S)
     (end : Option ReadingFault) (shown shown' : List ℕ) : Type 0 where
   pub printed : (octets : List (List ℕ)) → AllZip told files octets
@@ -104,12 +104,12 @@ IsStreamsRefusal w form sdp ways told files shown shown' r =
     ⊎ ((begins w sdp ≡ None) × (files ≡ []) × (r ≡ refusal.ReceiveNoSdp))
     ⊎ IsFirstFront (begins w sdp ≡ None) (IsAimed w sdp) ways told files r))
     ⊎ ((f : ReadingFault) × (count : ℕ) × (reading_fault f ≡ outcome.Refused r)
-    × Tells w form sdp ways told (take count files) (Some f) shown shown')
+    × TellsStreams w form sdp ways told (take count files) (Some f) shown shown')
 
 -- ---- on the way there
 
 -- the text of an inspection was printed: that of any records that it is of
-pub record Prints {A : Type 0} (form : Form) (t : Target) (i : Inspection A)
+pub record PrintsText {A : Type 0} (form : Form) (t : Target) (i : Inspection A)
     (shown shown' : List ℕ) : Type 0 where
   pub text : List ℕ
   pub is : (entries : List Entry) → IsInspected t i entries → IsText form t entries text
@@ -121,4 +121,4 @@ pub record IsEndRefusal {A : Type 0} (form : Form) (t : Target) (i : Inspection 
   pub fault : ReadingFault
   pub ended : end ≡ Some fault
   pub is : reading_fault fault ≡ outcome.Refused r
-  pub printed : Prints form t i shown shown'
+  pub printed : PrintsText form t i shown shown'

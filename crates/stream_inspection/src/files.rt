@@ -11,7 +11,7 @@ ghost use Rattle.run_outcome.specs.Fault.{Accounts, counts};
 ghost use Rattle.run_outcome.specs.Moments.{WasRead};
 ghost use Rattle.run_outcome.specs.Refusing.{OfRefusal};
 ghost use Rattle.st_format.specs.History.{IsRead};
-ghost use Rattle.stream_inspection.specs.Read.{IfEnd, IsEnd, IsFirstFront, IsSettled};
+ghost use Rattle.stream_inspection.specs.Read.{IfEnd, IsFirstFront, IsSettled, StandsAtEnd};
 ghost use Rattle.stream_inspection.specs.Read.{IsStartRefusal, NotesFile, NotesRecords, NotesUpTo};
 ghost use Rattle.stream_inspection.specs.Read.{ended_by};
 
@@ -149,7 +149,7 @@ fn note_opened<A: Allocator + Copy, S: ByteSource>(
     requires none { reader.old.records ≡ [] }
     ensures noted { OnOk result (NotesRecords text.now reader.new.records begun.old begun.new
         inspection.old inspection.new) }
-    ensures end { IfOk result (IsEnd reader.new.standing (length reader.new.records)) }
+    ensures end { IfOk result (StandsAtEnd reader.new.standing (length reader.new.records)) }
     ensures begun { OnOk result (begun.new ≢ None) }
     ensures refusal { IfErr result (λ f. OfRefusal f (λ r. (begun.old ≡ None)
         × IsFrontRefusal (0 ∷ []) text.now r)) }

@@ -6,7 +6,8 @@ ghost use Rattle.run_outcome.specs.Fault.{Accounts, Blames, Failures, IfRefused,
 ghost use Rattle.run_outcome.specs.Moments.{WasRead};
 ghost use Rattle.run_outcome.specs.Refusing.{OfRefusal};
 ghost use Rattle.stream_inspection.specs.Read.{ended_by};
-ghost use Rattle.stream_inspection.specs.Told.{IsEndRefusal, IsStreamsRefusal, Prints, Tells};
+ghost use Rattle.stream_inspection.specs.Told.{IsEndRefusal, IsStreamsRefusal, PrintsText};
+ghost use Rattle.stream_inspection.specs.Told.{TellsStreams};
 
 use crate::files::note_files;
 use crate::inspection::Inspection;
@@ -56,7 +57,7 @@ where
     S: ByteSource,
     O: ByteSink,
     ensures len { length files.new ≡ length files.old }
-    ensures told { OnOk result (Tells wanted form (option_copied sdp.entry) ways.now
+    ensures told { OnOk result (TellsStreams wanted form (option_copied sdp.entry) ways.now
         (WasRead S.gave S.ended) (zip files.old files.new) None (O.took output.old)
         (O.took output.new)) }
     ensures refusal { IfErr result (λ f. OfRefusal f (IsStreamsRefusal wanted form
@@ -94,7 +95,7 @@ fn finish<A: Allocator + Copy, O: ByteSink>(
     output: &mut O,
 ) -> Result<(), Fault>
     ensures whole { OnOk result (end ≡ None) }
-    ensures printed { OnOk result (Prints form target.now inspection.now (O.took output.old)
+    ensures printed { OnOk result (PrintsText form target.now inspection.now (O.took output.old)
         (O.took output.new)) }
     ensures refusal { IfErr result (λ f. OfRefusal f (IsEndRefusal form target.now inspection.now
         end (O.took output.old) (O.took output.new))) }

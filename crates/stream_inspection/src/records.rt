@@ -3,7 +3,7 @@ ghost use Rattle.std.specs.Prelude.{◌≡◌, [], length, IfOk, MatchResult, On
 ghost use Rattle.recording_reader.specs.FileReader.{IsSameFile};
 ghost use Rattle.recording_reader.specs.declared.way.Standing.TheVariants.{Reads};
 ghost use Rattle.stream_inspection.specs.Inspected.{Notes};
-ghost use Rattle.stream_inspection.specs.Read.{IsEnd, counts_end};
+ghost use Rattle.stream_inspection.specs.Read.{StandsAtEnd, counts_end};
 
 use crate::inspection::Inspection;
 use crate::target::Target;
@@ -27,7 +27,7 @@ pub(crate) fn note_records<A: Allocator + Copy, B: Allocator, S: ByteSource>(
     requires none { reader.old.records ≡ [] }
     ensures noted { OnOk result (Notes target.now reader.new.records inspection.old
         inspection.new) }
-    ensures end { IfOk result (IsEnd reader.new.standing (length reader.new.records)) }
+    ensures end { IfOk result (StandsAtEnd reader.new.standing (length reader.new.records)) }
     ensures same { IsSameFile reader.old reader.new }
     ensures failures { MatchResult result
         (λ end. counts_end end (S.failures reader.old.source) (S.failures reader.new.source))

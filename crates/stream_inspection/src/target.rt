@@ -4,7 +4,7 @@ ghost use Rattle.std.specs.Option.{option_copied};
 ghost use Rattle.capture_engines.specs.Received.{IsFrontRefusal, IsOpeningRefusal};
 ghost use Rattle.run_outcome.specs.Fault.{Accounts};
 ghost use Rattle.run_outcome.specs.Refusing.{OfRefusal};
-ghost use Rattle.stream_inspection.specs.Aim.{Announces, IsBegun, IsBeginRefusal};
+ghost use Rattle.stream_inspection.specs.Aim.{Announces, IsBegunTarget, IsBeginRefusal};
 ghost use Rattle.stream_inspection.specs.declared.target.Target.{Target as TargetValue};
 
 use run_outcome::{Fault, Refusal};
@@ -35,7 +35,7 @@ pub(crate) fn begin<A: Allocator + Copy>(
     wanted: Wanted,
     sdp: Option<&[u8]>,
 ) -> Result<Option<Target>, Fault>
-    ensures begun { IfOk result (IsBegun wanted (option_copied sdp.entry)) }
+    ensures begun { IfOk result (IsBegunTarget wanted (option_copied sdp.entry)) }
     ensures refusal { IfErr result (λ f. OfRefusal f
         (IsBeginRefusal wanted (option_copied sdp.entry))) }
     ensures failures { Accounts result [] }
@@ -48,7 +48,7 @@ pub(crate) fn begin<A: Allocator + Copy>(
 
 /// Those that an SDP text says, where one is given.
 fn begin_by<A: Allocator + Copy>(alloc: A, sdp: Option<&[u8]>) -> Result<Option<Target>, Fault>
-    ensures begun { IfOk result (IsBegun Wanted.Said (option_copied sdp.entry)) }
+    ensures begun { IfOk result (IsBegunTarget Wanted.Said (option_copied sdp.entry)) }
     ensures refusal { IfErr result (λ f. OfRefusal f
         (IsBeginRefusal Wanted.Said (option_copied sdp.entry))) }
     ensures failures { Accounts result [] }

@@ -29,7 +29,7 @@ use Rattle.following.specs.Following.{Handed}
 use Rattle.following.specs.Pictures.{BroughtAll, pictures_from}
 use Rattle.frame_sinks.specs.Files.{files_for}
 use Rattle.frame_sinks.specs.Pictures.{form_stream, held_by, picture_of, pictures_of}
-use Rattle.frame_sinks.specs.Sinks.{TakesFrame}
+use Rattle.frame_sinks.specs.Sinks.{SinkTakes}
 use Rattle.frame_sinks.specs.declared.filling.Filling.{Filling}
 use Rattle.frame_sinks.specs.declared.form_sink.FormSink.{FormSink}
 use Rattle.frame_sinks.proofs.Streams.{all_written, rgb_stream, ycc_stream}
@@ -125,7 +125,7 @@ module _ {S T : Type 0} (told : S → List ℕ → Type 0) (takes : T → Handed
 module _ {S K A : Type 0} (told : S → List ℕ → Type 0) (took : K → List ℕ) (w : FollowAsked)
     (sdp : Option (List ℕ)) (ways : List (Result Flows Refusal)) (files : List S)
     (k l : FormSink K A) (printed printed' : List ℕ) (totals : FollowTotals)
-    (is : FollowsWhole w sdp ways told files (TakesFrame took) k l printed printed' totals)
+    (is : FollowsWhole w sdp ways told files (SinkTakes took) k l printed printed' totals)
   where
     abbrev shown : List Handed
     shown = frames_of_events (followed_events w is.opening is.entries)
@@ -166,7 +166,7 @@ module _ {S K A : Type 0} (told : S → List ℕ → Type 0) (took : K → List 
         ∙ ap (λ (t : List ℕ). took k.sink ++ t)
         (ycc_text wanted text format capture k.settling.filling k.settling.fill
         k.settling.held shown p ps sent awaits.whole
-        (sent_frames told (TakesFrame took) w sdp ways files k l printed printed' totals is wanted
+        (sent_frames told (SinkTakes took) w sdp ways files k l printed printed' totals is wanted
         text format (p ∷ ps) capture sent bring awaits time) ycc)
 
     pub sink_rgb : (wanted : Sending) (text : List ℕ) (format : Format) (ps : List Values)
@@ -180,7 +180,7 @@ module _ {S K A : Type 0} (told : S → List ℕ → Type 0) (took : K → List 
         ∙ ap (λ (t : List ℕ). took k.sink ++ t)
         (rgb_text wanted text format capture k.settling.filling k.settling.fill
         k.settling.held shown ps sent awaits.whole
-        (sent_frames told (TakesFrame took) w sdp ways files k l printed printed' totals is wanted
+        (sent_frames told (SinkTakes took) w sdp ways files k l printed printed' totals is wanted
         text format ps capture sent bring awaits time) rgb)
 
 -- ---- into the command's file

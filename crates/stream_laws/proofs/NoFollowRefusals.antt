@@ -23,7 +23,7 @@ use Rattle.following.specs.Following.{Handed}
 use Rattle.follow_engine.specs.Followed.{FollowsWhole}
 use Rattle.follow_engine.specs.Order.{AreTakenBy, strands_by}
 use Rattle.follow_engine.specs.Refused.{FirstRefuses, IsFileRefusal, IsFirstRefusal}
-use Rattle.follow_engine.specs.Refused.{IsFollowRefusal, IsWordRefusal}
+use Rattle.follow_engine.specs.Refused.{IsFollowRefusal, IsFollowWordRefusal}
 use Rattle.follow_engine.specs.Running.{steering_of}
 use Rattle.follow_engine.specs.declared.opening.FollowAsked.{FollowAsked}
 use Rattle.follow_engine.specs.declared.telling.FollowTotals.{FollowTotals}
@@ -126,7 +126,7 @@ module _ {F K : Type 0} (told : F → List ℕ → Type 0) (w : FollowAsked)
     Run sdp files = FollowsWhole w sdp ways told files takes old new took took' totals
 
     word_not : (sdp : Option (List ℕ)) (files : List F) (r : Refusal) → Run sdp files
-        → IsWordRefusal w.frames w.ssrc.now r → ⊥
+        → IsFollowWordRefusal w.frames w.ssrc.now r → ⊥
     word_not sdp files (why.Open open_fault.BadWindow) run wrong = wrong run.size
     word_not sdp files why.ReceiveSource run wrong = wrong run.opening.ssrc run.source_is
     word_not sdp files r run wrong = absurd wrong

@@ -42,7 +42,7 @@ ghost use Rattle.following.specs.Following.{Handed};
 ghost use Rattle.following.specs.Pictures.{BroughtAll, pictures_from};
 ghost use Rattle.frame_sinks.specs.Files.{files_for};
 ghost use Rattle.frame_sinks.specs.Pictures.{pictures_of};
-ghost use Rattle.frame_sinks.specs.Sinks.{TakesFrame};
+ghost use Rattle.frame_sinks.specs.Sinks.{SinkTakes};
 ghost use Rattle.frame_sinks.specs.declared.filling.Filling.{Filling};
 ghost use Rattle.frame_sinks.specs.declared.form_sink.FormSink.{FormSink};
 ghost use Rattle.media_file.specs.Records.{Entry};
@@ -98,7 +98,7 @@ pub fn one_y4m_stream<K: ByteSink, A: Allocator, B: Allocator, S: ByteSource>()
     ensures { (w : FollowAsked) (sdp : Option (List ℕ)) (ways : List (Result Flows Refusal))
         (files : List (Side B S × Side B S)) (k l : FormSink K A) (printed printed' : List ℕ)
         (totals : FollowTotals) (first : Handed) (others : List Handed)
-        (is : FollowsWhole w sdp ways (SideRead S.gave S.ended) files (TakesFrame K.took) k l
+        (is : FollowsWhole w sdp ways (SideRead S.gave S.ended) files (SinkTakes K.took) k l
         printed printed' totals) →
         NoneAnew w.is_eager (running_from (opened is.opening w.frames 900000))
         (datagrams_in is.entries) →
@@ -148,7 +148,7 @@ pub fn sent_and_followed<K: ByteSink, A: Allocator, B: Allocator, S: ByteSource>
         (ways : List (Result Flows Refusal)) (files : List (Side B S × Side B S))
         (k l : FormSink K A) (printed printed' : List ℕ) (totals : FollowTotals)
         (sent : IsSentFile wanted text format (first ∷ others) capture)
-        (is : FollowsWhole w sdp ways (SideRead S.gave S.ended) files (TakesFrame K.took) k l
+        (is : FollowsWhole w sdp ways (SideRead S.gave S.ended) files (SinkTakes K.took) k l
         printed printed' totals) →
         BringDatagrams (SideRead S.gave S.ended) ways files sent.datagrams →
         AwaitsPictures is.opening (run_sender format wanted) (first ∷ others) →
@@ -160,7 +160,7 @@ pub fn sent_and_followed<K: ByteSink, A: Allocator, B: Allocator, S: ByteSource>
         (ways : List (Result Flows Refusal)) (files : List (Side B S × Side B S))
         (k l : FormSink K A) (printed printed' : List ℕ) (totals : FollowTotals)
         (sent : IsSentFile wanted text format pictures capture)
-        (is : FollowsWhole w sdp ways (SideRead S.gave S.ended) files (TakesFrame K.took) k l
+        (is : FollowsWhole w sdp ways (SideRead S.gave S.ended) files (SinkTakes K.took) k l
         printed printed' totals) →
         BringDatagrams (SideRead S.gave S.ended) ways files sent.datagrams →
         AwaitsPictures is.opening (run_sender format wanted) pictures →

@@ -29,7 +29,7 @@ use Rattle.run_outcome.specs.declared.refusal.Refusal.TheVariants as refusal
 use Rattle.convert_engine.specs.Converting.{form_fault}
 use Rattle.stream_sending.specs.Reading.{GaveFrameFault, GaveFrames, GaveNext, GaveWrong}
 use Rattle.stream_sending.specs.Reading.{IsNextRefusal}
-use Rattle.stream_sending.specs.Reading.{IsOpenedRefusal, IsReadRefusal}
+use Rattle.stream_sending.specs.Reading.{IsFramesReadRefusal, IsOpenedRefusal}
 use Rattle.stream_sending.specs.Streams.{BeginsFrames}
 
 -- ---- octets
@@ -159,7 +159,7 @@ form_blames form.ValueTooLarge old new is = is
 -- of the next frame, behind others
 pub refused_behind : (count : ℕ) (f : Format) (vs : List Values) (a b c : List ℕ) (ended : Type 0)
     → GaveFrames f vs a b → length vs < count → (r : Refusal) → IsNextRefusal f b c ended r
-    → IsReadRefusal count f a c ended r
+    → IsFramesReadRefusal count f a c ended r
 refused_behind count f vs a b c ended p few (refusal.Form e) wrong =
     (record { pictures = vs; between = b; gave = p; fault = wrong }, few)
 refused_behind count f vs a b c ended p few r wrong = absurd wrong
@@ -182,7 +182,7 @@ refused_next most f a b ended size r wrong = absurd wrong
 -- of those behind the first
 pub refused_first : (most : ℕ) (f : Format) (v : Values) (a b c : List ℕ) (ended : Type 0)
     → IsSize most f → GaveNext f a b ⊥ (Some v) → (r : Refusal)
-    → IsReadRefusal 4294967295 f b c ended r → IsOpenedRefusal most f a c ended r
+    → IsFramesReadRefusal 4294967295 f b c ended r → IsOpenedRefusal most f a c ended r
 refused_first most f v a b c ended size first (refusal.Form e) wrong =
     let behind : GaveFrameFault f b c ended e = wrong.0 in (
       size,

@@ -23,7 +23,7 @@ use Rattle.capture_engines.specs.declared.sender.Sending.{Sending}
 use Rattle.convert_engine.specs.Converting.{form_fault}
 use Rattle.stream_sending.specs.Reading.{GaveFrameFault, GaveFrames, GaveMany, IsOpenedRefusal}
 use Rattle.stream_sending.specs.Reading.{SendsOpened}
-use Rattle.stream_sending.specs.Sent.{IsFramesRefusal, IsStreamFault, SendsFrames}
+use Rattle.stream_sending.specs.Sent.{IsFramesRefusal, IsSentStreamFault, SendsFrames}
 use Rattle.stream_sending.specs.Streams.{BeginsFrames, BeginsStream, IsStreamOf}
 
 -- what was read first, then, and is behind it
@@ -79,7 +79,7 @@ frames_sent wanted text f a b c ended old new count h sends = record {
 head_fault : (most : ℕ) (a b : List ℕ) (ended : Type 0) (e : FormFault) (part : List ℕ)
     → b ≡ a ++ part
     → ((behind : List ℕ) → (ended → behind ≡ []) → head_walk (part ++ behind) ≡ Err e)
-    → (octets : List ℕ) → IsRead a b ended octets → IsStreamFault most octets e
+    → (octets : List ℕ) → IsRead a b ended octets → IsSentStreamFault most octets e
 head_fault most a b ended e part grown says octets q =
     inl (ap head_walk (one_part a b part octets ended grown q) ∙ says q.behind q.all)
 

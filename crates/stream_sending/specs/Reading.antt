@@ -60,11 +60,11 @@ pub record GaveMany (count : ℕ) (f : Format) (before now : List ℕ) : Type 0 
   pub many : length pictures ≡ count
 
 -- the refusal of frames: of one before which there are fewer than so many; that there are so many
-abbrev pub IsReadRefusal : ℕ → Format → List ℕ → List ℕ → Type 0 → Refusal → Type 0
-IsReadRefusal count f before now ended (refusal.Form e) =
+abbrev pub IsFramesReadRefusal : ℕ → Format → List ℕ → List ℕ → Type 0 → Refusal → Type 0
+IsFramesReadRefusal count f before now ended (refusal.Form e) =
     (fault : GaveFrameFault f before now ended e) × (length fault.pictures < count)
-IsReadRefusal count f before now ended refusal.SendPictures = GaveMany count f before now
-IsReadRefusal count f before now ended r = ⊥
+IsFramesReadRefusal count f before now ended refusal.SendPictures = GaveMany count f before now
+IsFramesReadRefusal count f before now ended r = ⊥
 
 -- The refusal behind a stream's head, of this format: that it has no plan, before a frame is read;
 -- or it has, and the refusal is that of the frames.
@@ -72,7 +72,7 @@ abbrev pub IsOpenedRefusal : ℕ → Format → List ℕ → List ℕ → Type 0
 IsOpenedRefusal most f before now ended (refusal.Plan e) =
     (now ≡ before) × IsPlanFault most f e
 IsOpenedRefusal most f before now ended r =
-    IsSize most f × IsReadRefusal 4294967296 f before now ended r
+    IsSize most f × IsFramesReadRefusal 4294967296 f before now ended r
 
 -- A sender that had sent none sent this picture, and behind it those of all frames that a source
 -- gave up to its end.

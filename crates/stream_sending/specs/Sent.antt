@@ -21,7 +21,7 @@ use Rattle.run_outcome.specs.declared.refusal.Refusal.TheVariants as refusal
 use Rattle.capture_engines.specs.Sending.{ArePlanned, run_sender}
 use Rattle.capture_engines.specs.Typed.{IsTypedBy}
 use Rattle.capture_engines.specs.declared.sender.Sending.{Sending}
-use Rattle.stream_sending.specs.Streams.{HasFrameFault, HasFrames, IsStreamOf}
+use Rattle.stream_sending.specs.Streams.{HasFrames, HasStreamFrameFault, IsStreamOf}
 
 -- ---- what is written
 
@@ -78,17 +78,17 @@ SaysHead read f = (octets : List ℕ) → read octets
 
 -- The fault of a stream: of its head; or of the first frame that isn't whole and right, where its
 -- format has plans of packets of so many octets, and no more frames are before it than are sent.
-abbrev pub IsStreamFault : ℕ → List ℕ → FormFault → Type 0
-IsStreamFault most octets e =
+abbrev pub IsSentStreamFault : ℕ → List ℕ → FormFault → Type 0
+IsSentStreamFault most octets e =
     (head_walk octets ≡ Err e)
-    ⊎ ((fault : HasFrameFault octets e) × IsSize most fault.format
+    ⊎ ((fault : HasStreamFrameFault octets e) × IsSize most fault.format
     × (length fault.before < 4294967296))
 
 -- The refusal of a stream: its fault; that its format has no plan; that it has one, and more than
 -- 4,294,967,295 frames.
 abbrev pub IsFramesRefusal : ℕ → (List ℕ → Type 0) → Refusal → Type 0
 IsFramesRefusal most read (refusal.Form e) =
-    (octets : List ℕ) → read octets → IsStreamFault most octets e
+    (octets : List ℕ) → read octets → IsSentStreamFault most octets e
 IsFramesRefusal most read (refusal.Plan e) = (f : Format) × SaysHead read f × IsPlanFault most f e
 IsFramesRefusal most read refusal.SendPictures =
     (octets : List ℕ) → read octets
@@ -97,8 +97,8 @@ IsFramesRefusal most read r = ⊥
 
 -- the refusal of `send` of a stream: of the SDP text, where one is given; or nothing is wrong with
 -- that, and it is that of the stream
-abbrev pub IsStreamRefusal : {S : Type 0} → ℕ → Option S → Option S → (S × S → List ℕ → Type 0)
+abbrev pub IsSentStreamRefusal : {S : Type 0} → ℕ → Option S → Option S → (S × S → List ℕ → Type 0)
     → (List ℕ → Type 0) → Refusal → Type 0
-IsStreamRefusal most sdp sdp_later told read r =
+IsSentStreamRefusal most sdp sdp_later told read r =
     IsTextOfRun told sdp sdp_later r
     ⊎ (SaysTextOfRun told sdp sdp_later × IsFramesRefusal most read r)

@@ -38,7 +38,7 @@ pub record BeginsStream (octets : List ℕ) (f : Format) (pictures : List Values
 
 -- Behind a head and whole frames are octets, one at least, with this fault, the first: so where a
 -- stream ends behind a frame, that is none.
-pub record HasFrameFault (octets : List ℕ) (e : FormFault) : Type 0 where
+pub record HasStreamFrameFault (octets : List ℕ) (e : FormFault) : Type 0 where
   pub format : Format
   pub before : List Values
   pub rest : List ℕ

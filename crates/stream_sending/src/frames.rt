@@ -8,7 +8,7 @@ ghost use Rattle.picture_forms.specs.declared.streams.Standing.TheVariants.{Read
 ghost use Rattle.run_outcome.specs.Fault.{Accounts, IfRefused, counts};
 ghost use Rattle.run_outcome.specs.Refusing.{OfRefusal};
 ghost use Rattle.stream_sending.specs.Reading.{GaveNext, IsNextRefusal, IsOpenedRefusal};
-ghost use Rattle.stream_sending.specs.Reading.{IsReadRefusal, SendsBehind, SendsFirst};
+ghost use Rattle.stream_sending.specs.Reading.{IsFramesReadRefusal, SendsBehind, SendsFirst};
 ghost use Rattle.stream_sending.specs.Reading.{SendsOpened};
 
 use capture_engines::{Sender, Sending};
@@ -113,7 +113,7 @@ fn send_from<A: Allocator, S: ByteSource, K: ByteSink>(
     ensures sent { IfOk result (λ n. SendsFirst wanted said.now reader.old.format first
         (S.gave reader.old.source) (S.gave reader.new.source) (S.ended reader.new.source)
         (K.took sink.old) (K.took sink.new) n) }
-    ensures refusal { IfErr result (λ f. OfRefusal f (IsReadRefusal 4294967295
+    ensures refusal { IfErr result (λ f. OfRefusal f (IsFramesReadRefusal 4294967295
         reader.old.format (S.gave reader.old.source) (S.gave reader.new.source)
         (S.ended reader.new.source))) }
     ensures failures { Accounts result (counts (S.failures reader.old.source)
@@ -148,7 +148,7 @@ fn send_each<A: Allocator, S: ByteSource, K: ByteSink>(
         (S.gave reader.old.source) (S.gave reader.new.source) (S.ended reader.new.source)
         sender.old sender.new) }
     ensures count { IfOk result (λ n. n ≡ sender.new.sent) }
-    ensures refusal { IfErr result (λ f. OfRefusal f (IsReadRefusal 4294967295
+    ensures refusal { IfErr result (λ f. OfRefusal f (IsFramesReadRefusal 4294967295
         reader.old.format (S.gave reader.old.source) (S.gave reader.new.source)
         (S.ended reader.new.source))) }
     ensures failures { Accounts result (counts (S.failures reader.old.source)

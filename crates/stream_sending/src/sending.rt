@@ -6,7 +6,7 @@ ghost use Rattle.run_outcome.specs.Fault.{Accounts, IfRefused, counts, failures_
 ghost use Rattle.run_outcome.specs.Moments.{WasRead};
 ghost use Rattle.run_outcome.specs.Refusing.{OfRefusal};
 ghost use Rattle.run_outcome.specs.TextRefusals.{IsCaptureText};
-ghost use Rattle.stream_sending.specs.Sent.{IsFramesRefusal, IsSentBy, IsStreamRefusal};
+ghost use Rattle.stream_sending.specs.Sent.{IsFramesRefusal, IsSentBy, IsSentStreamRefusal};
 ghost use Rattle.stream_sending.specs.Sent.{SendsFrames, SendsStream};
 
 use crate::frames::send_opened;
@@ -64,7 +64,7 @@ where
         ∷ counts (O.failures output.old) (O.failures output.new) ∷ []) }
     // Of what was read the refusal is the first: of the text; of the head; that there is no plan;
     // of the frames in their order, or that there are too many.
-    ensures refusal { IfErr result (λ f. OfRefusal f (IsStreamRefusal wanted.max_octets
+    ensures refusal { IfErr result (λ f. OfRefusal f (IsSentStreamRefusal wanted.max_octets
         sdp.old sdp.new (WasRead S.gave S.ended)
         (IsRead (S.gave stream.old) (S.gave stream.new) (S.ended stream.new)))) }
 {

@@ -76,14 +76,14 @@ FindsFiles o ways told files before after =
 
 -- The refusals of what was read: of the SDP text that is given; of the files, as `receive` refuses
 -- them, but none of a window, as of one of one timestamp, with which nothing is wrong.
-abbrev pub IsReadRefusal : {S : Type 0} → Option (List ℕ) → List (Result Flows Refusal)
+abbrev pub IsFindingRefusal : {S : Type 0} → Option (List ℕ) → List (Result Flows Refusal)
     → (S → List ℕ → Type 0) → List S → Refusal → Type 0
-IsReadRefusal sdp ways told files r =
+IsFindingRefusal sdp ways told files r =
     MatchOption sdp ⊥ (λ text. IsOpeningRefusal (0 ∷ []) text r)
     ⊎ IsFilesRefusal (0 ∷ []) sdp ways told files r
 
 -- the refusals: of what was read; that no timestamp came
 abbrev pub IsFindRefusal : {S : Type 0} → ℕ → Option ℕ → Option (List ℕ)
     → List (Result Flows Refusal) → (S → List ℕ → Type 0) → List S → Refusal → Type 0
-IsFindRefusal count ssrc sdp ways told files r = IsReadRefusal sdp ways told files r
+IsFindRefusal count ssrc sdp ways told files r = IsFindingRefusal sdp ways told files r
     ⊎ ((r ≡ refusal.Open open_fault.BadWindow) × FindsFirst count ssrc sdp ways told files [])

@@ -15,7 +15,7 @@ ghost use Rattle.run_outcome.specs.Refusing.{OfRefusal};
 ghost use Rattle.st_format.specs.History.{IsRead};
 ghost use Rattle.window_finding.specs.Finding.{FindsBy, FindsFile, FindsFiles, FindsFirst};
 ghost use Rattle.window_finding.specs.Finding.{FindsRecords, FindsSoFar, IsFindRefusal};
-ghost use Rattle.window_finding.specs.Finding.{IsReadRefusal};
+ghost use Rattle.window_finding.specs.Finding.{IsFindingRefusal};
 ghost use Rattle.window_finding.specs.Turns.{IsDone, IsStop};
 
 use crate::finder::{Finder, Sought};
@@ -77,7 +77,7 @@ fn find_timestamps<A: Allocator + Copy, S: ByteSource>(
     ensures found { IfOk result (λ window. FindsFirst sought.count sought.ssrc
         (option_copied sdp.entry) ways.now (WasRead S.gave S.ended) (zip files.old files.new)
         window.items) }
-    ensures refusal { IfErr result (λ f. OfRefusal f (IsReadRefusal (option_copied sdp.entry)
+    ensures refusal { IfErr result (λ f. OfRefusal f (IsFindingRefusal (option_copied sdp.entry)
         ways.now (WasRead S.gave S.ended) (zip files.old files.new))) }
     ensures failures { Accounts result (counts (sum_by S.failures files.old)
         (sum_by S.failures files.new) ∷ []) }

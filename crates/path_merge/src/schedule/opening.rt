@@ -4,7 +4,7 @@ ghost use Rattle.st_format.specs.Picture.{Values};
 ghost use Rattle.packet_plan.specs.Sending.{EachHasRoom};
 ghost use Rattle.path_receiver.specs.Opening.{IsWindow};
 ghost use Rattle.path_merge.specs.Sent.{scene_of};
-ghost use Rattle.path_merge.specs.Stage.{IsOpened, IsReady, IsStage};
+ghost use Rattle.path_merge.specs.Stage.{IsOpened, IsReadyStage, IsStage};
 
 use crate::schedule::sending::Next;
 use crate::schedule::stage::Stage;
@@ -23,7 +23,7 @@ pub fn open<A: Allocator + Copy, B: Allocator>(
 ) -> Result<Stage<A>, PlayFault>
     requires payload_type { stamp.payload_type ≤ 127 }
     requires window { IsWindow window.now }
-    ensures ready { IfOk result (λ stage. IsReady plan.now stage) }
+    ensures ready { IfOk result (λ stage. IsReadyStage plan.now stage) }
     ensures stage { IfOk result (λ stage. (pictures : List Values) →
         IsStage plan.now stamp pictures
         (scene_of plan.now pictures stamp window.now receivers) [] stage) }

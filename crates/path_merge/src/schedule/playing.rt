@@ -8,7 +8,7 @@ ghost use Rattle.path_merge.specs.Admitted.{IsFirstBad};
 ghost use Rattle.path_merge.specs.Played.{ArePictures, IsPlayed, IsReceiverCount};
 ghost use Rattle.path_merge.specs.Reached.{IsFrameOf};
 ghost use Rattle.path_merge.specs.Sent.{AreSentBy, IsSendersFrame, scene_of, sender_of};
-ghost use Rattle.path_merge.specs.Stage.{RefusesAt, FollowsAll, IsReady};
+ghost use Rattle.path_merge.specs.Stage.{RefusesAt, FollowsAll, IsReadyStage};
 ghost use Rattle.path_merge.specs.Stays.{Stay};
 
 use crate::schedule::check::check;
@@ -103,7 +103,7 @@ fn follow_all<A: Allocator + Copy, B: Allocator, C: Allocator>(
 ) -> Result<(), PlayFault>
     requires payload_type { stamp.payload_type ≤ 127 }
     requires pictures { ArePictures pictures.now plan.now.format }
-    requires ready { IsReady plan.now stage.old }
+    requires ready { IsReadyStage plan.now stage.old }
     ensures followed { OnOk result
         (FollowsAll plan.now stamp pictures.now events.now stage.old stage.new) }
     ensures bad { IfErr result (λ fault. (place : ℕ) → fault ≡ PlayFault.BadEvent place →

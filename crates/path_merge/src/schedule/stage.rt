@@ -1,7 +1,7 @@
 //! What is kept while a schedule is played.
 ghost use Rattle.std.specs.Prelude.{◌≡◌, ◌<◌, ◌≤◌, [], All, Err, OnOk, Some};
 ghost use Rattle.std.specs.Prelude.{length, slice_get};
-ghost use Rattle.path_merge.specs.Stage.{IsFollowedBy, HandsOut, IsReady, NeverFits, SendsOne};
+ghost use Rattle.path_merge.specs.Stage.{IsFollowedBy, HandsOut, IsReadyStage, NeverFits, SendsOne};
 ghost use Rattle.path_merge.specs.Steps.{to_come};
 ghost use Rattle.path_receiver.specs.Frames.{State};
 ghost use Rattle.st_format.specs.Member.{IsMember};
@@ -41,8 +41,8 @@ pub fn follow<A: Allocator + Copy, B: Allocator, C: Allocator>(
     requires payload_type { stamp.payload_type ≤ 127 }
     requires formats { All (λ p. p.format ≡ plan.now.format) pictures.now }
     requires few { length pictures.now ≤ 10000 }
-    requires ready { IsReady plan.now stage.old }
-    ensures ready { IsReady plan.now stage.new }
+    requires ready { IsReadyStage plan.now stage.old }
+    ensures ready { IsReadyStage plan.now stage.new }
     ensures followed { OnOk result (IsFollowedBy plan.now stamp pictures.now event stage.old
         stage.new) }
     ensures unfit { result ≡ Err Stop.Unfit →
@@ -73,8 +73,8 @@ fn send<A: Allocator, B: Allocator, C: Allocator>(
     requires payload_type { stamp.payload_type ≤ 127 }
     requires formats { All (λ p. p.format ≡ plan.now.format) pictures.now }
     requires few { length pictures.now ≤ 10000 }
-    requires ready { IsReady plan.now stage.old }
-    ensures ready { IsReady plan.now stage.new }
+    requires ready { IsReadyStage plan.now stage.old }
+    ensures ready { IsReadyStage plan.now stage.new }
     ensures sent { OnOk result (SendsOne plan.now stamp pictures.now stage.old stage.new) }
     ensures none { result ≡ Err Stop.Unfit →
         to_come plan.now stamp pictures.now stage.old.next ≡ [] }

@@ -5,7 +5,7 @@ use Rattle.run_outcome.proofs.Refusals.{if_err_map, of_refusal_map}
 use Rattle.run_outcome.proofs.SetSums.{set_counted}
 use Rattle.capture_engines.specs.Files.{way_at}
 use Rattle.capture_engines.specs.Received.{FileOpens, IsTurnRefusal}
-use Rattle.capture_engines.specs.Rescued.{TakesPart}
+use Rattle.capture_engines.specs.Rescued.{MayTake}
 use Rattle.capture_engines.specs.Taking.{TakesFile}
 use Rattle.capture_engines.proofs.OneOf.{first_at}
 use Rattle.capture_engines.proofs.receiving.take_at.Goals as goal
@@ -54,7 +54,7 @@ returns-clause-sound g c =
     let told = g.S.ByteSource in
     if_err_map c.take_one.result
     (λ f is. first_at
-    (TakesPart c.args.opening.now (way_at c.args.ways.now c.args.place) told.gave told.ended f
+    (MayTake c.args.opening.now (way_at c.args.ways.now c.args.place) told.gave told.ended f
     c.args.begun.now c.take_one.new.begun) c.args.files.now c.args.place
     c.index-files-place.result c.take_one.new.file c.requires.place is)
     (rw c.at-way.ensures at c.take_one.ensures.sound)

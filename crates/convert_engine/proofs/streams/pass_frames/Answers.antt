@@ -1,6 +1,6 @@
 use Rattle.std.proofs.Common.{◌≡◌, ◌+◌, ◌-◌, ℕ, ◌∙◌, arith, refl, subst}
 use Rattle.std.proofs.lemmas.Result.{err_from_is_err_and}
-use Rattle.convert_engine.specs.Inputs.{Passes}
+use Rattle.convert_engine.specs.Inputs.{PassesOver}
 use Rattle.convert_engine.proofs.Passing.{passes_fault, passes_more, passes_none}
 use Rattle.convert_engine.proofs.streams.pass_frames.Goals as goal
 
@@ -37,5 +37,5 @@ returns-clause-passed g c =
     let i = c.loop-passed.invariant in
     let all : c.loop-passed.passed ≡ c.args.count =
     omega (arith, i.within, c.loop-passed-test.false) in
-    subst (λ (n : ℕ). Passes c.args.format.now n (g.S.ByteSource.gave c.args.source.now)
+    subst (λ (n : ℕ). PassesOver c.args.format.now n (g.S.ByteSource.gave c.args.source.now)
     (g.S.ByteSource.gave c.loop-passed.source)) all i.passes

@@ -1,5 +1,5 @@
 use Rattle.std.proofs.Common.{◌≡◌, ◌≤◌, ◌-◌}
-use Rattle.convert_engine.specs.Inputs.{Passes}
+use Rattle.convert_engine.specs.Inputs.{PassesOver}
 use Rattle.convert_engine.proofs.streams.pass_frames.Given as goal
 
 pub record Passing (end so_far count : Type 0) : Type 0 where
@@ -10,7 +10,7 @@ pub record Passing (end so_far count : Type 0) : Type 0 where
 abbrev pub invariant-loop-passed : goal.invariant-loop-passed
 invariant-loop-passed g l = Passing
     (l.passed ≤ l.count)
-    (Passes l.format l.passed (g.S.ByteSource.gave l.initial.source)
+    (PassesOver l.format l.passed (g.S.ByteSource.gave l.initial.source)
     (g.S.ByteSource.gave l.source))
     (g.S.ByteSource.failures l.source ≡ g.S.ByteSource.failures l.initial.source)
 

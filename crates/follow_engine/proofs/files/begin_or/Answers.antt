@@ -3,7 +3,7 @@ use Rattle.std.specs.Option.{option_copied}
 use Rattle.std.specs.Prelude.{IfErr, IfOk, MatchOption}
 use Rattle.run_outcome.specs.Refusing.{OfRefusal}
 use Rattle.follow_engine.specs.Refused.{IsFirstRefusal}
-use Rattle.follow_engine.specs.Sides.{HasBegun, text_by}
+use Rattle.follow_engine.specs.Sides.{HasBegunRun, text_by}
 use Rattle.follow_engine.proofs.Beginnings.{begun_given, none_given}
 use Rattle.follow_engine.proofs.files.begin_or.Goals as goal
 
@@ -17,7 +17,7 @@ returns-in-None-clause-begun g c =
     let asked = c.args.asked in
     let ssrc = c.args.ssrc in
     subst (λ (x : Option (List ℕ)). IfOk c.begin_first.result
-    (λ r. HasBegun asked ssrc (text_by x c.args.said.now) r))
+    (λ r. HasBegunRun asked ssrc (text_by x c.args.said.now) r))
     (sym (none_given asked ssrc (option_copied c.args._sdp) c.args.given c.in-None.is
     c.requires.given)) c.begin_first.ensures.begun
 

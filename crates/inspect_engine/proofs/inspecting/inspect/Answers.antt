@@ -4,7 +4,7 @@ use Rattle.std.specs.List.{zip}
 use Rattle.run_outcome.proofs.Refusals.{of_refusal_map}
 use Rattle.run_outcome.specs.Moments.{WasRead}
 use Rattle.pcap_file.specs.Runs.{most_packet}
-use Rattle.inspect_engine.specs.Inspected.{IsFirstFault, NotesAll}
+use Rattle.inspect_engine.specs.Inspected.{IsFirstFailed, NotesAll}
 use Rattle.inspect_engine.proofs.Telling.{tells_noted}
 use Rattle.inspect_engine.proofs.inspecting.inspect.Goals as goal
 
@@ -19,7 +19,7 @@ returns-in_err-is_cut-clause-refusal g c =
     c.from_residual-in_err-is_cut.ensures.1 in
     rw (p.1, p.2)
     (of_refusal_map c.in_err-is_cut.field-0.0
-    (λ r is. inr (refl, subst (λ (n : ℕ). IsFirstFault n told pairs r) same is))
+    (λ r is. inr (refl, subst (λ (n : ℕ). IsFirstFailed n told pairs r) same is))
     c.in_err-is_cut.ensures.refusal)
 
 pub returns-then-is_cut-clause-refusal : goal.returns-then-is_cut-clause-refusal

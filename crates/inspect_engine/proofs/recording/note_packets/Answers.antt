@@ -1,6 +1,6 @@
 use Rattle.std.proofs.Common.{◌∙◌, ◌∷◌, [], ℕ, List, length, arith, refl, subst, take}
 use Rattle.inspect_engine.specs.Arrivals.{captured}
-use Rattle.inspect_engine.specs.Inspected.{Notes}
+use Rattle.inspect_engine.specs.Inspected.{NotesEach}
 use Rattle.pcap_file.specs.Runs.{ReadsEnd, ReadsFault, ReadsPacket, layout_seen, packet_seen}
 use Rattle.inspect_engine.proofs.Noting.{going_all, going_none, going_on, going_wrong}
 use Rattle.inspect_engine.proofs.Noting.{rest_is}
@@ -35,7 +35,7 @@ packets-preserved g c =
           (packet_seen c.in-Ok-Some.packet c.next_packet.new.buf)) i.room
           (rw c.in-Ok-Some.field-0-is at c.in-Ok-Some.ensures.read))
           (subst
-          (λ (x : List ℕ). Notes
+          (λ (x : List ℕ). NotesEach
           (captured c.in-Ok-Some.packet.head (take c.in-Ok-Some.packet.head.captured x) ∷ [])
           c.packets.inspection c.note.new.self)
           (rest_is c.in-Ok-Some.packet.place c.next_packet.new.buf)

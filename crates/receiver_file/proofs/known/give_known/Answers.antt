@@ -6,7 +6,7 @@ use Rattle.frame_assembly.specs.Rows.{replaced_cells}
 use Rattle.frame_assembly.specs.declared.state.GroupState.{GroupState}
 use Rattle.media_file.specs.Groups.{Shape, cells_by}
 use Rattle.receiver_file.specs.Known.{cells_known, shape_in}
-use Rattle.receiver_file.specs.Taking.{IsGiven}
+use Rattle.receiver_file.specs.Taking.{IsGivenGroup}
 use Rattle.media_file.proofs.Once.{shape_is}
 use Rattle.receiver_file.proofs.GroupsFound.{values_long}
 use Rattle.receiver_file.proofs.TakenGroups.{given_missing, given_replaced, start_inside}
@@ -16,10 +16,10 @@ use Rattle.receiver_file.proofs.known.give_known.Goals as goal
 -- a group of a state, which a match found
 of_state : (s : Shape) (number : ℕ) (state found : GroupState) (octets : List ℕ)
     (old new : List Cell) → state ≡ found
-    → IsGiven s number (cells_known s found octets) old new
-    → IsGiven s number (cells_known s state octets) old new
+    → IsGivenGroup s number (cells_known s found octets) old new
+    → IsGivenGroup s number (cells_known s state octets) old new
 of_state s number state found octets old new e p =
-    subst (λ (x : GroupState). IsGiven s number (cells_known s x octets) old new) (sym e) p
+    subst (λ (x : GroupState). IsGivenGroup s number (cells_known s x octets) old new) (sym e) p
 
 pub returns-in-Gone-clause-given : goal.returns-in-Gone-clause-given
 returns-in-Gone-clause-given g c =

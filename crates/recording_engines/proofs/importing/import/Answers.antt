@@ -8,7 +8,7 @@ use Rattle.run_outcome.proofs.Refusals.{none_refused, of_refusal_map}
 use Rattle.run_outcome.proofs.Blaming.{failed_one}
 use Rattle.std.proofs.lemmas.Result.{err_from_is_err_and}
 use Rattle.recording_engines.specs.Files.{AllOpened}
-use Rattle.recording_engines.specs.Imported.{AsksFlows, IsFlowsRefusal}
+use Rattle.recording_engines.specs.Imported.{AsksFlows, IsImportFlowsRefusal}
 use Rattle.recording_engines.proofs.Blames.{blames_files, blames_joined, blames_output}
 use Rattle.recording_engines.proofs.Quiet.{if_refused, never_refused}
 use Rattle.recording_engines.proofs.Endings.{given_read, has_imported, has_stopped, imports}
@@ -86,7 +86,7 @@ returns-in_err-flows-clause-refusal g c =
       c.in_ok-said.ensures.says text (given_read c.in_ok-said.ensures.read),
       inl (
         refl,
-        subst (λ (l : List ℕ). IsFlowsRefusal (option_copied c.args.wanted.a)
+        subst (λ (l : List ℕ). IsImportFlowsRefusal (option_copied c.args.wanted.a)
             (option_copied c.args.wanted.b) l r) c.deref.ensures.value is,
       ),
     ))

@@ -1,4 +1,4 @@
-use Rattle.path_merge.specs.Stage.{FollowsTo, IsReady}
+use Rattle.path_merge.specs.Stage.{FollowsTo, IsReadyStage}
 use Rattle.path_merge.proofs.schedule.playing.follow_all.Given as goal
 
 pub record SoFar (is_ready follows : Type 0) : Type 0 where
@@ -8,5 +8,5 @@ pub record SoFar (is_ready follows : Type 0) : Type 0 where
 -- the events so far were followed
 abbrev pub invariant-loop-place : goal.invariant-loop-place
 invariant-loop-place g l =
-    SoFar (IsReady l.plan l.stage)
+    SoFar (IsReadyStage l.plan l.stage)
     (FollowsTo l.plan l.stamp l.pictures l.events l.place l.initial.stage l.stage)

@@ -1,11 +1,11 @@
 use Rattle.std.proofs.Common.{◌≡◌, ◌∙◌, ◌++◌, List, ℕ, drop, length, subst, sym, take}
 use Rattle.std.proofs.lemmas.List.{take_at}
-use Rattle.recording_reader.specs.Ways.{FindsNext, HasRoom}
+use Rattle.recording_reader.specs.Ways.{FindsNext, HasSpace}
 use Rattle.recording_reader.proofs.room.Room.advance.Goals as goal
 
 pub read_next-requires : goal.read_next-requires
 read_next-requires g c =
-    subst (λ (n : ℕ). HasRoom c.args.way.now n) (sym c.deref_mut.ensures.len) c.requires
+    subst (λ (n : ℕ). HasSpace c.args.way.now n) (sym c.deref_mut.ensures.len) c.requires
 
 pub returns-in-Ok-clause-read : goal.returns-in-Ok-clause-read
 returns-in-Ok-clause-read g c =
