@@ -8,7 +8,7 @@ use Rattle.std.proofs.lemmas.List.{get_or_append_left, length-append, length-tak
 use Rattle.std.proofs.lemmas.List.{take-append-le, take_all}
 use Rattle.std.proofs.lemmas.List.Elements.{All-append, All-cons, All-nil}
 use Rattle.std.specs.Prelude.{Any}
-use Rattle.capture_runs.specs.Looked.{BeginsAsCapture, HaveCapture, IsCapture, IsLooked}
+use Rattle.capture_runs.specs.Looked.{BeginsAsCapture, BeginsCapture, HaveCapture, IsLooked}
 use Rattle.capture_runs.specs.Looked.{IsNoCapture}
 use Rattle.capture_runs.specs.Looked.{is_capture}
 use Rattle.capture_runs.specs.Replayed.{replayed_ended, replayed_gave}
@@ -77,7 +77,7 @@ any_last P files file holds = (
 have_one : (is : Bool) (files : List Replayed) (file : Replayed) → All IsNoCapture files
     → IsLooked is file → HaveCapture is (files ++ file ∷ [])
 have_one true files file none it =
-    record { yes = λ e. any_last IsCapture files file it; no = λ e. absurd (cc) }
+    record { yes = λ e. any_last BeginsCapture files file it; no = λ e. absurd (cc) }
 have_one false files file none it =
     record {
       yes = λ e. absurd (cc);
@@ -90,7 +90,7 @@ have_more_by : (was is : Bool) (files : List Replayed) (file : Replayed) → Hav
     → HaveCapture is (files ++ file ∷ [])
 have_more_by true is files file have kept looked =
     subst (λ (b : Bool). HaveCapture b (files ++ file ∷ [])) (sym (kept refl))
-    (record { yes = λ e. any_more IsCapture files file (have.yes refl); no = λ e. absurd (cc) })
+    (record { yes = λ e. any_more BeginsCapture files file (have.yes refl); no = λ e. absurd (cc) })
 have_more_by false is files file have kept looked =
     have_one is files file (have.no refl) (looked refl)
 

@@ -2,7 +2,7 @@
 use Rattle.std.specs.Prelude.{◌≡◌, ℕ, ◌⊎◌, ⊤, List, Bool, true, false, Option, None, Some, Result}
 use Rattle.std.specs.Prelude.{Ok, Err, All, Any, sum_by, if◌then◌else◌, ◌∷◌, [], vec_len}
 use Rattle.std.specs.List.{zip}
-use Rattle.capture_runs.specs.Looked.{IsCapture, IsNoCapture, ReadNone}
+use Rattle.capture_runs.specs.Looked.{BeginsCapture, IsNoCapture, ReadNone}
 use Rattle.capture_runs.specs.Opened.{AreUnread, said_text}
 use Rattle.capture_runs.specs.Refused.{IsFlowRefusal, IsTooLongSdp}
 use Rattle.capture_runs.specs.Replayed.{ReplayedRead, replayed_failures}
@@ -34,7 +34,7 @@ use Rattle.stream_inspection.specs.declared.text.Form.{Form as StreamForm}
 -- Where one does, the stream is that which the first file's text says.
 abbrev pub IsSeen : List Replayed → Aim → Type 0
 IsSeen looked aim.Flows = All IsNoCapture looked
-IsSeen looked (aim.Streams w) = Any IsCapture looked × (w ≡ Said)
+IsSeen looked (aim.Streams w) = Any BeginsCapture looked × (w ≡ Said)
 
 -- Else what came of the stream is told: of the format that is given; or of that which an SDP says.
 abbrev pub IsAim : Option (Result Target FormatFault) → Bool → List Replayed → Aim → Type 0

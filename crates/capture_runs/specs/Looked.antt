@@ -17,8 +17,8 @@ BeginsAsCapture r is = (octets : List ℕ) → IsRead [] (replayed_gave r) (repl
     → is_capture octets ≡ is
 
 -- a file begins as a capture
-abbrev pub IsCapture : Replayed → Type 0
-IsCapture r = BeginsAsCapture r true
+abbrev pub BeginsCapture : Replayed → Type 0
+BeginsCapture r = BeginsAsCapture r true
 
 -- it doesn't, or its device failed
 abbrev pub IsNoCapture : Replayed → Type 0
@@ -26,12 +26,12 @@ IsNoCapture r = BeginsAsCapture r false ⊎ (0 < file_failures r.file)
 
 -- it was found that a file begins as a capture, or that it doesn't
 abbrev pub IsLooked : Bool → Replayed → Type 0
-IsLooked true r = IsCapture r
+IsLooked true r = BeginsCapture r
 IsLooked false r = IsNoCapture r
 
 -- whether one of some files begins as a capture
 pub record HaveCapture (is : Bool) (files : List Replayed) : Type 0 where
-  pub yes : is ≡ true → Any IsCapture files
+  pub yes : is ≡ true → Any BeginsCapture files
   pub no : is ≡ false → All IsNoCapture files
 
 -- nothing of a file was read yet

@@ -6,7 +6,7 @@ use Rattle.st_format.specs.Picture.{IsPicture, Values}
 use Rattle.st_format.specs.Reading.{◌>>=◌}
 use Rattle.picture_forms.specs.declared.fault.FormFault.{FormFault}
 use Rattle.picture_forms.specs.Frames.{frame_walk}
-use Rattle.picture_forms.specs.Heads.{HasHead, head_walk}
+use Rattle.picture_forms.specs.Heads.{HasY4mHead, head_walk}
 use Rattle.picture_forms.specs.Layouts.{pixels_text, planes_text}
 use Rattle.picture_forms.specs.Pixmaps.{HasPixmapHead, pixels_walk, pixmap_head_walk}
 
@@ -24,7 +24,7 @@ pub record IsInStream (place : ℕ) (octets : List ℕ) (v : Values) : Type 0 wh
   pub picture : IsPicture v
   pub rest : List ℕ
   pub behind : List ℕ
-  pub head : HasHead octets rest (fields_of v.format)
+  pub head : HasY4mHead octets rest (fields_of v.format)
   pub frame : frame_at_place v.format place rest ≡ Ok (planes_text v, behind)
 
 -- octets begin with the head of a stream, and a frame up to the one at this place has this fault,
@@ -32,7 +32,7 @@ pub record IsInStream (place : ℕ) (octets : List ℕ) (v : Values) : Type 0 wh
 pub record HasFrameFault (place : ℕ) (octets : List ℕ) (f : FormFault) : Type 0 where
   pub format : Format
   pub rest : List ℕ
-  pub head : HasHead octets rest (fields_of format)
+  pub head : HasY4mHead octets rest (fields_of format)
   pub fault : frame_at_place format place rest ≡ Err f
 
 -- the first fault of a stream, up to the end of the frame at this place

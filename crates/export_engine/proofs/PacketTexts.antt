@@ -5,7 +5,7 @@ use Rattle.std.specs.Prelude.{MatchOption, is_some}
 use Rattle.std.proofs.lemmas.List.{length-append, length-drop, take-append-le, take_all}
 use Rattle.std.specs.declared.net.ip_addr.IpAddr.{IpAddr}
 use Rattle.media_file.specs.Records.{Entry}
-use Rattle.flow.specs.FlowText.{Finds, IsFlowText, IsInterfaceText, IsSourceText}
+use Rattle.flow.specs.FlowText.{Finds, IsFlowText, IsInterfaceText, SpellsSource}
 use Rattle.interface_name.specs.declared.name.InterfaceName.{InterfaceName}
 use Rattle.flow.specs.declared.flows.Flow.{Flow}
 use Rattle.export_engine.specs.Packets.{IsEnvelopeText, datagram_by, envelope_from, packet_by}
@@ -114,7 +114,7 @@ envelope_found text f a (Some e) found unnamed named is = record {
   address = a;
   port = f.port;
   flow =
-      subst (λ (o : Option IpAddr). IsSourceText text f.source (o, f.port)) named
+      subst (λ (o : Option IpAddr). SpellsSource text f.source (o, f.port)) named
       (subst
       (λ (n : Option InterfaceName). IsInterfaceText text n (f.source, (f.address, f.port)))
       unnamed ((found f).1 refl));

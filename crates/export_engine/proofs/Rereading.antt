@@ -13,7 +13,7 @@ use Rattle.std.proofs.lemmas.Bool.Decides.{nat_tests}
 use Rattle.std.proofs.lemmas.List.{length-append, length-replicate}
 use Rattle.st_format.specs.declared.path.Path.{Path}
 use Rattle.st_format.specs.declared.path.Path.TheVariants.{A, B}
-use Rattle.flow.specs.FlowText.{IsSourceText}
+use Rattle.flow.specs.FlowText.{SpellsSource}
 use Rattle.media_file.specs.Records.{Entry}
 use Rattle.pcap_file.specs.Datagram.{IsDatagram}
 use Rattle.pcap_file.specs.PcapReading.{AreRecords, IsPcap, IsRecord, Recorded}
@@ -87,7 +87,7 @@ not_some : (x : IpEnvelope) → None ≡ Some x → ⊥
 not_some x same = cc
 
 from_fits : (text : List ℕ) (source : Option IpAddr) (address : IpAddr) (port : ℕ) (e : IpEnvelope)
-    → IsSourceText text source (Some address, port) → envelope_from source address port ≡ Some e
+    → SpellsSource text source (Some address, port) → envelope_from source address port ≡ Some e
     → Fits e
 from_fits text None (ip.V4 a) port e is same =
     subst Fits (some_is (envelope_4 sender a port) e same)

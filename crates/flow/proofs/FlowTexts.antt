@@ -31,8 +31,8 @@ use Rattle.st_format.proofs.Decimals.{digits, and_parts}
 use Rattle.st_format.proofs.Forms.{number_by}
 use Rattle.flow.specs.declared.flows.Flow.{Flow}
 use Rattle.flow.specs.Flow.{IsFlow}
-use Rattle.flow.specs.FlowText.{Finds, IsFlowText, IsHost, IsInterfaceText, IsOther, IsPlaceOf}
-use Rattle.flow.specs.FlowText.{IsPlaceText, IsPort, IsSourceOf, IsSourceText, ends_text, flow_text}
+use Rattle.flow.specs.FlowText.{Finds, IsFlowText, IsHost, IsInterfaceText, IsOther, SpellsPlace}
+use Rattle.flow.specs.FlowText.{IsPlaceText, IsPort, SpellsEnds, SpellsSource, ends_text, flow_text}
 use Rattle.flow.specs.FlowText.{host_text, interface_text, place_text, source_text}
 
 -- ---- what is found
@@ -286,8 +286,8 @@ place_once text (Some a) (Some b) p q h k =
       port_once h.1 p q h.4 (subst (λ t. IsPort t q) (sym r.1) k.4),
     )
 
-pub place_of_once : (text : List ℕ) (x y : Option IpAddr × ℕ) → IsPlaceOf text x → IsPlaceOf text y
-    → x ≡ y
+pub place_of_once : (text : List ℕ) (x y : Option IpAddr × ℕ) → SpellsPlace text x
+    → SpellsPlace text y → x ≡ y
 place_of_once text x y h k =
     let r = place_once text x.0 y.0 x.1 y.1 h k in λ i. (r.0 i, r.1 i)
 
@@ -299,15 +299,15 @@ no_host_by text (Some a) port none h =
     absurd (mark_in 58 h.0 h.1 (subst (All (IsOther 58)) h.2 none))
 
 pub no_port_alone : (text : List ℕ) → All (IsOther 58) text → Finds IsPort text None
-    → Finds IsPlaceOf text None
+    → Finds SpellsPlace text None
 no_port_alone text none ports =
-    missed IsPlaceOf text
+    missed SpellsPlace text
     (λ x h. not_none x.1 (sym ((ports x.1).0 (no_host_by text x.0 x.1 none h).1)))
 
 pub port_alone : (text : List ℕ) (port : ℕ) → Finds IsPort text (Some port)
-    → Finds IsPlaceOf text (Some (None, port))
+    → Finds SpellsPlace text (Some (None, port))
 port_alone text port ports =
-    found IsPlaceOf text (place_of_once text) (None, port) ((ports port).1 refl)
+    found SpellsPlace text (place_of_once text) (None, port) ((ports port).1 refl)
 
 -- of a text with a colon, behind whose last one stand digits
 module _ (text host digits : List ℕ) (parts : text ≡ host ++ 58 ∷ digits)
@@ -321,20 +321,20 @@ module _ (text host digits : List ℕ) (parts : text ≡ host ++ 58 ∷ digits)
       last_mark 58 h.0 h.1 host digits (sym h.2 ∙ parts) (port_no_colon h.1 port h.4) last in
       (b, refl, subst (λ t. IsHost t b) r.0 h.3, subst (λ t. IsPort t port) r.1 h.4)
 
-  pub no_host_found : Finds IsHost host None → Finds IsPlaceOf text None
+  pub no_host_found : Finds IsHost host None → Finds SpellsPlace text None
   no_host_found hosts =
-      missed IsPlaceOf text
+      missed SpellsPlace text
       (λ x h. let r = at_colon x.0 x.1 h in not_none r.0 (sym ((hosts r.0).0 r.2)))
 
-  pub no_port_found : Finds IsPort digits None → Finds IsPlaceOf text None
+  pub no_port_found : Finds IsPort digits None → Finds SpellsPlace text None
   no_port_found ports =
-      missed IsPlaceOf text
+      missed SpellsPlace text
       (λ x h. let r = at_colon x.0 x.1 h in not_none x.1 (sym ((ports x.1).0 r.3)))
 
   pub both_found : (a : IpAddr) (port : ℕ) → Finds IsHost host (Some a)
-      → Finds IsPort digits (Some port) → Finds IsPlaceOf text (Some (Some a, port))
+      → Finds IsPort digits (Some port) → Finds SpellsPlace text (Some (Some a, port))
   both_found a port hosts ports =
-      found IsPlaceOf text (place_of_once text) (Some a, port)
+      found SpellsPlace text (place_of_once text) (Some a, port)
       (host, digits, parts, (hosts a).1 refl, (ports port).1 refl)
 
 -- ---- places with their sources
@@ -343,7 +343,7 @@ abbrev IsNoAngle : ℕ → Type 0
 IsNoAngle = IsOther 62
 
 source_once : (text : List ℕ) (s t : Option IpAddr) (p q : Option IpAddr × ℕ)
-    → IsSourceText text s p → IsSourceText text t q → (s ≡ t) × (p ≡ q)
+    → SpellsSource text s p → SpellsSource text t q → (s ≡ t) × (p ≡ q)
 source_once text None None p q h k = (refl, place_of_once text p q h k)
 source_once text None (Some t) p q h k =
     absurd (mark_in 62 k.0 k.1 (subst (All IsNoAngle) k.2 (place_unmarked 62 angle text p.0 p.1 h)))
@@ -354,40 +354,40 @@ source_once text (Some s) (Some t) p q h k =
     last_mark 62 h.0 h.1 k.0 k.1 (sym h.2 ∙ k.2) (place_unmarked 62 angle h.1 p.0 p.1 h.4)
     (place_unmarked 62 angle k.1 q.0 q.1 k.4) in (
       ap Some (host_once h.0 s t h.3 (subst (λ x. IsHost x t) (sym r.0) k.3)),
-      place_of_once h.1 p q h.4 (subst (λ x. IsPlaceOf x q) (sym r.1) k.4),
+      place_of_once h.1 p q h.4 (subst (λ x. SpellsPlace x q) (sym r.1) k.4),
     )
 
 -- a place, and its source if that is named
 abbrev TwoEnds : Type 0
 TwoEnds = Option IpAddr × (Option IpAddr × ℕ)
 
-pub ends_once : (text : List ℕ) (x y : TwoEnds) → IsSourceOf text x → IsSourceOf text y → x ≡ y
+pub ends_once : (text : List ℕ) (x y : TwoEnds) → SpellsEnds text x → SpellsEnds text y → x ≡ y
 ends_once text x y h k =
     let r = source_once text x.0 y.0 x.1 y.1 h k in λ i. (r.0 i, r.1 i)
 
 -- a text without > names no source
 no_source : (text : List ℕ) (s : Option IpAddr) (p : Option IpAddr × ℕ) → All IsNoAngle text
-    → IsSourceText text s p → (s ≡ None) × IsPlaceOf text p
+    → SpellsSource text s p → (s ≡ None) × SpellsPlace text p
 no_source text None p none h = (refl, h)
 no_source text (Some s) p none h =
     absurd (mark_in 62 h.0 h.1 (subst (All IsNoAngle) h.2 none))
 
-pub no_place_alone : (text : List ℕ) → All IsNoAngle text → Finds IsPlaceOf text None
-    → Finds IsSourceOf text None
+pub no_place_alone : (text : List ℕ) → All IsNoAngle text → Finds SpellsPlace text None
+    → Finds SpellsEnds text None
 no_place_alone text none places =
-    missed IsSourceOf text
+    missed SpellsEnds text
     (λ x h. not_none x.1 (sym ((places x.1).0 (no_source text x.0 x.1 none h).1)))
 
-pub place_alone : (text : List ℕ) (p : Option IpAddr × ℕ) → Finds IsPlaceOf text (Some p)
-    → Finds IsSourceOf text (Some (None, p))
+pub place_alone : (text : List ℕ) (p : Option IpAddr × ℕ) → Finds SpellsPlace text (Some p)
+    → Finds SpellsEnds text (Some (None, p))
 place_alone text p places =
-    found IsSourceOf text (ends_once text) (None, p) ((places p).1 refl)
+    found SpellsEnds text (ends_once text) (None, p) ((places p).1 refl)
 
 -- of a text with >, behind whose last one stands a place
 module _ (text host rest : List ℕ) (parts : text ≡ host ++ 62 ∷ rest)
     (last : All IsNoAngle rest) where
-  at_angle : (s : Option IpAddr) (p : Option IpAddr × ℕ) → IsSourceText text s p
-      → (a : IpAddr) × (s ≡ Some a) × IsHost host a × IsPlaceOf rest p
+  at_angle : (s : Option IpAddr) (p : Option IpAddr × ℕ) → SpellsSource text s p
+      → (a : IpAddr) × (s ≡ Some a) × IsHost host a × SpellsPlace rest p
   at_angle None p h =
       absurd (mark_in 62 host rest
       (subst (All IsNoAngle) parts (place_unmarked 62 angle text p.0 p.1 h)))
@@ -395,22 +395,22 @@ module _ (text host rest : List ℕ) (parts : text ≡ host ++ 62 ∷ rest)
       let r =
       last_mark 62 h.0 h.1 host rest (sym h.2 ∙ parts) (place_unmarked 62 angle h.1 p.0 p.1 h.4)
       last in
-      (a, refl, subst (λ t. IsHost t a) r.0 h.3, subst (λ t. IsPlaceOf t p) r.1 h.4)
+      (a, refl, subst (λ t. IsHost t a) r.0 h.3, subst (λ t. SpellsPlace t p) r.1 h.4)
 
-  pub no_source_found : Finds IsHost host None → Finds IsSourceOf text None
+  pub no_source_found : Finds IsHost host None → Finds SpellsEnds text None
   no_source_found hosts =
-      missed IsSourceOf text
+      missed SpellsEnds text
       (λ x h. let r = at_angle x.0 x.1 h in not_none r.0 (sym ((hosts r.0).0 r.2)))
 
-  pub no_place_found : Finds IsPlaceOf rest None → Finds IsSourceOf text None
+  pub no_place_found : Finds SpellsPlace rest None → Finds SpellsEnds text None
   no_place_found places =
-      missed IsSourceOf text
+      missed SpellsEnds text
       (λ x h. not_none x.1 (sym ((places x.1).0 (at_angle x.0 x.1 h).3)))
 
   pub source_found : (a : IpAddr) (p : Option IpAddr × ℕ) → Finds IsHost host (Some a)
-      → Finds IsPlaceOf rest (Some p) → Finds IsSourceOf text (Some (Some a, p))
+      → Finds SpellsPlace rest (Some p) → Finds SpellsEnds text (Some (Some a, p))
   source_found a p hosts places =
-      found IsSourceOf text (ends_once text) (Some a, p)
+      found SpellsEnds text (ends_once text) (Some a, p)
       (host, rest, parts, (hosts a).1 refl, (places p).1 refl)
 
 -- ---- flows
@@ -418,7 +418,7 @@ module _ (text host rest : List ℕ) (parts : text ≡ host ++ 62 ∷ rest)
 abbrev IsNoAt : ℕ → Type 0
 IsNoAt = IsOther 64
 
-source_no_at : (text : List ℕ) (s : Option IpAddr) (p : Option IpAddr × ℕ) → IsSourceText text s p
+source_no_at : (text : List ℕ) (s : Option IpAddr) (p : Option IpAddr × ℕ) → SpellsSource text s p
     → All IsNoAt text
 source_no_at text None p h = place_unmarked 64 at_sign text p.0 p.1 h
 source_no_at text (Some s) p h =
@@ -428,7 +428,7 @@ source_no_at text (Some s) p h =
     (All-append IsNoAt (codes ">") h.1 (one_other 64 62 mark)
     (place_unmarked 64 at_sign h.1 p.0 p.1 h.4)))
 
-ends_no_at : (text : List ℕ) (x : TwoEnds) → IsSourceOf text x → All IsNoAt text
+ends_no_at : (text : List ℕ) (x : TwoEnds) → SpellsEnds text x → All IsNoAt text
 ends_no_at text x h = source_no_at text x.0 x.1 h
 
 interface_once : (text : List ℕ) (m n : Option InterfaceName) (x y : TwoEnds)
@@ -442,7 +442,7 @@ interface_once text (Some m) (Some n) x y h k =
     let r =
     last_mark 64 h.0 h.1 k.0 k.1 (sym h.2 ∙ k.2) (ends_no_at h.1 x h.4) (ends_no_at k.1 y k.4) in (
       ap Some (name_once h.0 m n h.3 (subst (λ t. IsName t n) (sym r.0) k.3)),
-      ends_once h.1 x y h.4 (subst (λ t. IsSourceOf t y) (sym r.1) k.4),
+      ends_once h.1 x y h.4 (subst (λ t. SpellsEnds t y) (sym r.1) k.4),
     )
 
 abbrev ends_of : Flow → TwoEnds
@@ -464,19 +464,19 @@ flow_once text f g h k =
 
 -- a text without @ names no interface
 no_interface : (text : List ℕ) (n : Option InterfaceName) (x : TwoEnds) → All IsNoAt text
-    → IsInterfaceText text n x → (n ≡ None) × IsSourceOf text x
+    → IsInterfaceText text n x → (n ≡ None) × SpellsEnds text x
 no_interface text None x none h = (refl, h)
 no_interface text (Some n) x none h =
     absurd (mark_in 64 h.0 h.1 (subst (All IsNoAt) h.2 none))
 
-pub no_ends_alone : (text : List ℕ) → All IsNoAt text → Finds IsSourceOf text None
+pub no_ends_alone : (text : List ℕ) → All IsNoAt text → Finds SpellsEnds text None
     → Finds IsFlowText text None
 no_ends_alone text none ends =
     missed IsFlowText text
     (λ f h. let x : TwoEnds = ends_of f in
     not_none x (sym ((ends x).0 (no_interface text f.interface x none h).1)))
 
-pub ends_alone : (text : List ℕ) (x : TwoEnds) → Finds IsSourceOf text (Some x)
+pub ends_alone : (text : List ℕ) (x : TwoEnds) → Finds SpellsEnds text (Some x)
     → Finds IsFlowText text (Some (flow_by None x))
 ends_alone text x ends =
     found IsFlowText text (flow_once text) (flow_by None x) ((ends x).1 refl)
@@ -485,13 +485,13 @@ ends_alone text x ends =
 module _ (text name rest : List ℕ) (parts : text ≡ name ++ 64 ∷ rest)
     (last : All IsNoAt rest) where
   behind_at : (n : Option InterfaceName) (x : TwoEnds) → IsInterfaceText text n x
-      → (m : InterfaceName) × (n ≡ Some m) × IsName name m × IsSourceOf rest x
+      → (m : InterfaceName) × (n ≡ Some m) × IsName name m × SpellsEnds rest x
   behind_at None x h =
       absurd (mark_in 64 name rest (subst (All IsNoAt) parts (ends_no_at text x h)))
   behind_at (Some m) x h =
       let r =
       last_mark 64 h.0 h.1 name rest (sym h.2 ∙ parts) (ends_no_at h.1 x h.4) last in
-      (m, refl, subst (λ t. IsName t m) r.0 h.3, subst (λ t. IsSourceOf t x) r.1 h.4)
+      (m, refl, subst (λ t. IsName t m) r.0 h.3, subst (λ t. SpellsEnds t x) r.1 h.4)
 
   pub no_interface_found : Finds IsName name None → Finds IsFlowText text None
   no_interface_found names =
@@ -499,14 +499,14 @@ module _ (text name rest : List ℕ) (parts : text ≡ name ++ 64 ∷ rest)
       (λ f h. let r = behind_at f.interface (ends_of f) h in
       not_none r.0 (sym ((names r.0).0 r.2)))
 
-  pub no_ends_found : Finds IsSourceOf rest None → Finds IsFlowText text None
+  pub no_ends_found : Finds SpellsEnds rest None → Finds IsFlowText text None
   no_ends_found ends =
       missed IsFlowText text
       (λ f h. let x : TwoEnds = ends_of f in
       not_none x (sym ((ends x).0 (behind_at f.interface x h).3)))
 
   pub interface_found : (n : InterfaceName) (x : TwoEnds) → Finds IsName name (Some n)
-      → Finds IsSourceOf rest (Some x) → Finds IsFlowText text (Some (flow_by (Some n) x))
+      → Finds SpellsEnds rest (Some x) → Finds IsFlowText text (Some (flow_by (Some n) x))
   interface_found n x names ends =
       found IsFlowText text (flow_once text) (flow_by (Some n) x)
       (name, rest, parts, (names n).1 refl, (ends x).1 refl)
@@ -573,7 +573,7 @@ place_again (Some a) port h small = (
 source_again : (s a : Option IpAddr) (port : ℕ)
     → IfSome s (λ ip. MatchIp ip IsIpv4Addr IsIpv6Addr)
     → IsPlaceText (place_text a port) a port
-    → IsSourceText (source_text s ++ place_text a port) s (a, port)
+    → SpellsSource (source_text s ++ place_text a port) s (a, port)
 source_again None a port h place = place
 source_again (Some s) a port h place = (
   host_text s,
@@ -584,7 +584,7 @@ source_again (Some s) a port h place = (
 )
 
 interface_again : (n : Option InterfaceName) (rest : List ℕ) (x : TwoEnds)
-    → IfSome n IsInterfaceName → IsSourceOf rest x
+    → IfSome n IsInterfaceName → SpellsEnds rest x
     → IsInterfaceText (interface_text n ++ rest) n x
 interface_again None rest x h ends = ends
 interface_again (Some n) rest x h ends = (

@@ -29,27 +29,27 @@ IsPlaceText text (Some a) port =
     × IsPort digits port
 
 -- a text spells this destination: the address, where there is one, and the port
-abbrev pub IsPlaceOf : List ℕ → Option IpAddr × ℕ → Type 0
-IsPlaceOf text place = IsPlaceText text place.0 place.1
+abbrev pub SpellsPlace : List ℕ → Option IpAddr × ℕ → Type 0
+SpellsPlace text place = IsPlaceText text place.0 place.1
 
 -- and where they come from, where it names that (own)
-abbrev pub IsSourceText : List ℕ → Option IpAddr → Option IpAddr × ℕ → Type 0
-IsSourceText text None place = IsPlaceOf text place
-IsSourceText text (Some a) place =
+abbrev pub SpellsSource : List ℕ → Option IpAddr → Option IpAddr × ℕ → Type 0
+SpellsSource text None place = SpellsPlace text place
+SpellsSource text (Some a) place =
     (host rest : List ℕ) × (text ≡ host ++ (codes ">" ++ rest)) × IsHost host a
-    × IsPlaceOf rest place
+    × SpellsPlace rest place
 
 -- a text spells these ends: the source, where there is one, and the destination
-abbrev pub IsSourceOf : List ℕ → Option IpAddr × (Option IpAddr × ℕ) → Type 0
-IsSourceOf text ends = IsSourceText text ends.0 ends.1
+abbrev pub SpellsEnds : List ℕ → Option IpAddr × (Option IpAddr × ℕ) → Type 0
+SpellsEnds text ends = SpellsSource text ends.0 ends.1
 
 -- and the interface that they are taken at, where it names that (own)
 abbrev pub IsInterfaceText : List ℕ → Option InterfaceName
     → Option IpAddr × (Option IpAddr × ℕ) → Type 0
-IsInterfaceText text None ends = IsSourceOf text ends
+IsInterfaceText text None ends = SpellsEnds text ends
 IsInterfaceText text (Some n) ends =
     (name rest : List ℕ) × (text ≡ name ++ (codes "@" ++ rest)) × IsName name n
-    × IsSourceOf rest ends
+    × SpellsEnds rest ends
 
 -- a text spells a flow: interface, source and address, each where it names one, and a port
 abbrev pub IsFlowText : List ℕ → Flow → Type 0

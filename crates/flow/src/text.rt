@@ -1,8 +1,8 @@
 //! Flows as texts.
 ghost use Rattle.std.specs.Prelude.{◌≡◌, ◌↔◌, ◌∷◌, ◌++◌, ℕ, All, List, MatchOption, Some, codes};
 ghost use Rattle.std.specs.Option.{option_copied};
-ghost use Rattle.flow.specs.FlowText.{Finds, IsFlowText, IsHost, IsOther, IsPlaceOf, IsPort};
-ghost use Rattle.flow.specs.FlowText.{IsSourceOf, ends_text, flow_text, host_text};
+ghost use Rattle.flow.specs.FlowText.{Finds, IsFlowText, IsHost, IsOther, IsPort, SpellsPlace};
+ghost use Rattle.flow.specs.FlowText.{SpellsEnds, ends_text, flow_text, host_text};
 
 use crate::flows::Flow;
 use interface_name::InterfaceName;
@@ -60,7 +60,7 @@ fn split_at_last(text: &[u8], mark: u8) -> Option<(&[u8], &[u8])>
 
 /// Where datagrams are sent to: a port, or an address, a colon and a port.
 fn read_place(text: &[u8]) -> Option<(Option<IpAddr>, u16)>
-    ensures { Finds IsPlaceOf text.now result }
+    ensures { Finds SpellsPlace text.now result }
 {
     match split_at_last(text, b':') {
         Some((host, port)) => {
@@ -78,7 +78,7 @@ fn read_place(text: &[u8]) -> Option<(Option<IpAddr>, u16)>
 /// Where datagrams come from, if that is named, and where they are sent to: a place, or an address,
 /// a `>` and a place.
 fn read_ends(text: &[u8]) -> Option<(Option<IpAddr>, (Option<IpAddr>, u16))>
-    ensures { Finds IsSourceOf text.now result }
+    ensures { Finds SpellsEnds text.now result }
 {
     match split_at_last(text, b'>') {
         Some((host, rest)) => {

@@ -25,7 +25,7 @@ use Rattle.following.specs.Standing.{standing_near}
 use Rattle.following.specs.Follower.{AreRising, Following, IsFollower, brought_in, joined, read_in}
 use Rattle.following.specs.Follower.{reading_of, standing_of, state_after, taken_in}
 use Rattle.following.specs.Follower.{without_oldest}
-use Rattle.following.specs.Since.{CameSince, IsFrameOf}
+use Rattle.following.specs.Since.{CameSince, IsFrameAt}
 use Rattle.following.specs.Times.{frame_of}
 use Rattle.following.proofs.FrameLemmas.{blank_is, frame_both, joins_none}
 use Rattle.following.proofs.Kept.{follower_brought, within_window, comes_to}
@@ -113,8 +113,8 @@ frame_at-same t (x ∷ w) (r ∷ rs) (suc p) q out e le =
 -- ---- what came
 
 more_if : (r : Option Raster) (o : Opening) (ds : List (List ℕ)) (octets : List ℕ) (ts : ℕ)
-    → (q : Raster) → r ≡ Some q → IsFrameOf r o ds ts
-    → IsFrameOf (joined_if r (frame_of o (octets ∷ []) ts)) o (ds ++ octets ∷ []) ts
+    → (q : Raster) → r ≡ Some q → IsFrameAt r o ds ts
+    → IsFrameAt (joined_if r (frame_of o (octets ∷ []) ts)) o (ds ++ octets ∷ []) ts
 more_if None o ds octets ts q some is = absurd cc
 more_if (Some r) o ds octets ts q some is =
     ap (λ (x : Raster). joined_rasters x (frame_of o (octets ∷ []) ts)) is
@@ -137,7 +137,7 @@ some_frame (t ∷ w) (r ∷ rs) ts e m =
 
 -- the window tells nothing of a frame
 other_window : (r : Option Raster) (o : Opening) (w : List ℕ) (ds : List (List ℕ)) (ts : ℕ)
-    → IsFrameOf r o ds ts → IsFrameOf r (with_window o w) ds ts
+    → IsFrameAt r o ds ts → IsFrameAt r (with_window o w) ds ts
 other_window None o w ds ts is = is
 other_window (Some r) o w ds ts is = is
 
@@ -148,13 +148,13 @@ since_joined : (s : Following) (octets : List ℕ) (ts : ℕ) (ds : List (List �
 since_joined s octets ts ds one m came =
     let o : Opening = s.opening in
     let k = some_frame o.window s.frames ts one m in
-    subst (λ (r : Option Raster). IsFrameOf r o (ds ++ octets ∷ []) ts)
+    subst (λ (r : Option Raster). IsFrameAt r o (ds ++ octets ∷ []) ts)
     (sym (frame_at-joined (frame_of o (octets ∷ [])) o.window s.frames ts one))
     (more_if (frame_at o.window s.frames ts) o ds octets ts k.0 k.1 came)
 
 -- a datagram of another timestamp, or none, adds nothing
 same_if : (r : Option Raster) (o : Opening) (ds es : List (List ℕ)) (ts : ℕ) (q : Raster)
-    → r ≡ Some q → frame_of o ds ts ≡ frame_of o es ts → IsFrameOf r o ds ts → IsFrameOf r o es ts
+    → r ≡ Some q → frame_of o ds ts ≡ frame_of o es ts → IsFrameAt r o ds ts → IsFrameAt r o es ts
 same_if None o ds es ts q some e is = absurd cc
 same_if (Some r) o ds es ts q some e is = is ∙ e
 
@@ -182,7 +182,7 @@ different_insert t (x ∷ w) (suc p) le h (inr m) =
     different_insert t w p (omega (arith, le)) h.1 m
 
 none_if : (r : Option Raster) (o : Opening) (ds : List (List ℕ)) (ts : ℕ) → r ≡ None
-    → IsFrameOf r o ds ts → ds ≡ []
+    → IsFrameAt r o ds ts → ds ≡ []
 none_if None o ds ts e is = is
 none_if (Some r) o ds ts e is = absurd cc
 
@@ -202,14 +202,14 @@ since_brought s place t ts ds is h (inl e) came =
     (frame_none ts w s.frames (λ m. out (subst (λ (y : ℕ). IsMember y w) e m))) came in
     let q : Raster = blank o.format in
     subst (λ (y : ℕ). CameSince (brought_in s place t) y ds) (sym e)
-    (subst (λ (r : Option Raster). IsFrameOf r (with_window o (insert w place t)) ds t)
+    (subst (λ (r : Option Raster). IsFrameAt r (with_window o (insert w place t)) ds t)
     (sym (frame_at-same t w s.frames place q out is.one_each le))
     (subst (λ (es : List (List ℕ)). q ≡ frame_of o es t) (sym nothing) (sym (blank_is o.format t))))
 since_brought s place t ts ds is h (inr ne) came =
     let w : List ℕ = s.opening.window in
     let le : place ≤ length w =
     within_window w s.gone s.size t place (comes_to s place t h) in
-    subst (λ (r : Option Raster). IsFrameOf r (with_window s.opening (insert w place t)) ds ts)
+    subst (λ (r : Option Raster). IsFrameAt r (with_window s.opening (insert w place t)) ds ts)
     (sym (frame_at-other t ts w s.frames place (blank s.opening.format) ne is.one_each le))
     (other_window (frame_at w s.frames ts) s.opening (insert w place t) ds ts came)
 
@@ -296,7 +296,7 @@ frame_first (t ∷ w) (q ∷ rs) first r e f =
     ap (chosen q w rs first) (eq-eqb first t same) ∙ ap (λ (x : Raster). Some x) is
 
 is_frame : (r : Option Raster) (o : Opening) (ds : List (List ℕ)) (ts : ℕ) (q : Raster)
-    → r ≡ Some q → IsFrameOf r o ds ts → q ≡ frame_of o ds ts
+    → r ≡ Some q → IsFrameAt r o ds ts → q ≡ frame_of o ds ts
 is_frame None o ds ts q e is = absurd cc
 is_frame (Some r) o ds ts q e is = let same : r ≡ q = cc in sym same ∙ is
 
@@ -323,7 +323,7 @@ pub since_kept : (s t : Following) → IsFollower s → t ≡ without_oldest s �
 since_kept s t is same ts ds came m =
     let w : List ℕ = s.opening.window in
     subst (λ (u : Following). CameSince u ts ds) (sym same)
-    (subst (λ (r : Option Raster). IsFrameOf r (with_window s.opening (drop 1 w)) ds ts)
+    (subst (λ (r : Option Raster). IsFrameAt r (with_window s.opening (drop 1 w)) ds ts)
     (sym (rest_at w s.frames ts (different w (rising_in s.gone w is.rising)) is.one_each
     (subst (λ (u : Following). IsMember ts u.opening.window) same m)))
     (other_window (frame_at w s.frames ts) s.opening (drop 1 w) ds ts came))

@@ -7,12 +7,12 @@ use Rattle.following.specs.Follower.{Following}
 use Rattle.following.specs.Times.{frame_of}
 
 -- A frame, if it is in, is the Frames at this timestamp of these datagrams; else there are none.
-abbrev pub IsFrameOf : Option Raster → Opening → List (List ℕ) → ℕ → Type 0
-IsFrameOf None o datagrams timestamp = datagrams ≡ []
-IsFrameOf (Some r) o datagrams timestamp = r ≡ frame_of o datagrams timestamp
+abbrev pub IsFrameAt : Option Raster → Opening → List (List ℕ) → ℕ → Type 0
+IsFrameAt None o datagrams timestamp = datagrams ≡ []
+IsFrameAt (Some r) o datagrams timestamp = r ≡ frame_of o datagrams timestamp
 
 -- A timestamp's frame is the Frames of these datagrams; where it isn't in, there are none. So it is
 -- of those that were taken since it came in.
 abbrev pub CameSince : Following → ℕ → List (List ℕ) → Type 0
 CameSince s timestamp datagrams =
-    IsFrameOf (frame_at s.opening.window s.frames timestamp) s.opening datagrams timestamp
+    IsFrameAt (frame_at s.opening.window s.frames timestamp) s.opening datagrams timestamp

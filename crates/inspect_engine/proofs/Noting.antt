@@ -11,9 +11,10 @@ use Rattle.recording_counts.specs.FlowCounts.{flow_counts}
 use Rattle.recording_counts.specs.Flows.{Arrival}
 use Rattle.pcap_file.specs.Fields.{IfContent}
 use Rattle.pcap_file.specs.PcapReading.{Recorded}
-use Rattle.pcap_file.specs.Runs.{HasFailed, HasRead, HasReadAll, ReadsEnd, ReadsFault, ReadsPacket}
+use Rattle.pcap_file.specs.Runs.{HasFailed, HasRead, HasReadAll, ReadsFault, ReadsPacket}
+use Rattle.pcap_file.specs.Runs.{ReadsToEnd}
 use Rattle.pcap_file.specs.Runs.{Seen, fault_in, packets_in}
-use Rattle.pcap_file.specs.Ip.{IsPacket, Packet}
+use Rattle.pcap_file.specs.Ip.{IsUdpPacket, Packet}
 use Rattle.pcap_file.specs.Udp.{Datagram}
 use Rattle.pcap_file.specs.declared.link.IpVersion.{IpVersion}
 use Rattle.pcap_file.specs.declared.link.IpVersion.TheVariants.{V4, V6}
@@ -101,7 +102,7 @@ notes_reason p reason old new e same left_out = record {
 }
 
 -- the address of a datagram
-address_of : (version : IpVersion) (octets : List ℕ) (p : Packet) → IsPacket version octets p
+address_of : (version : IpVersion) (octets : List ℕ) (p : Packet) → IsUdpPacket version octets p
     → IsAddress p.destination
 address_of V4 octets p is =
     inl (ap length is.destination ∙ four is.header is.counted)
@@ -160,7 +161,7 @@ going_on room start mid seen read was now old table new p g reads noted = record
 
 pub going_all : {A : Type 0} (room : ℕ) (start mid : Seen) (read was now : List ℕ)
     (ended : Type 0) (old new : Inspection A) → Going room start mid read was old new
-    → ReadsEnd room was now ended mid → NotesBehind room start read now ended None old new
+    → ReadsToEnd room was now ended mid → NotesBehind room start read now ended None old new
 going_all room start mid read was now ended old new g reads = record {
   packets = g.packets;
   noted = g.noted;

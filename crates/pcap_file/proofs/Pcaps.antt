@@ -13,7 +13,7 @@ use Rattle.pcap_file.specs.declared.order.ByteOrder.{ByteOrder}
 use Rattle.pcap_file.specs.declared.order.ByteOrder.TheVariants.{Big, Little}
 use Rattle.pcap_file.specs.declared.pcap.PcapHead.{PcapHead}
 use Rattle.pcap_file.specs.Orders.{long_at, short_at}
-use Rattle.pcap_file.specs.Pcap.{IsBadMagic, IsBadVersion, IsPacked, LacksMagic, gzip_number}
+use Rattle.pcap_file.specs.Pcap.{IsBadMagic, IsBadVersion, IsGzipped, LacksMagic, gzip_number}
 use Rattle.pcap_file.specs.Pcap.{is_packed, magic_number, magic_of, pcap_head_by, pcap_head_of}
 
 abbrev micro : ℕ
@@ -206,7 +206,7 @@ is_bad_magic o = (
 )
 
 packed_by : (o : List ℕ) (k : Option Kind) → Says o k → pcap_head_by k o ≡ bad Packed
-    → IsPacked o
+    → IsGzipped o
 packed_by o None s e =
     record {
       lacks = s;
@@ -215,7 +215,7 @@ packed_by o None s e =
 packed_by o (Some x) s e =
     absurd (version_not (other_version x o) (head_of x o) Packed version_packed e)
 
-pub packed_is : (o : List ℕ) → (pcap_head_of o ≡ Err Packed) ↔ IsPacked o
+pub packed_is : (o : List ℕ) → (pcap_head_of o ≡ Err Packed) ↔ IsGzipped o
 packed_is o = (
   λ e. packed_by o (magic_of o) (says o) e,
   λ is. ap (λ (k : Option Kind). pcap_head_by k o) (none_magic o is.lacks)

@@ -15,7 +15,7 @@ use Rattle.pcap_file.specs.declared.pcap.PcapHead.{PcapHead}
 use Rattle.pcap_file.specs.Orders.{long_at}
 use Rattle.pcap_file.specs.Fields.{field_at}
 use Rattle.st_format.specs.Given.{field_by}
-use Rattle.pcap_file.specs.Pcap.{IsRecordHead, record_head_of, unit_of}
+use Rattle.pcap_file.specs.Pcap.{IsPacketHead, record_head_of, unit_of}
 use Rattle.pcap_file.specs.PcapReading.{IsRecord, Recorded, head_at, head_by, octets_at}
 use Rattle.pcap_file.specs.PcapReading.{packet_behind, record_at}
 use Rattle.pcap_file.proofs.Packets.{head, same_head}
@@ -82,7 +82,7 @@ cuts n o xs rest h = cuts_at n o xs rest (ltb (length o) n) refl h
 
 -- ---- the head of a record
 
-head_is : (file : PcapHead) (front : List ℕ) (p : PacketHead) → IsRecordHead file front p
+head_is : (file : PcapHead) (front : List ℕ) (p : PacketHead) → IsPacketHead file front p
     → record_head_of file front ≡ p
 head_is file front p is =
     let time : Option ℕ = Some
@@ -92,7 +92,7 @@ head_is file front p is =
     p.link p.captured p.original None p.interface (sym is.time) (sym is.link) (sym is.captured)
     (sym is.original) (sym is.unnamed)
 
-is_head : (file : PcapHead) (front : List ℕ) → IsRecordHead file front (record_head_of file front)
+is_head : (file : PcapHead) (front : List ℕ) → IsPacketHead file front (record_head_of file front)
 is_head file front =
     record { time = refl; link = refl; captured = refl; original = refl; unnamed = refl }
 
@@ -145,7 +145,7 @@ record_again room file text rest p is fits =
 record Begun (file : PcapHead) (o : List ℕ) (h : PacketHead) (rest : List ℕ) : Type 0 where
   front : List ℕ
   count : length front ≡ 16
-  is : IsRecordHead file front h
+  is : IsPacketHead file front h
   parts : o ≡ front ++ rest
 
 same_heads : (a b : Option PacketHead × List ℕ) → heads a ≡ heads b → a ≡ b
@@ -179,7 +179,7 @@ begun file (x ∷ xs) h rest read =
     record {
       front = b.0.0;
       count = c.count;
-      is = subst (IsRecordHead file b.0.0) head_same (is_head file b.0.0);
+      is = subst (IsPacketHead file b.0.0) head_same (is_head file b.0.0);
       parts = c.parts ∙ ap (λ (y : List ℕ). b.0.0 ++ y) rest_same;
     }
 

@@ -13,7 +13,7 @@ use Rattle.pcap_file.specs.Fields.{Fails, GaveFault, IfContent, recording_fault_
 use Rattle.st_format.specs.Given.{GaveValue, GaveWhole, Takes}
 use Rattle.pcap_file.specs.NgSteps.{GaveStep, Known, Stepped, recorded_at, step_at, step_seen}
 use Rattle.pcap_file.specs.PcapReading.{Recorded, record_at, recorded_in}
-use Rattle.pcap_file.specs.Runs.{HasFailed, HasRead, HasReadAll, InBlocks, InPcap, Laid, ReadsEnd}
+use Rattle.pcap_file.specs.Runs.{HasFailed, HasRead, HasReadAll, InBlocks, InPcap, Laid, ReadsToEnd}
 use Rattle.pcap_file.specs.Runs.{ReadsFault, ReadsOn, ReadsPacket, ReadsStep, Run, Seen}
 use Rattle.pcap_file.specs.Runs.{fault_behind}
 use Rattle.pcap_file.specs.Runs.{fault_in, in_blocks, in_pcap, laid_step, layout_seen, led_by}
@@ -215,7 +215,7 @@ reads_too_many m room laid a b ended is same = λ before packets h.
 
 reads_end : (m n room : ℕ) (laid next : Laid) (a b : List ℕ) (ended : Type 0) → m ≡ suc n
     → GaveWhole (laid_step room laid) a b ended (next, None)
-    → ReadsEnd room a b ended (seen_as laid m)
+    → ReadsToEnd room a b ended (seen_as laid m)
 reads_end m n room laid next a b ended is g = λ before packets h.
     has_ended n room laid next before a b ended packets
     (subst (λ (k : ℕ). HasRead room before a (seen_as laid k) packets) is h) g
@@ -262,7 +262,7 @@ module _ (room : ℕ) (file : PcapHead) where
 
   pub pcap_ends : (m n : ℕ) (a b : List ℕ) (ended : Type 0) → m ≡ suc n
       → GaveWhole (record_at room file) a b ended None
-      → ReadsEnd room a b ended (in_pcap file m)
+      → ReadsToEnd room a b ended (in_pcap file m)
   pcap_ends m n a b ended is g =
       reads_end m n room (InPcap file) (InPcap file) a b ended is
       (whole_one (record_at room file) (laid_step room (InPcap file)) None (in_file None) a b

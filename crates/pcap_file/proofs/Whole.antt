@@ -6,7 +6,7 @@ use Rattle.pcap_file.specs.declared.link.IpVersion.{IpVersion}
 use Rattle.pcap_file.specs.declared.link.IpVersion.TheVariants.{V4, V6}
 use Rattle.pcap_file.specs.declared.link.Link.{Link}
 use Rattle.pcap_file.specs.Link.{IsLinked}
-use Rattle.pcap_file.specs.Ip.{IsPacket, Packet}
+use Rattle.pcap_file.specs.Ip.{IsUdpPacket, Packet}
 use Rattle.pcap_file.specs.Udp.{Datagram, IsUdp}
 use Rattle.pcap_file.specs.Datagram.{IsDatagram}
 use Rattle.pcap_file.specs.Reading.{datagram_walk, link_at, packet_at, udp_at}
@@ -18,7 +18,7 @@ use Rattle.pcap_file.proofs.Packets6.{exact_6}
 use Rattle.pcap_file.proofs.Udps.{exact_udp}
 
 pub packet_exact : (version : IpVersion) (o : List ℕ)
-    → Exact (packet_at version o) (IsPacket version o) (IsNoPacket version o)
+    → Exact (packet_at version o) (IsUdpPacket version o) (IsNoPacket version o)
 packet_exact V4 o = exact_4 o
 packet_exact V6 o = exact_6 o
 
@@ -27,15 +27,15 @@ Linked = IpVersion × List ℕ
 
 -- behind a link layer, an IP packet and what it carries
 abbrev InPacket : Linked → Datagram → Type 0
-InPacket x d = (p : Packet) × IsPacket x.0 x.1 p × IsUdp p d
+InPacket x d = (p : Packet) × IsUdpPacket x.0 x.1 p × IsUdp p d
 
 abbrev NotInPacket : Linked → NoDatagram → Type 0
 NotInPacket x e =
-    IsNoPacket x.0 x.1 e ⊎ ((p : Packet) × IsPacket x.0 x.1 p × IsNoUdp p.carried e)
+    IsNoPacket x.0 x.1 e ⊎ ((p : Packet) × IsUdpPacket x.0 x.1 p × IsNoUdp p.carried e)
 
 inner : (x : Linked) → Exact (packet_at x.0 x.1 >>= λ p. udp_at p) (InPacket x) (NotInPacket x)
 inner x =
-    exact_then (packet_at x.0 x.1) (λ p. udp_at p) (IsPacket x.0 x.1) (IsNoPacket x.0 x.1)
+    exact_then (packet_at x.0 x.1) (λ p. udp_at p) (IsUdpPacket x.0 x.1) (IsNoPacket x.0 x.1)
     (λ (p : Packet). IsUdp p) (λ (p : Packet). IsNoUdp p.carried) (packet_exact x.0 x.1)
     (λ p. exact_udp p)
 

@@ -16,7 +16,7 @@ use Rattle.pcap_file.specs.Fields.{field_at}
 use Rattle.st_format.specs.Given.{with_rest}
 use Rattle.pcap_file.specs.Pcap.{IsPcapHead, magic_number, magic_of, pcap_head_by, pcap_head_of}
 use Rattle.pcap_file.specs.Pcap.{record_head_of}
-use Rattle.pcap_file.specs.PcapReading.{AreRecords, GivesPcap, GivesRecords, HaveRoom, IsPcap}
+use Rattle.pcap_file.specs.PcapReading.{AreRecords, GivesPackets, GivesPcap, HaveRoom, IsPcap}
 use Rattle.pcap_file.specs.PcapReading.{Recorded, head_at, head_by, octets_at, packet_behind}
 use Rattle.pcap_file.specs.PcapReading.{pcap_at, record_at}
 use Rattle.pcap_file.proofs.Pcaps.{Kind, Says, head_if, head_of, says, some_magic}
@@ -149,7 +149,7 @@ ends room file (x ∷ xs) rest e =
     absurd (begun room file d.0.0 d.0.1 rest b.0 d.2 b.2)
 
 pub records_again : (room : ℕ) (file : PcapHead) (o : List ℕ) (ps : List Recorded)
-    → AreRecords file o ps → HaveRoom room ps → GivesRecords room file o ps
+    → AreRecords file o ps → HaveRoom room ps → GivesPackets room file o ps
 records_again room file o [] is fits =
     ap (record_at room file) is ∙ end_at room file
 records_again room file o (p ∷ ps) is fits =
@@ -160,7 +160,7 @@ records_again room file o (p ∷ ps) is fits =
     )
 
 pub records_take : (room : ℕ) (file : PcapHead) (o : List ℕ) (ps : List Recorded)
-    → GivesRecords room file o ps → AreRecords file o ps
+    → GivesPackets room file o ps → AreRecords file o ps
 records_take room file o [] read = ends room file o [] read
 records_take room file o (p ∷ ps) read =
     let t = record_takes room file o p read.0 read.1 in

@@ -19,7 +19,7 @@ use Rattle.pcap_file.specs.Blocks.{IsBlock, IsSectionBlock, most_octets}
 use Rattle.pcap_file.specs.Fields.{field_at}
 use Rattle.pcap_file.specs.NgSteps.{Known, Stepped, first_at, fresh, section_type, step_at}
 use Rattle.pcap_file.specs.Pcap.{magic_number, magic_of}
-use Rattle.pcap_file.specs.PcapReading.{AreRecords, GivesPcap, GivesRecords, HaveRoom, IsPcap}
+use Rattle.pcap_file.specs.PcapReading.{AreRecords, GivesPackets, GivesPcap, HaveRoom, IsPcap}
 use Rattle.pcap_file.specs.PcapReading.{Recorded, pcap_at, record_at}
 use Rattle.pcap_file.specs.Recording.{AreBlocks, GivesSteps, IsBlocks, IsNext}
 use Rattle.pcap_file.specs.Recording.{IsRecording}
@@ -50,7 +50,7 @@ pcap_step room file o rest s e =
     ap (λ (r : Records). r >>= λ x. stepping ((InPcap file, step_of x.0), x.1)) e
 
 records_run : (n room : ℕ) (file : PcapHead) (o : List ℕ) (ps : List Recorded) → length ps < n
-    → GivesRecords room file o ps → run_at n room (InPcap file) o ≡ all_of ps
+    → GivesPackets room file o ps → run_at n room (InPcap file) o ≡ all_of ps
 records_run zero room file o ps few g = absurd (omega (arith, few))
 records_run (suc n) room file o [] few g =
     run_ends n room (InPcap file) (InPcap file) o [] (pcap_step room file o [] None g)

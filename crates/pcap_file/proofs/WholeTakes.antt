@@ -14,7 +14,7 @@ use Rattle.pcap_file.specs.Orders.{long_at}
 use Rattle.pcap_file.specs.Fields.{field_at}
 use Rattle.pcap_file.specs.NgSteps.{Known, Stepped, first_at, fresh, section_type, step_at}
 use Rattle.pcap_file.specs.Pcap.{magic_of}
-use Rattle.pcap_file.specs.PcapReading.{GivesRecords, Recorded, pcap_at, record_at}
+use Rattle.pcap_file.specs.PcapReading.{GivesPackets, Recorded, pcap_at, record_at}
 use Rattle.pcap_file.specs.Recording.{AreBlocks, GivesSteps, IsRecording}
 use Rattle.pcap_file.specs.Runs.{InBlocks, InPcap, Laid, Run, blocks_begun, fault_in, laid_by}
 use Rattle.pcap_file.specs.Runs.{laid_step, led_by, most_blocks, opened_at, packets_in}
@@ -52,27 +52,27 @@ pcap_stops room file o f e =
 
 records_by : (n room : ℕ) (file : PcapHead) (o : List ℕ) (ps : List Recorded) (r : Records)
     → ((rest : List ℕ) (qs : List Recorded) → run_at n room (InPcap file) rest ≡ all_of qs
-    → GivesRecords room file rest qs)
+    → GivesPackets room file rest qs)
     → record_at room file o ≡ r → run_at (suc n) room (InPcap file) o ≡ all_of ps
-    → GivesRecords room file o ps
+    → GivesPackets room file o ps
 records_by n room file o ps (Err f) later is e =
     absurd (faulty f ps
     (sym (run_fails n room (InPcap file) o f (pcap_stops room file o f is)) ∙ e))
 records_by n room file o ps (Ok (None, rest)) later is e =
     let run =
     run_ends n room (InPcap file) (InPcap file) o rest (pcap_step room file o rest None is) in
-    subst (GivesRecords room file o) (ap (λ (r : Run). r.packets) (sym run ∙ e))
+    subst (GivesPackets room file o) (ap (λ (r : Run). r.packets) (sym run ∙ e))
     (ap (record_at room file) (ends room file o rest is) ∙ end_at room file)
 records_by n room file o ps (Ok (Some p, rest)) later is e =
     let more : Run = run_at n room (InPcap file) rest in
     let led : led_by (p ∷ []) more ≡ all_of ps =
     sym (run_passes n room (InPcap file) (InPcap file) o rest (Some p)
     (pcap_step room file o rest (Some p) is)) ∙ e in
-    subst (GivesRecords room file o) (ap (λ (r : Run). r.packets) led)
+    subst (GivesPackets room file o) (ap (λ (r : Run). r.packets) led)
     (rest, is, later rest more.packets (run_all more (ap (λ (r : Run). r.fault) led)))
 
 records_from : (n room : ℕ) (file : PcapHead) (o : List ℕ) (ps : List Recorded)
-    → run_at n room (InPcap file) o ≡ all_of ps → GivesRecords room file o ps
+    → run_at n room (InPcap file) o ≡ all_of ps → GivesPackets room file o ps
 records_from zero room file o ps e =
     absurd (faulty TooManyBlocks ps (sym (run_none room (InPcap file) o) ∙ e))
 records_from (suc n) room file o ps e =
@@ -195,7 +195,7 @@ opened o laid rest e =
 is_recording : (room : ℕ) (o rest : List ℕ) (laid : Laid) (ps : List Recorded) → AreOctets o
     → run_at most_blocks room laid rest ≡ all_of ps → Opened o laid rest → IsRecording o ps
 is_recording room o rest laid ps fit run (inl x) =
-    let gives : GivesRecords room x.0 rest ps =
+    let gives : GivesPackets room x.0 rest ps =
     records_from most_blocks room x.0 rest ps
     (ap (λ (l : Laid). run_at most_blocks room l rest) (sym x.2) ∙ run) in
     inl (pcap_takes room o ps (x.0, rest, x.1, gives))

@@ -3,7 +3,7 @@ use Rattle.std.specs.Prelude.{ℕ, List}
 use Rattle.pcap_file.specs.declared.link.IpVersion.{IpVersion}
 use Rattle.pcap_file.specs.declared.link.Link.{Link}
 use Rattle.pcap_file.specs.Link.{IsLinked}
-use Rattle.pcap_file.specs.Ip.{IsPacket, Packet}
+use Rattle.pcap_file.specs.Ip.{IsUdpPacket, Packet}
 use Rattle.pcap_file.specs.Udp.{Datagram, IsUdp}
 
 -- The octets are an IP packet behind a header of the link layer, and it carries this.
@@ -11,7 +11,7 @@ pub record HasPacket (link : Link) (octets : List ℕ) (p : Packet) : Type 0 whe
   pub version : IpVersion
   pub packet : List ℕ
   pub linked : IsLinked link octets version packet
-  pub is : IsPacket version packet p
+  pub is : IsUdpPacket version packet p
 
 -- The octets are this datagram, in an IP packet behind a header of the link layer.
 pub record IsDatagram (link : Link) (octets : List ℕ) (d : Datagram) : Type 0 where

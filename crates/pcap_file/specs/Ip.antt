@@ -118,9 +118,9 @@ pub record IsPacket6 (octets : List ℕ) (p : Packet) : Type 0 where
   pub whole : octets ≡ header ++ (payload ++ behind)
 
 -- the octets are a packet of this version that carries this for UDP
-abbrev pub IsPacket : IpVersion → List ℕ → Packet → Type 0
-IsPacket V4 octets p = IsPacket4 octets p
-IsPacket V6 octets p = IsPacket6 octets p
+abbrev pub IsUdpPacket : IpVersion → List ℕ → Packet → Type 0
+IsUdpPacket V4 octets p = IsPacket4 octets p
+IsUdpPacket V6 octets p = IsPacket6 octets p
 
 -- ---- what is no such packet
 

@@ -40,7 +40,7 @@ pub record IsBadMagic (octets : List ℕ) : Type 0 where
   pub other : short_at Big 0 octets ≢ gzip_number
 
 -- They don't, and gzip has packed them.
-pub record IsPacked (octets : List ℕ) : Type 0 where
+pub record IsGzipped (octets : List ℕ) : Type 0 where
   pub lacks : LacksMagic octets
   pub gzip : short_at Big 0 octets ≡ gzip_number
 
@@ -57,7 +57,7 @@ unit_of nanoseconds = if nanoseconds then 1 else 1000
 
 -- The 16 octets before a packet's own: seconds, the fraction of a second, how many octets were
 -- kept, and how many there were. No interface is named.
-pub record IsRecordHead (head : PcapHead) (octets : List ℕ) (p : PacketHead) : Type 0 where
+pub record IsPacketHead (head : PcapHead) (octets : List ℕ) (p : PacketHead) : Type 0 where
   pub time : p.time ≡ Some
       (long_at head.order 0 octets * 1000000000
       + long_at head.order 4 octets * unit_of head.nanoseconds)

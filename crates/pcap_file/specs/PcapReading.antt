@@ -9,7 +9,7 @@ use Rattle.pcap_file.specs.declared.pcap.PacketHead.{PacketHead}
 use Rattle.pcap_file.specs.declared.pcap.PcapHead.{PcapHead}
 use Rattle.pcap_file.specs.Fields.{field_at}
 use Rattle.st_format.specs.Given.{with_rest}
-use Rattle.pcap_file.specs.Pcap.{IsPcapHead, IsRecordHead, pcap_head_of, record_head_of}
+use Rattle.pcap_file.specs.Pcap.{IsPacketHead, IsPcapHead, pcap_head_of, record_head_of}
 
 -- ---- what a recording is
 
@@ -22,7 +22,7 @@ pub record Recorded : Type 0 where
 pub record IsRecord (file : PcapHead) (octets : List ℕ) (p : Recorded) : Type 0 where
   pub front : List ℕ
   pub front_octets : length front ≡ 16
-  pub is : IsRecordHead file front p.head
+  pub is : IsPacketHead file front p.head
   pub counted : length p.octets ≡ p.head.captured
   pub whole : octets ≡ front ++ p.octets
 
@@ -92,14 +92,14 @@ abbrev pub HaveRoom : ℕ → List Recorded → Type 0
 HaveRoom room packets = AllByRecursion (λ p. p.head.captured ≤ room) packets
 
 -- Step by step the octets give these packets, and then the end.
-abbrev pub GivesRecords : ℕ → PcapHead → List ℕ → List Recorded → Type 0
-GivesRecords room file octets [] = record_at room file octets ≡ Ok (None, [])
-GivesRecords room file octets (p ∷ ps) =
+abbrev pub GivesPackets : ℕ → PcapHead → List ℕ → List Recorded → Type 0
+GivesPackets room file octets [] = record_at room file octets ≡ Ok (None, [])
+GivesPackets room file octets (p ∷ ps) =
     (rest : List ℕ) × (record_at room file octets ≡ Ok (Some p, rest))
-    × GivesRecords room file rest ps
+    × GivesPackets room file rest ps
 
 -- The octets are read from the front to the end, and give these packets.
 abbrev pub GivesPcap : ℕ → List ℕ → List Recorded → Type 0
 GivesPcap room octets packets =
     (file : PcapHead) × (rest : List ℕ) × (pcap_at octets ≡ Ok (file, rest))
-    × GivesRecords room file rest packets
+    × GivesPackets room file rest packets

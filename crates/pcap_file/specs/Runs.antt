@@ -196,8 +196,8 @@ ReadsPacket room old new was seen p =
     → HasRead room before new seen (packets ++ p ∷ [])
 
 -- A run had read all packets of the recording, and the source has ended.
-abbrev pub ReadsEnd : ℕ → List ℕ → List ℕ → Type 0 → Seen → Type 0
-ReadsEnd room old new ended was =
+abbrev pub ReadsToEnd : ℕ → List ℕ → List ℕ → Type 0 → Seen → Type 0
+ReadsToEnd room old new ended was =
     (before : List ℕ) (packets : List Recorded) → HasRead room before old was packets
     → HasReadAll room before new ended packets
 
@@ -210,13 +210,13 @@ ReadsFault room old new ended was f =
 -- by what a call answers
 abbrev pub ReadsNext : ℕ → List ℕ → List ℕ → Type 0 → Seen → Seen → Option Packet → List ℕ
     → Type 0
-ReadsNext room old new ended was seen None buffer = ReadsEnd room old new ended was
+ReadsNext room old new ended was seen None buffer = ReadsToEnd room old new ended was
 ReadsNext room old new ended was seen (Some p) buffer =
     ReadsPacket room old new was seen (packet_seen p buffer)
 
 -- what a run has read, by the step that a call answers: the end, a block without a packet, a packet
 abbrev pub ReadsStep : ℕ → List ℕ → List ℕ → Type 0 → Seen → Seen → Step → List ℕ → Type 0
-ReadsStep room old new ended was seen End buffer = ReadsEnd room old new ended was
+ReadsStep room old new ended was seen End buffer = ReadsToEnd room old new ended was
 ReadsStep room old new ended was seen Passed buffer = ReadsOn room old new was seen
 ReadsStep room old new ended was seen (Found p place) buffer =
     ReadsPacket room old new was seen (recorded_at p place buffer)

@@ -3,7 +3,7 @@ ghost use Rattle.std.specs.Prelude.{◌≡◌, ◌≤◌, ◌+◌, ◌↔◌, �
 ghost use Rattle.std.specs.Prelude.{IsErrOf};
 ghost use Rattle.std.specs.Prelude.{IsOkAnd, Err, None};
 ghost use Rattle.st_format.specs.Reading.{Gives};
-ghost use Rattle.pcap_file.specs.Ip.{IsPacket, Packet, is_passed};
+ghost use Rattle.pcap_file.specs.Ip.{IsUdpPacket, Packet, is_passed};
 ghost use Rattle.pcap_file.specs.Reading.{carried_at, packet_4_at, packet_6_at, packet_at};
 ghost use Rattle.pcap_file.specs.Reading.{ending, reason_4, reason_6};
 ghost use Rattle.pcap_file.specs.Reasons.{IsNoPacket};
@@ -182,9 +182,9 @@ fn read(version: IpVersion, octets: &[u8]) -> Result<PacketView<'_>, NoDatagram>
 /// - `Fragment`: it is a fragment (of IPv4, of UDP).
 pub fn read_packet(version: IpVersion, octets: &[u8]) -> Result<PacketView<'_>, NoDatagram>
     // What is read is in the grammar.
-    ensures found { IfOk result (λ v. IsPacket version octets.now (seen_packet v)) }
+    ensures found { IfOk result (λ v. IsUdpPacket version octets.now (seen_packet v)) }
     // What is in the grammar is read so.
-    ensures only { (p : Packet) → IsPacket version octets.now p
+    ensures only { (p : Packet) → IsUdpPacket version octets.now p
         → IsOkAnd result (λ v. seen_packet v ≡ p) }
     // Each reason comes exactly where its condition holds.
     ensures refused { (reason : Reason) →

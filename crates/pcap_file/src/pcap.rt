@@ -3,8 +3,8 @@
 ghost use Rattle.std.specs.Prelude.{◌≡◌, ◌≤◌, ◌+◌, ◌*◌, ◌^◌, ◌<◌, ◌↔◌, ℕ, List, length, IfErr};
 ghost use Rattle.std.specs.Prelude.{IfOk};
 ghost use Rattle.std.specs.Prelude.{Ok, Err, IsOkAnd, IsErrOf};
-ghost use Rattle.pcap_file.specs.Pcap.{IsBadMagic, IsBadVersion, IsPacked, IsPcapHead};
-ghost use Rattle.pcap_file.specs.Pcap.{IsRecordHead};
+ghost use Rattle.pcap_file.specs.Pcap.{IsBadMagic, IsBadVersion, IsGzipped, IsPcapHead};
+ghost use Rattle.pcap_file.specs.Pcap.{IsPacketHead};
 ghost use Rattle.pcap_file.specs.Pcap.{is_packed, magic_of, pcap_head_of, record_head_of};
 ghost use Rattle.pcap_file.specs.declared.pcap.PcapHead.{PcapHead as Head};
 
@@ -122,7 +122,7 @@ pub fn read_pcap_head(octets: &[u8]) -> Result<PcapHead, RecordingFault>
     // What is in the grammar is read so.
     ensures only { (head : Head) → IsPcapHead octets.now head → result ≡ Ok head }
     // Each fault comes exactly where its condition holds.
-    ensures packed { (result ≡ Err RecordingFault.Packed) ↔ IsPacked octets.now }
+    ensures packed { (result ≡ Err RecordingFault.Packed) ↔ IsGzipped octets.now }
     ensures bad_magic { (result ≡ Err RecordingFault.BadMagic) ↔ IsBadMagic octets.now }
     ensures bad_version { (result ≡ Err RecordingFault.BadVersion) ↔ IsBadVersion octets.now }
     // The answer as a walk over the octets.
@@ -134,7 +134,7 @@ pub fn read_pcap_head(octets: &[u8]) -> Result<PcapHead, RecordingFault>
 /// What the 16 octets before a packet's own say.
 pub fn read_record_head(head: &PcapHead, octets: &[u8]) -> PacketHead
     requires { length octets.now ≡ 16 }
-    ensures is { IsRecordHead head.now octets.now result }
+    ensures is { IsPacketHead head.now octets.now result }
     ensures exact { result ≡ record_head_of head.now octets.now }
 {
     let unit = if head.nanoseconds { 1 } else { 1000 };

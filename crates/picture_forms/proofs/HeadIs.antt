@@ -26,7 +26,7 @@ use Rattle.st_format.proofs.Readings.{bind_ok}
 use Rattle.picture_forms.specs.declared.fault.FormFault.{FormFault}
 use Rattle.picture_forms.specs.declared.fault.FormFault.TheVariants.{BadHeader, BadMagic, Truncated}
 use Rattle.picture_forms.specs.declared.fault.FormFault.TheVariants.{UnsupportedForm}
-use Rattle.picture_forms.specs.Heads.{HasHead, IsHead, IsLastWord, IsNumberText, IsOtherWord}
+use Rattle.picture_forms.specs.Heads.{HasY4mHead, IsHead, IsLastWord, IsNumberText, IsOtherWord}
 use Rattle.picture_forms.specs.Heads.{IsProgressive}
 use Rattle.picture_forms.specs.Heads.{colour_at, colour_named, colour_word, head_at, head_walk}
 use Rattle.picture_forms.specs.Heads.{last_of, limited, name_at, name_of, needed, number_at}
@@ -594,7 +594,7 @@ abbrev after_name : ⊤ × List ℕ → Result (Fields × List ℕ) FormFault
 after_name x = line_at 256 x.1 >>= after_line
 
 pub head_found : (octets rest : List ℕ) (f : Fields) → head_walk octets ≡ Ok (f, rest)
-    → HasHead octets rest f
+    → HasY4mHead octets rest f
 unfolding head_walk
 head_found octets rest f e =
     let a = bind_ok (name_at octets) after_name (f, rest) e in
@@ -615,7 +615,7 @@ head_found octets rest f e =
       is = subst (IsHead b.0.0) (sym same.0) (line_found b.0.0 c.0 c.1);
     }
 
-pub head_says : (octets rest : List ℕ) (f : Fields) → HasHead octets rest f
+pub head_says : (octets rest : List ℕ) (f : Fields) → HasY4mHead octets rest f
     → head_walk octets ≡ Ok (f, rest)
 unfolding head_walk
 head_says octets rest f is =

@@ -89,7 +89,7 @@ pub record IsHead (text : List ℕ) (f : Fields) : Type 0 where
 
 -- Octets begin with the head of a stream of this format, and this is behind it: the name, a line of
 -- at most 255 octets that says the format, and LF.
-pub record HasHead (octets rest : List ℕ) (f : Fields) : Type 0 where
+pub record HasY4mHead (octets rest : List ℕ) (f : Fields) : Type 0 where
   pub text : List ℕ
   pub whole : octets ≡ codes "YUV4MPEG2" ++ (text ++ 10 ∷ rest)
   pub plain : AllByRecursion (λ o. o ≢ 10) text

@@ -6,7 +6,7 @@ ghost use Rattle.st_format.specs.Fields.{Fields, fields_of};
 ghost use Rattle.st_format.specs.Picture.{IsPicture, Values};
 ghost use Rattle.st_format.specs.Position.{sample_count};
 ghost use Rattle.picture_forms.specs.Frames.{frame_walk};
-ghost use Rattle.picture_forms.specs.Heads.{HasHead, head_walk};
+ghost use Rattle.picture_forms.specs.Heads.{HasY4mHead, head_walk};
 ghost use Rattle.picture_forms.specs.Layouts.{IsRgb, IsYcc, frame_text, pixels_text};
 ghost use Rattle.picture_forms.specs.Layouts.{pixmap_head, planes_text};
 ghost use Rattle.picture_forms.specs.Pixmaps.{HasPixmapHead, pixels_walk, pixmap_head_walk};
@@ -33,7 +33,7 @@ pub fn one_pixmap()
 /// The head of a stream is read exactly as the format that it says, whatever is behind it.
 pub fn head_is()
     ensures { (octets rest : List ℕ) (f : Fields)
-        → (head_walk octets ≡ Ok (f, rest)) ↔ HasHead octets rest f }
+        → (head_walk octets ≡ Ok (f, rest)) ↔ HasY4mHead octets rest f }
 {}
 
 /// The head of a stream that is written is read as its format, whatever is behind it.

@@ -12,7 +12,7 @@ use Rattle.pcap_file.specs.PcapReading.{Recorded}
 use Rattle.pcap_file.specs.declared.fault.RecordingFault.{RecordingFault}
 use Rattle.pcap_file.specs.declared.recording.Layout.{Layout}
 use Rattle.pcap_file.specs.declared.recording.Packet.{Packet}
-use Rattle.pcap_file.specs.Runs.{HasRead, ReadsEnd, ReadsFault, most_packet}
+use Rattle.pcap_file.specs.Runs.{HasRead, ReadsFault, ReadsToEnd, most_packet}
 use Rattle.pcap_file.specs.Runs.{ReadsPacket, Seen, layout_seen, packet_seen}
 use Rattle.recording_reader.specs.Found.{entry_at}
 use Rattle.recording_reader.specs.Reading.{FailsNext, ReadsToNext}
@@ -113,7 +113,7 @@ passed_found flows old now new ended was seen middle left left' p f buffer passe
 pub passed_end : (flows : Flows) (old now new : List ℕ) (ended : Type 0) (was seen : Layout)
     (middle : Seen) (left left' : LeftOut) (buffer : List ℕ)
     → Passes flows old now (layout_seen was) middle left left'
-    → ReadsEnd most_packet now new ended middle
+    → ReadsToEnd most_packet now new ended middle
     → ReadsToNext flows None buffer old new ended was seen left left'
 passed_end flows old now new ended was seen middle left left' buffer passed reads before packets read
     is =

@@ -3,7 +3,7 @@ use Rattle.std.proofs.Common.{◌≡◌, ℕ, zero, suc, ◌+◌, ◌-◌, ◌*�
 use Rattle.std.proofs.Common.{◌++◌, length, slice_index, append_assoc, length-append}
 use Rattle.std.proofs.Common.{append-nil, refl, sym, ap, ◌∙◌, arith}
 use Rattle.std.specs.List.{concat}
-use Rattle.pcap_file.specs.Ip.{IsPacket, IsPacket4, IsPacket6, Packet, header_octets}
+use Rattle.pcap_file.specs.Ip.{IsPacket4, IsPacket6, IsUdpPacket, Packet, header_octets}
 use Rattle.pcap_file.specs.Link.{IsFramed, IsLinked, IsTyped}
 use Rattle.pcap_file.specs.Parts.{number_16}
 use Rattle.pcap_file.specs.Udp.{Datagram, IsUdp}
@@ -154,12 +154,12 @@ stands_6 octets p is =
           ∙ sym (append_assoc is.header passed (p.carried ++ is.behind));
     }
 
-pub packet_stands : (v : IpVersion) (octets : List ℕ) (p : Packet) → IsPacket v octets p
+pub packet_stands : (v : IpVersion) (octets : List ℕ) (p : Packet) → IsUdpPacket v octets p
     → StandAt (carried_place v octets (length p.carried)) p.carried octets
 packet_stands V4 octets p is = stands_4 octets p is
 packet_stands V6 octets p is = stands_6 octets p is
 
-pub packet_carries : (v : IpVersion) (octets : List ℕ) (p : Packet) → IsPacket v octets p
+pub packet_carries : (v : IpVersion) (octets : List ℕ) (p : Packet) → IsUdpPacket v octets p
     → CanCarry v octets (length p.carried)
 packet_carries V4 octets p is =
     omega (
@@ -207,7 +207,7 @@ stand_within place part octets stands =
 
 -- a datagram in what a packet carries, in the packet, behind the link layer
 pub datagram_stands : (link : Link) (octets packet : List ℕ) (v : IpVersion) (p : Packet)
-    (d : Datagram) → IsLinked link octets v packet → IsPacket v packet p → IsUdp p d
+    (d : Datagram) → IsLinked link octets v packet → IsUdpPacket v packet p → IsUdp p d
     → StandAt (length octets - length packet + carried_place v packet (length p.carried) + 8)
     d.payload octets
 datagram_stands link octets packet v p d linked is udp =

@@ -27,7 +27,7 @@ use Rattle.media_file.proofs.Failing.{itself}
 use Rattle.pcap_file.specs.NgSteps.{first_at, section_type}
 use Rattle.pcap_file.specs.Orders.{long_at}
 use Rattle.pcap_file.specs.Pcap.{magic_number, magic_of}
-use Rattle.pcap_file.specs.PcapReading.{AreRecords, GivesPcap, GivesRecords, HaveRoom, IsPcap}
+use Rattle.pcap_file.specs.PcapReading.{AreRecords, GivesPackets, GivesPcap, HaveRoom, IsPcap}
 use Rattle.pcap_file.specs.PcapReading.{Recorded, pcap_at}
 use Rattle.pcap_file.specs.Reading.{datagram_walk}
 use Rattle.pcap_file.specs.Runs.{InPcap, Laid, Run, blocks_begun, fault_in, laid_by, led_by}
@@ -64,7 +64,7 @@ use Rattle.run_laws.specs.Exported.{HaveTwoPlaces, address_of, port_of, sent_rec
 -- ---- a recording that begins as those that are written is read whole, by a reader with any room
 
 records_run : (n room : ℕ) (file : PcapHead) (o : List ℕ) (ps : List Recorded) → length ps < n
-    → GivesRecords room file o ps → run_at n room (InPcap file) o ≡ all_of ps
+    → GivesPackets room file o ps → run_at n room (InPcap file) o ≡ all_of ps
 records_run zero room file o ps few g = absurd (omega (arith, few))
 records_run (suc n) room file o [] few g =
     run_ends n room (InPcap file) (InPcap file) o [] (pcap_step room file o [] None g)

@@ -5,7 +5,7 @@ use Rattle.st_format.specs.Fields.{Fields, fields_of}
 use Rattle.st_format.specs.Picture.{Values}
 use Rattle.st_format.specs.declared.format.Format.{Format}
 use Rattle.st_format.proofs.SameFields.{same_format}
-use Rattle.picture_forms.specs.Heads.{HasHead, head_walk}
+use Rattle.picture_forms.specs.Heads.{HasY4mHead, head_walk}
 use Rattle.picture_forms.specs.Layouts.{pixels_text, planes_text}
 use Rattle.picture_forms.specs.Pixmaps.{HasPixmapHead, pixels_walk, pixmap_head_walk}
 use Rattle.picture_forms.specs.declared.fault.FormFault.{FormFault}
@@ -39,8 +39,8 @@ apart {X} r x f reads fails = let bad : whole x ≡ failed X f = sym reads ∙ f
 -- ---- a stream
 
 -- octets have one head
-one_head : (octets a b : List ℕ) (f g : Format) → HasHead octets a (fields_of f)
-    → HasHead octets b (fields_of g) → (f ≡ g) × (a ≡ b)
+one_head : (octets a b : List ℕ) (f g : Format) → HasY4mHead octets a (fields_of f)
+    → HasY4mHead octets b (fields_of g) → (f ≡ g) × (a ≡ b)
 one_head octets a b f g one other =
     let same =
     same_value (head_walk octets) (fields_of f) (fields_of g) a b

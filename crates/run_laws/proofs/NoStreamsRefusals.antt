@@ -18,7 +18,7 @@ use Rattle.capture_engines.specs.Files.{way_at}
 use Rattle.capture_engines.specs.Received.{IsFileOpenedRefusal, IsFrontRefusal, IsOpeningRefusal}
 use Rattle.capture_engines.specs.Received.{StopsFile}
 use Rattle.capture_engines.specs.declared.way.Way.{Way}
-use Rattle.stream_inspection.specs.Aim.{Announces, IsBeginRefusal, IsTarget}
+use Rattle.stream_inspection.specs.Aim.{AnnouncesTarget, IsBeginRefusal, IsTarget}
 use Rattle.capture_engines.proofs.Untaken.{front_stop}
 use Rattle.stream_inspection.specs.Read.{EndsAfter, HasRecords, HaveRecords, IsStartRefusal}
 use Rattle.stream_inspection.specs.Told.{IsStreamsRefusal, TellsStreams, begins}
@@ -40,17 +40,17 @@ one_window = record {
   different = (λ is. is, tt);
 }
 
-opening_not : (text : List ℕ) (t : Target) (r : Refusal) → Announces text t
+opening_not : (text : List ℕ) (t : Target) (r : Refusal) → AnnouncesTarget text t
     → IsOpeningRefusal (0 ∷ []) text r → ⊥
 opening_not text t (why.Sdp at) says wrong =
     no_text_fault text says.description at.fault says.described wrong
 opening_not text t (why.Open e) says wrong = window_not e (0 ∷ []) one_window wrong.1
 opening_not text t r says wrong = absurd wrong
 
-front_not : (text : List ℕ) (t : Target) (r : Refusal) → Announces text t
+front_not : (text : List ℕ) (t : Target) (r : Refusal) → AnnouncesTarget text t
     → IsFrontRefusal (0 ∷ []) text r → ⊥
 front_not text t why.ReceiveNoSdp says wrong =
-    let none : Announces [] t = subst (λ (l : List ℕ). Announces l t) wrong says in
+    let none : AnnouncesTarget [] t = subst (λ (l : List ℕ). AnnouncesTarget l t) wrong says in
     absurd none.described
 front_not text t r says wrong = opening_not text t r says wrong.1
 
@@ -140,7 +140,7 @@ module _ {S : Type 0} (gave : S → List ℕ) (ended : S → Type 0) where
       ends_not (other_ways ways) (t ∷ ss) (suc k) has.1 f whole.1 has.4
 
   file_not : (s : S × S) (w : Way) (t : Target) (r : Refusal)
-      → Announces (text_of_file (read_of gave s)) t
+      → AnnouncesTarget (text_of_file (read_of gave s)) t
       → IsFileOpenedRefusal (0 ∷ []) w (WasRead gave ended s) r → ⊥
   file_not s w t (why.Capture f) says wrong = wrong
   file_not s w t r says wrong =

@@ -14,7 +14,7 @@ use Rattle.run_outcome.specs.declared.refusal.Refusal.{Refusal}
 use Rattle.script_engines.specs.FirstLines.{IsFaultyNext, ReadsFormat, ReadsOpening}
 use Rattle.script_engines.specs.Reading.{DoesScript, IsRefusedFor}
 use Rattle.script_engines.specs.Script.{line_behind, numbered_lines}
-use Rattle.script_engines.specs.Traced.{FollowsAll, IsFaultyOpening, IsFaultyStart}
+use Rattle.script_engines.specs.Traced.{FollowsLines, IsFaultyOpening, IsFaultyStart}
 use Rattle.script_engines.specs.Traced.{IsStopped, IsUnopened, IsUntraced, OpensBy}
 use Rattle.script_engines.specs.Traced.{SaysOpening, Traces}
 use Rattle.script_engines.proofs.LinesFollowed.{followed_notes, not_unfollowed, noted, noted_by}
@@ -74,8 +74,8 @@ same_rest_of lines rest other opened began o p =
 -- lines that were all followed are not stopped at
 not_stopped : (done left : Numbered) (old new other mid : State)
     (before after also at : Option Numbers) (text said : List ℕ) (end : ℕ) (e : Fault)
-    → FollowsAll (done ++ left) old new before after text
-    → FollowsAll done other mid also at said → noted before ≡ noted also
+    → FollowsLines (done ++ left) old new before after text
+    → FollowsLines done other mid also at said → noted before ≡ noted also
     → IsStopped left false end at e → ⊥
 not_stopped [] [] old new other mid before after also at text said end e f g same bad =
     let clash : false ≡ true = bad.0 in absurd cc
@@ -100,7 +100,7 @@ not_untraced script old new e t (inr bad) =
     not_stopped s.done s.left t.opened t.plays.last bad.opened s.last None t.plays.numbers None
     s.numbers t.plays.text s.text (line_behind 0 script) e
     (subst (λ (l : Numbered).
-    FollowsAll l t.opened t.plays.last None t.plays.numbers t.plays.text) rest t.plays.followed)
+    FollowsLines l t.opened t.plays.last None t.plays.numbers t.plays.text) rest t.plays.followed)
     s.followed refl s.stopped
 
 pub trace_not : {S : Type 0} (gave : S → List ℕ) (ended : S → Type 0) (source later : S)

@@ -19,7 +19,7 @@ use Rattle.run_outcome.specs.declared.line.Line.{Line}
 use Rattle.script_engines.specs.Forms.{IsOctetsText}
 use Rattle.script_engines.specs.Script.{numbered_lines}
 use Rattle.script_engines.specs.Session.{AnswersDatagram}
-use Rattle.script_engines.specs.Traced.{FollowsAll, FollowsLine, OpensBy, Traces}
+use Rattle.script_engines.specs.Traced.{FollowsLine, FollowsLines, OpensBy, Traces}
 use Rattle.script_engines.proofs.LinesOnce.{line_kinds}
 use Rattle.run_laws.specs.Scripts.{EndsWith, HasNoSlide, datagram_of, datagram_said, datagrams_said}
 use Rattle.run_laws.specs.Scripts.{first_lines, lines_behind, texts_of}
@@ -102,7 +102,7 @@ by_kind text old new before after answer xs f none holds =
 -- ---- all of them
 
 all_followed : (lines : List (ℕ × List ℕ)) (old new : State) (before after : Option Numbers)
-    (text : List ℕ) (xs : List (List ℕ)) → FollowsAll lines old new before after text
+    (text : List ℕ) (xs : List (List ℕ)) → FollowsLines lines old new before after text
     → HasNoSlide (texts_of lines) → Holds old xs
     → Held old new (xs ++ flat_map datagram_said (texts_of lines))
 all_followed [] old new before after text xs f none holds = (

@@ -9,7 +9,7 @@ use Rattle.path_receiver.specs.Frames.{State}
 use Rattle.path_receiver.specs.Numbers.{Numbers}
 use Rattle.run_outcome.specs.Frames.{frame_lines}
 use Rattle.script_engines.specs.Script.{numbered_lines}
-use Rattle.script_engines.specs.Traced.{FollowsAll, OpensBy, absent_lines}
+use Rattle.script_engines.specs.Traced.{FollowsLines, OpensBy, absent_lines}
 
 -- the texts of numbered lines
 abbrev pub texts_of : List (ℕ × List ℕ) → List (List ℕ)
@@ -58,6 +58,6 @@ pub record EndsWith (script old new : List ℕ) (last : State) (lines : List ℕ
   pub opens : OpensBy (numbered_lines 0 script) rest opened
   pub numbers : Option Numbers
   pub answers : List ℕ
-  pub followed : FollowsAll rest opened last None numbers answers
+  pub followed : FollowsLines rest opened last None numbers answers
   pub printed : new ≡ old ++ (answers ++ (lines ++ absent_lines numbers))
   pub lines_are : lines ≡ frame_lines last

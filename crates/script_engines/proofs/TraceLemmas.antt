@@ -12,7 +12,7 @@ use Rattle.path_receiver.specs.Numbers.{Numbers, missing_runs_of}
 use Rattle.run_outcome.specs.Frames.{frame_lines}
 use Rattle.run_outcome.specs.declared.line.Line.{Line}
 use Rattle.run_outcome.proofs.Printed.{part_first, texts_before, texts_cut, took_both}
-use Rattle.script_engines.specs.Traced.{Answers, AnswersSome, FollowsAll, FollowsLine, IsAnswered}
+use Rattle.script_engines.specs.Traced.{Answers, AnswersSome, FollowsLine, FollowsLines, IsAnswered}
 use Rattle.script_engines.specs.Traced.{IsPartAnswered, OpensBy, PlaysLines, PrintsPart}
 use Rattle.script_engines.specs.Script.{numbered_lines}
 use Rattle.script_engines.specs.Traced.{Traces, TracesSome, absent_line, absent_lines}
@@ -21,9 +21,9 @@ use Rattle.script_engines.specs.Traced.{answer_text}
 -- one line more was followed
 follows_more : (done : List (ℕ × List ℕ)) (line : ℕ × List ℕ) (old mid new : State)
     (before between after : Option Numbers) (text : List ℕ) (answer : Option Line)
-    → FollowsAll done old mid before between text
+    → FollowsLines done old mid before between text
     → FollowsLine line.1 mid new between after answer
-    → FollowsAll (done ++ line ∷ []) old new before after (text ++ answer_text answer)
+    → FollowsLines (done ++ line ∷ []) old new before after (text ++ answer_text answer)
 follows_more [] line old mid new before between after text answer none one = (
   new,
   after,

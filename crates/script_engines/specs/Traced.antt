@@ -56,13 +56,13 @@ IsAnswered text old new before after took took' =
     × (took' ≡ took ++ answer_text answer)
 
 -- Lines were followed one by one, and these are their answers, line by line (own)
-abbrev pub FollowsAll : List (ℕ × List ℕ) → State → State → Option Numbers → Option Numbers
+abbrev pub FollowsLines : List (ℕ × List ℕ) → State → State → Option Numbers → Option Numbers
     → List ℕ → Type 0
-FollowsAll [] old new before after text = (new ≡ old) × (after ≡ before) × (text ≡ [])
-FollowsAll (next ∷ lines) old new before after text =
+FollowsLines [] old new before after text = (new ≡ old) × (after ≡ before) × (text ≡ [])
+FollowsLines (next ∷ lines) old new before after text =
     (mid : State) × (between : Option Numbers) × (answer : Option Line) × (rest : List ℕ)
     × FollowsLine next.1 old mid before between answer
-    × FollowsAll lines mid new between after rest × (text ≡ answer_text answer ++ rest)
+    × FollowsLines lines mid new between after rest × (text ≡ answer_text answer ++ rest)
 
 -- The next two lines are a format and an opening of that format, and a receiver was opened so,
 -- which holds no datagram. The lines behind them are left (own)
@@ -78,7 +78,7 @@ pub record OpensBy (lines rest : List (ℕ × List ℕ)) (opened : State) : Type
 pub record Answers (lines : List (ℕ × List ℕ)) (opened last : State) (before after : Option Numbers)
     (old new : List ℕ) : Type 0 where
   pub text : List ℕ
-  pub followed : FollowsAll lines opened last before after text
+  pub followed : FollowsLines lines opened last before after text
   pub printed : new ≡ old ++ text
 
 -- a first part of a text was printed, maybe none of it or all
@@ -119,7 +119,7 @@ pub record PlaysLines (lines : List (ℕ × List ℕ)) (opened : State) (before 
   pub last : State
   pub numbers : Option Numbers
   pub text : List ℕ
-  pub followed : FollowsAll lines opened last before numbers text
+  pub followed : FollowsLines lines opened last before numbers text
   pub printed : new ≡ old ++ (text ++ (frame_lines last ++ absent_lines numbers))
 
 -- A script opens a receiver, and its lines behind were followed to the last (own)
@@ -195,7 +195,7 @@ pub record StopsAt (lines : List (ℕ × List ℕ)) (opened : State) (before : O
   pub last : State
   pub numbers : Option Numbers
   pub text : List ℕ
-  pub followed : FollowsAll done opened last before numbers text
+  pub followed : FollowsLines done opened last before numbers text
   pub stopped : IsStopped left is_cut end numbers f
 
 -- a script opens a receiver, and one of its lines behind is at fault

@@ -10,7 +10,7 @@ use Rattle.sdp_writing.specs.Written.{IsTextOf, told_legs, usual_description}
 use Rattle.script_runs.specs.declared.announced.AnnouncedStream.{AnnouncedStream}
 
 -- An SDP text that says the stream was printed (RFC 8866; SMPTE ST 2110-20, SDP)
-pub record Announces (stream : AnnouncedStream) (old new : List ℕ) : Type 0 where
+pub record PrintsSdp (stream : AnnouncedStream) (old new : List ℕ) : Type 0 where
   pub format : Format
   pub is_format : stream.format ≡ Ok format
   pub text : List ℕ

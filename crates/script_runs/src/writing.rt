@@ -3,7 +3,7 @@ ghost use Rattle.std.specs.Prelude.{◌≡◌, ◌∷◌, [], IfErr, OnOk};
 ghost use Rattle.devices.specs.Passed.{output_failures, output_took};
 ghost use Rattle.run_outcome.specs.Fault.{Accounts, counts};
 ghost use Rattle.run_outcome.specs.Refusing.{OfRefusal};
-ghost use Rattle.script_runs.specs.Announced.{Announces, IsUnannounced};
+ghost use Rattle.script_runs.specs.Announced.{IsUnannounced, PrintsSdp};
 
 use crate::announced::AnnouncedStream;
 use command_end::{Command, Devices, Hints, Ran};
@@ -41,7 +41,7 @@ fn announce(
     output: &mut OutputSink<Stdout>,
 ) -> Result<(), Fault>
     ensures announced { OnOk result
-        (Announces stream.now (output_took output.old) (output_took output.new)) }
+        (PrintsSdp stream.now (output_took output.old) (output_took output.new)) }
     ensures refusal { IfErr result (λ f. OfRefusal f (IsUnannounced stream.now)) }
     ensures owed { Accounts result
         (counts (output_failures output.old) (output_failures output.new) ∷ []) }
@@ -60,7 +60,7 @@ impl<'a> Command for SdpWriteCommand<'a> {
     ghost is_new = { λ c. output_took c.output ≡ [] };
 
     // What is printed is an SDP text that says the stream.
-    ghost does = { λ old new. Announces old.stream
+    ghost does = { λ old new. PrintsSdp old.stream
         (output_took old.output) (output_took new.output) };
 
     ghost is_refused = { λ old new. IsUnannounced old.stream };

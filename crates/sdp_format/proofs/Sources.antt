@@ -14,7 +14,7 @@ use Rattle.flow.specs.FlowText.{Finds}
 use Rattle.flow.proofs.FlowTexts.{found, not_none, same_some}
 use Rattle.sdp_format.specs.Bytes.{behind, trim_end}
 use Rattle.sdp_format.specs.Destinations.{IsDestination, IsFilter, IsFirstFilter, IsOneSource}
-use Rattle.sdp_format.specs.Destinations.{IsSource, IsSourceOf, filter_word}
+use Rattle.sdp_format.specs.Destinations.{IsSourceAddress, IsSourceOf, filter_word}
 use Rattle.sdp_format.specs.Sections.{Section, section_lines}
 use Rattle.sdp_format.proofs.Doubles.{same_bytes}
 use Rattle.sdp_format.proofs.LineForms.{trim_off}
@@ -112,8 +112,8 @@ begin_other_both (l ∷ ls) more h k = (h.0, begin_other_both ls more h.1 k)
 
 -- ---- sources
 
-source_once : (address : IpAddr) (text : List ℕ) (x y : IpAddr) → IsSource address text x
-    → IsSource address text y → x ≡ y
+source_once : (address : IpAddr) (text : List ℕ) (x y : IpAddr) → IsSourceAddress address text x
+    → IsSourceAddress address text y → x ≡ y
 source_once (V4 a) text (V4 x) (V4 y) h k = ap V4 (IsIpv4Text_unique text x y h k)
 source_once (V4 a) text (V4 x) (V6 y) h k = absurd k
 source_once (V4 a) text (V6 x) y h k = absurd h
@@ -123,16 +123,16 @@ source_once (V6 a) text (V6 x) (V6 y) h k = ap V6 (IsIpv6Text_unique text x y h 
 
 module _ (address : IpAddr) (text : List ℕ) where
   pub found_v4 : (a s : Ipv4Addr) → address ≡ V4 a → IsIpv4Text text s
-      → Finds (IsSource address) text (Some (V4 s))
+      → Finds (IsSourceAddress address) text (Some (V4 s))
   found_v4 a s e h =
-      subst (λ (x : IpAddr). Finds (IsSource x) text (Some (V4 s))) (sym e)
-      (found (IsSource (V4 a)) text (source_once (V4 a) text) (V4 s) h)
+      subst (λ (x : IpAddr). Finds (IsSourceAddress x) text (Some (V4 s))) (sym e)
+      (found (IsSourceAddress (V4 a)) text (source_once (V4 a) text) (V4 s) h)
 
   pub found_v6 : (a s : Ipv6Addr) → address ≡ V6 a → IsIpv6Text text s
-      → Finds (IsSource address) text (Some (V6 s))
+      → Finds (IsSourceAddress address) text (Some (V6 s))
   found_v6 a s e h =
-      subst (λ (x : IpAddr). Finds (IsSource x) text (Some (V6 s))) (sym e)
-      (found (IsSource (V6 a)) text (source_once (V6 a) text) (V6 s) h)
+      subst (λ (x : IpAddr). Finds (IsSourceAddress x) text (Some (V6 s))) (sym e)
+      (found (IsSourceAddress (V6 a)) text (source_once (V6 a) text) (V6 s) h)
 
 finds_once : {X : Type 0} (Spells : List ℕ → X → Type 0) (text : List ℕ) (x y : Option X)
     → Finds Spells text x → Finds Spells text y → x ≡ y
@@ -143,7 +143,7 @@ finds_once Spells text (Some a) y h k = sym ((k a).0 ((h a).1 refl))
 one_once : (address : IpAddr) (listed : Option (List ℕ)) (x y : Option IpAddr)
     → IsOneSource address listed x → IsOneSource address listed y → x ≡ y
 one_once address None x y h k = h ∙ sym k
-one_once address (Some listed) x y h k = finds_once (IsSource address) listed x y h k
+one_once address (Some listed) x y h k = finds_once (IsSourceAddress address) listed x y h k
 
 pub sent_from_once : (lines : List (List ℕ)) (s : Section) (address x y : Option IpAddr)
     → IsSourceOf lines s address x → IsSourceOf lines s address y → x ≡ y

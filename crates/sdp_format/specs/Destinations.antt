@@ -70,17 +70,17 @@ IsFirstFilter (l ∷ ls) address listed =
     ⊎ (((sources : List ℕ) → IsFilter l address sources → ⊥) × IsFirstFilter ls address listed)
 
 -- a text is one address, of the type of another
-abbrev pub IsSource : IpAddr → List ℕ → IpAddr → Type 0
-IsSource (V4 address) text (V4 source) = IsIpv4Text text source
-IsSource (V4 address) text (V6 source) = ⊥
-IsSource (V6 address) text (V4 source) = ⊥
-IsSource (V6 address) text (V6 source) = IsIpv6Text text source
+abbrev pub IsSourceAddress : IpAddr → List ℕ → IpAddr → Type 0
+IsSourceAddress (V4 address) text (V4 source) = IsIpv4Text text source
+IsSourceAddress (V4 address) text (V6 source) = ⊥
+IsSourceAddress (V6 address) text (V4 source) = ⊥
+IsSourceAddress (V6 address) text (V6 source) = IsIpv6Text text source
 
 -- the one source that is listed; none where no line lists any, or the line lists several, or a
 -- host's name
 abbrev pub IsOneSource : IpAddr → Option (List ℕ) → Option IpAddr → Type 0
 IsOneSource address None source = source ≡ None
-IsOneSource address (Some listed) source = Finds (IsSource address) listed source
+IsOneSource address (Some listed) source = Finds (IsSourceAddress address) listed source
 
 -- SECTIONS
 

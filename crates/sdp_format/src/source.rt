@@ -2,7 +2,8 @@
 ghost use Rattle.std.specs.Prelude.{◌≡◌, ◌≢◌, ◌↔◌, ◌++◌, ℕ, IsTrue, List, MatchOption, Some};
 ghost use Rattle.std.specs.Option.{option_copied};
 ghost use Rattle.sdp_format.specs.Bytes.{lines, split_lines_left};
-ghost use Rattle.sdp_format.specs.Destinations.{IsDestination, IsFilter, IsFirstFilter, IsSource};
+ghost use Rattle.sdp_format.specs.Destinations.{IsDestination, IsFilter, IsFirstFilter};
+ghost use Rattle.sdp_format.specs.Destinations.{IsSourceAddress};
 ghost use Rattle.sdp_format.specs.Destinations.{IsSourceOf, filter_word};
 ghost use Rattle.sdp_format.specs.ReadLeg.{section_at};
 ghost use Rattle.sdp_format.specs.Sections.{section_lines};
@@ -84,7 +85,7 @@ fn sources_of<'a>(text: &'a [u8], section: VideoSection<'a>, address: IpAddr) ->
 
 /// Reads a text that is one address, of the type of another.
 fn read_source(text: &[u8], address: IpAddr) -> Option<IpAddr>
-    ensures { Finds (IsSource address) text.now result }
+    ensures { Finds (IsSourceAddress address) text.now result }
 {
     match address {
         IpAddr::V4(_) => match Ipv4Addr::parse_ascii(text) {

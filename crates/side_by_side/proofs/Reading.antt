@@ -22,7 +22,7 @@ use Rattle.recording_reader.specs.declared.fault.ReadingFault.{ReadingFault}
 use Rattle.recording_reader.specs.declared.way.Standing.{Standing as Stand}
 use Rattle.recording_reader.specs.declared.way.Standing.TheVariants.{Reads, Ended, Failed}
 use Rattle.side_by_side.specs.Going.{IsReadBy, going_by}
-use Rattle.side_by_side.specs.Side.{Begun, IsAtHand, IsNewSide, IsSoundBy, IsSoundFile, IsSoundSide}
+use Rattle.side_by_side.specs.Side.{Begun, HandGoes, IsNewSide, IsSoundBy, IsSoundFile, IsSoundSide}
 use Rattle.side_by_side.specs.Side.{IsUnfailed, IsUnfailedFile, ReadsFile, ReadsReader, ReadsSide}
 use Rattle.side_by_side.specs.Side.{ComesToFault, StopsReader, StopsSide, ahead_by, ahead_of_hand}
 use Rattle.side_by_side.specs.Side.{going_found, goings, reader_standing, standing_by, standing_of}
@@ -55,7 +55,7 @@ pub record IsKnownSide (st : Steering) (w : Going) (a : Ahead) : Type 0 where
   pub goes : w ≡ going_ahead st a
 
 known_hand : (st : Steering) (w : Going) (stand : Stand) (at_hand : Option Entry)
-    → IsAtHand st w stand at_hand → ((e : Entry) → ahead_of_hand w (Some e) ≡ Coming e)
+    → HandGoes st w stand at_hand → ((e : Entry) → ahead_of_hand w (Some e) ≡ Coming e)
     → IsKnownSide st w (ahead_by stand w at_hand)
 known_hand st w stand at_hand is comes =
     let e = is.0 in

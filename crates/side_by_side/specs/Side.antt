@@ -72,16 +72,16 @@ going_found steering true octets = going_by (stamp_of steering octets)
 going_found steering false octets = Never
 
 -- a datagram is at hand, and goes so
-abbrev pub IsAtHand : Steering → Going → Stand → Option Entry → Type 0
-IsAtHand steering going stand at_hand =
+abbrev pub HandGoes : Steering → Going → Stand → Option Entry → Type 0
+HandGoes steering going stand at_hand =
     (e : Entry) × (stand ≡ Reads) × (at_hand ≡ Some e)
     × (going ≡ going_by (stamp_of steering e.octets))
 
 -- when its next datagram goes, where that is read, is so by what is at hand; at its end never
 abbrev pub IsSoundBy : Steering → Going → Stand → Option Entry → Type 0
 IsSoundBy steering Unread stand at_hand = ⊤
-IsSoundBy steering AtOnce stand at_hand = IsAtHand steering AtOnce stand at_hand
-IsSoundBy steering (By timestamp) stand at_hand = IsAtHand steering (By timestamp) stand at_hand
+IsSoundBy steering AtOnce stand at_hand = HandGoes steering AtOnce stand at_hand
+IsSoundBy steering (By timestamp) stand at_hand = HandGoes steering (By timestamp) stand at_hand
 IsSoundBy steering Never stand at_hand = stand ≡ Ended
 
 -- so of a file; of one that isn't opened nothing was read, or it never goes

@@ -28,7 +28,7 @@ use Rattle.run_outcome.specs.LowerFaults.{reading_fault}
 use Rattle.st_format.specs.Given.{IfOfContent, OfContent, OfDevice, OfMemory, Origin}
 use Rattle.st_format.specs.History.{IsRead}
 use Rattle.st_format.proofs.Origins.{if_content, if_content_weaker}
-use Rattle.stream_inspection.specs.Aim.{Announces}
+use Rattle.stream_inspection.specs.Aim.{AnnouncesTarget}
 use Rattle.stream_inspection.specs.Inspected.{IsInspected, Notes}
 use Rattle.stream_inspection.specs.Read.{EndsAfter, HasRecords, IfEnd, IsStartRefusal, MayBe}
 use Rattle.stream_inspection.specs.Read.{StandsAtEnd}
@@ -90,7 +90,7 @@ may_be None t u is may = absurd (none_some t None refl is)
 may_be (Some s) t u is may = may ∙ some_one s t is
 
 settles_by : (before after : Option Target) (t : Target) (text : List ℕ) → after ≡ Some t
-    → ((s : Target) → before ≡ Some s → t ≡ s) → (before ≡ None → Announces text t)
+    → ((s : Target) → before ≡ Some s → t ≡ s) → (before ≡ None → AnnouncesTarget text t)
     → SettlesBy before text after
 settles_by (Some s) after t text is kept says = is ∙ ap (λ (u : Target). Some u) (kept s refl)
 settles_by None after t text is kept says = (t, is, says refl)
@@ -104,7 +104,7 @@ none_begun (Some t) Refuses is = absurd is
 -- records were noted of what is looked for, which was settled by a text
 pub records_noted : {A : Type 0} (text : List ℕ) (records : List Entry)
     (before after : Option Target) (t : Target) (old new : Inspection A) → after ≡ Some t
-    → ((s : Target) → before ≡ Some s → t ≡ s) → (before ≡ None → Announces text t)
+    → ((s : Target) → before ≡ Some s → t ≡ s) → (before ≡ None → AnnouncesTarget text t)
     → Notes t records old new → NotesRecords text records before after old new
 records_noted text records before after t old new is kept says noted = record {
   settles = settles_by before after t text is kept says;
@@ -120,7 +120,7 @@ settles_file (Some t) after text octets is settles = settles
 settles_file None after text octets is settles = (
   settles.0,
   settles.1,
-  subst (λ (l : List ℕ). Announces l settles.0) (sym is) settles.2,
+  subst (λ (l : List ℕ). AnnouncesTarget l settles.0) (sym is) settles.2,
 )
 
 -- ---- a file that was read up to an end

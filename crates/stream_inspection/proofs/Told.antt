@@ -21,7 +21,7 @@ use Rattle.recording_counts.specs.Streams.{is_same, key_of}
 use Rattle.recording_counts.specs.Tables.{different, of_key}
 use Rattle.recording_counts.specs.declared.packet.Packet.{Packet}
 use Rattle.recording_counts.specs.declared.packet.StreamKey.{StreamKey}
-use Rattle.stream_inspection.specs.Aim.{Announces, IsAimed, IsBegunTarget, IsTarget}
+use Rattle.stream_inspection.specs.Aim.{AnnouncesTarget, IsAimed, IsBegunTarget, IsTarget}
 use Rattle.stream_inspection.specs.Inspected.{IsInspected}
 use Rattle.stream_inspection.specs.Numbers.{told_stream, told_streams}
 use Rattle.stream_inspection.specs.Read.{IfEnd, IsFirstFront, IsSettled, IsStartRefusal, MayBe}
@@ -49,7 +49,7 @@ is_target (Given u) sdp begun after octets t opens settles is =
     some_one t u
     (sym is ∙ subst (λ (b : Option Target). Settles b octets after) opens settles)
 is_target Said (Some text) begun after octets t opens settles is =
-    subst (λ (u : Target). Announces text u)
+    subst (λ (u : Target). AnnouncesTarget text u)
     (some_one opens.0 t
     (sym (subst (λ (b : Option Target). Settles b octets after) opens.1 settles) ∙ is))
     opens.2
@@ -58,7 +58,7 @@ is_target Said None begun after [] t opens settles is =
     (subst (λ (b : Option Target). Settles b [] after) opens settles) is)
 is_target Said None begun after (o ∷ os) t opens settles is =
     let first = subst (λ (b : Option Target). Settles b (o ∷ os) after) opens settles in
-    subst (λ (u : Target). Announces (text_of_file o) u)
+    subst (λ (u : Target). AnnouncesTarget (text_of_file o) u)
     (some_one first.0 t (sym first.1 ∙ is)) first.2
 
 -- where nothing was begun with, none was given to begin with
@@ -70,7 +70,7 @@ begun_none Said (Some text) begun is none = absurd (none_some is.0 begun none is
 
 -- begun with by an SDP text
 pub said_begun : (sdp : Option (List ℕ)) (text : List ℕ) (t : Target) → sdp ≡ Some text
-    → Announces text t → IsBegunTarget Said sdp (Some t)
+    → AnnouncesTarget text t → IsBegunTarget Said sdp (Some t)
 said_begun sdp text t is says =
     subst (λ (o : Option (List ℕ)). IsBegunTarget Said o (Some t)) (sym is) (t, refl, says)
 

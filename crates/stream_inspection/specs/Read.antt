@@ -18,7 +18,7 @@ use Rattle.recording_reader.specs.declared.way.Standing.TheVariants.{Ended, Fail
 use Rattle.run_outcome.specs.declared.fault.Fault.{Fault}
 use Rattle.run_outcome.specs.declared.refusal.Refusal.{Refusal}
 use Rattle.run_outcome.specs.LowerFaults.{reading_fault}
-use Rattle.stream_inspection.specs.Aim.{Announces}
+use Rattle.stream_inspection.specs.Aim.{AnnouncesTarget}
 use Rattle.stream_inspection.specs.Inspected.{IsInspected}
 use Rattle.stream_inspection.specs.declared.inspection.Inspection.{Inspection}
 use Rattle.stream_inspection.specs.declared.target.Target.{Target}
@@ -111,7 +111,7 @@ abbrev pub Settles : Option Target → List (List ℕ) → Option Target → Typ
 Settles (Some t) files after = after ≡ Some t
 Settles None [] after = after ≡ None
 Settles None (octets ∷ files) after =
-    (t : Target) × (after ≡ Some t) × Announces (text_of_file octets) t
+    (t : Target) × (after ≡ Some t) × AnnouncesTarget (text_of_file octets) t
 
 -- it is known then
 abbrev pub IsSettled : Option Target → List (List ℕ) → Type 0
@@ -120,7 +120,7 @@ IsSettled begun files = (after : Option Target) × Settles begun files after
 -- so behind one with this text
 abbrev pub SettlesBy : Option Target → List ℕ → Option Target → Type 0
 SettlesBy (Some t) text after = after ≡ Some t
-SettlesBy None text after = (t : Target) × (after ≡ Some t) × Announces text t
+SettlesBy None text after = (t : Target) × (after ≡ Some t) × AnnouncesTarget text t
 
 -- what is looked for may be this
 abbrev pub MayBe : Option Target → Target → Type 0

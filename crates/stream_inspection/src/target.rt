@@ -4,7 +4,7 @@ ghost use Rattle.std.specs.Option.{option_copied};
 ghost use Rattle.capture_engines.specs.Received.{IsFrontRefusal, IsOpeningRefusal};
 ghost use Rattle.run_outcome.specs.Fault.{Accounts};
 ghost use Rattle.run_outcome.specs.Refusing.{OfRefusal};
-ghost use Rattle.stream_inspection.specs.Aim.{Announces, IsBegunTarget, IsBeginRefusal};
+ghost use Rattle.stream_inspection.specs.Aim.{AnnouncesTarget, IsBegunTarget, IsBeginRefusal};
 ghost use Rattle.stream_inspection.specs.declared.target.Target.{Target as TargetValue};
 
 use run_outcome::{Fault, Refusal};
@@ -64,7 +64,7 @@ fn begin_by<A: Allocator + Copy>(alloc: A, sdp: Option<&[u8]>) -> Result<Option<
 
 /// Those that an SDP text says.
 fn target_in<A: Allocator + Copy>(alloc: A, text: &[u8]) -> Result<Target, Fault>
-    ensures announced { IfOk result (λ t. Announces text.now t) }
+    ensures announced { IfOk result (λ t. AnnouncesTarget text.now t) }
     ensures refusal { IfErr result (λ f. OfRefusal f (IsOpeningRefusal (0 ∷ []) text.now)) }
     ensures failures { Accounts result [] }
 {
@@ -83,7 +83,7 @@ pub(crate) fn settle<A: Allocator + Copy>(
 ) -> Result<Target, Fault>
     ensures settled { IfOk result (λ t. begun.new ≡ Some t) }
     ensures kept { IfOk result (λ t. (s : TargetValue) → begun.old ≡ Some s → t ≡ s) }
-    ensures announced { IfOk result (λ t. begun.old ≡ None → Announces text.now t) }
+    ensures announced { IfOk result (λ t. begun.old ≡ None → AnnouncesTarget text.now t) }
     ensures refusal { IfErr result (λ f. OfRefusal f (λ r. MatchOption begun.old
         (IsFrontRefusal (0 ∷ []) text.now r) (λ _. ⊥))) }
     ensures failures { Accounts result [] }

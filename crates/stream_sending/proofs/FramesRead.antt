@@ -27,7 +27,7 @@ use Rattle.run_outcome.specs.Refusing.{OfRefusal}
 use Rattle.run_outcome.specs.declared.refusal.Refusal.{Refusal}
 use Rattle.run_outcome.specs.declared.refusal.Refusal.TheVariants as refusal
 use Rattle.convert_engine.specs.Converting.{form_fault}
-use Rattle.stream_sending.specs.Reading.{GaveFrameFault, GaveFrames, GaveNext, GaveWrong}
+use Rattle.stream_sending.specs.Reading.{GaveFrameFault, GaveFrames, GaveNextFrame, GaveWrong}
 use Rattle.stream_sending.specs.Reading.{IsNextRefusal}
 use Rattle.stream_sending.specs.Reading.{IsFramesReadRefusal, IsOpenedRefusal}
 use Rattle.stream_sending.specs.Streams.{BeginsFrames}
@@ -63,7 +63,7 @@ gave_none f a = record { part = []; grown = sym (append-nil a); says = λ behind
 
 -- a frame behind others
 pub gave_more : (f : Format) (vs : List Values) (v : Values) (a b c : List ℕ)
-    → GaveFrames f vs a b → GaveNext f b c ⊥ (Some v) → GaveFrames f (vs ++ v ∷ []) a c
+    → GaveFrames f vs a b → GaveNextFrame f b c ⊥ (Some v) → GaveFrames f (vs ++ v ∷ []) a c
 gave_more f vs v a b c p next =
     let g : GaveValue (frame_walk f) b c (planes_text v) = next.1.1 in
     record {
@@ -78,7 +78,7 @@ gave_more f vs v a b c p next =
 
 -- a frame, and others behind it
 pub gave_first : (f : Format) (v : Values) (vs : List Values) (a b c : List ℕ)
-    → GaveNext f a b ⊥ (Some v) → GaveFrames f vs b c → GaveFrames f (v ∷ vs) a c
+    → GaveNextFrame f a b ⊥ (Some v) → GaveFrames f vs b c → GaveFrames f (v ∷ vs) a c
 gave_first f v vs a b c next p =
     let g : GaveValue (frame_walk f) a b (planes_text v) = next.1.1 in
     record {
@@ -103,7 +103,8 @@ gave_end f vs a b c p same = subst (λ (l : List ℕ). GaveFrames f vs a l) (sym
 -- ---- the next frame
 
 pub next_given : (f : Format) (to to' : Option (List ℕ)) (a b : List ℕ) (ended : Type 0)
-    (o : Option Values) → TakesFrame f to to' o → GaveFrame f a b ended o → GaveNext f a b ended o
+    (o : Option Values) → TakesFrame f to to' o → GaveFrame f a b ended o
+    → GaveNextFrame f a b ended o
 next_given f to to' a b ended None takes gave = gave
 next_given f to to' a b ended (Some v) takes gave = (takes.0, (takes.1.0, gave))
 
@@ -181,7 +182,7 @@ refused_next most f a b ended size r wrong = absurd wrong
 
 -- of those behind the first
 pub refused_first : (most : ℕ) (f : Format) (v : Values) (a b c : List ℕ) (ended : Type 0)
-    → IsSize most f → GaveNext f a b ⊥ (Some v) → (r : Refusal)
+    → IsSize most f → GaveNextFrame f a b ⊥ (Some v) → (r : Refusal)
     → IsFramesReadRefusal 4294967295 f b c ended r → IsOpenedRefusal most f a c ended r
 refused_first most f v a b c ended size first (refusal.Form e) wrong =
     let behind : GaveFrameFault f b c ended e = wrong.0 in (

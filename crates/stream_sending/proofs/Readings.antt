@@ -11,7 +11,7 @@ use Rattle.st_format.specs.Picture.{Values}
 use Rattle.st_format.proofs.Histories.{since_is}
 use Rattle.picture_forms.specs.declared.fault.FormFault.{FormFault}
 use Rattle.picture_forms.specs.declared.fault.FormFault.TheVariants as form
-use Rattle.picture_forms.specs.Heads.{HasHead, head_walk}
+use Rattle.picture_forms.specs.Heads.{HasY4mHead, head_walk}
 use Rattle.picture_forms.specs.Walks.{GaveFault}
 use Rattle.picture_forms.proofs.HeadIs.{head_found}
 use Rattle.run_outcome.proofs.Refusals.{if_err_map, of_refusal_map}
@@ -43,7 +43,7 @@ one_part a b first octets ended p q =
 -- the head of what was read, and what is behind it
 head_of : (f : Format) (a b c next octets : List ℕ) (ended : Type 0)
     → GaveValue head_walk a b (fields_of f) → c ≡ b ++ next → (q : IsRead a c ended octets)
-    → HasHead octets (next ++ q.behind) (fields_of f)
+    → HasY4mHead octets (next ++ q.behind) (fields_of f)
 head_of f a b c next octets ended h grown q =
     head_found octets (next ++ q.behind) (fields_of f)
     (ap head_walk (two_parts a b c h.part next octets ended h.grown grown q)

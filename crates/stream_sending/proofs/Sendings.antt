@@ -14,7 +14,7 @@ use Rattle.capture_engines.specs.Sending.{HasSent, IsPlanOf, SendsMore, SendsNex
 use Rattle.capture_engines.specs.declared.sender.Sender.{Sender as Sends}
 use Rattle.capture_engines.specs.declared.sender.Sending.{Sending}
 use Rattle.capture_engines.proofs.Sendings.{has_more, has_planned, none_sent, sends_from}
-use Rattle.stream_sending.specs.Reading.{GaveFrames, GaveNext}
+use Rattle.stream_sending.specs.Reading.{GaveFrames, GaveNextFrame}
 use Rattle.stream_sending.specs.Sent.{TakesStream}
 use Rattle.stream_sending.proofs.FramesRead.{gave_more, gave_none}
 
@@ -61,7 +61,7 @@ one_more {A} {K} {G} took k sent p old mid new count sends next = record {
 pub more_so_far : {A K : Type 0} {G : Ghosts K} (took : K → List ℕ) (f : Format) (k : ℕ)
     (first here next : Values) (before now later : List ℕ) (old mid new : Sends A K G)
     → SoFar took f k first here before now old mid → SendsNext took here k mid new
-    → GaveNext f now later ⊥ (Some next)
+    → GaveNextFrame f now later ⊥ (Some next)
     → SoFar took f (k + 1) first next before later old new
 more_so_far {A} {K} {G} took f k first here next before now later old mid new so_far sends
     gave = record {

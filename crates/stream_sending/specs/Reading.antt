@@ -25,9 +25,9 @@ pub record GaveFrames (f : Format) (pictures : List Values) (before now : List �
   pub says : (behind : List ℕ) → BeginsFrames f pictures behind (part ++ behind)
 
 -- it gave the next frame, of this picture, or it has ended
-abbrev pub GaveNext : Format → List ℕ → List ℕ → Type 0 → Option Values → Type 0
-GaveNext f before now ended None = (now ≡ before) × ended
-GaveNext f before now ended (Some v) =
+abbrev pub GaveNextFrame : Format → List ℕ → List ℕ → Type 0 → Option Values → Type 0
+GaveNextFrame f before now ended None = (now ≡ before) × ended
+GaveNextFrame f before now ended (Some v) =
     (v.format ≡ f) × (IsPicture v × GaveValue (frame_walk f) before now (planes_text v))
 
 -- It gave octets, one at least, in which the next frame has this fault first: whatever is behind

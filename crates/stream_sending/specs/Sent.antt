@@ -11,7 +11,7 @@ use Rattle.media_file.specs.Writer.{written_text}
 use Rattle.packet_plan.specs.Plan.{IsSize}
 use Rattle.packet_plan.specs.Sender.{SendsFrom}
 use Rattle.picture_forms.specs.declared.fault.FormFault.{FormFault}
-use Rattle.picture_forms.specs.Heads.{HasHead, head_walk}
+use Rattle.picture_forms.specs.Heads.{HasY4mHead, head_walk}
 use Rattle.run_outcome.specs.Line.{line_text}
 use Rattle.run_outcome.specs.Pictures.{IsPlanFault}
 use Rattle.run_outcome.specs.TextRefusals.{IsTextOfRun, SaysText, SaysTextOfRun}
@@ -74,7 +74,7 @@ pub record SendsStream {S : Type 0} (gave : S → List ℕ) (ended : S → Type 
 -- what was read begins with the head of a stream of this format
 abbrev pub SaysHead : (List ℕ → Type 0) → Format → Type 0
 SaysHead read f = (octets : List ℕ) → read octets
-    → (frames : List ℕ) × HasHead octets frames (fields_of f)
+    → (frames : List ℕ) × HasY4mHead octets frames (fields_of f)
 
 -- The fault of a stream: of its head; or of the first frame that isn't whole and right, where its
 -- format has plans of packets of so many octets, and no more frames are before it than are sent.

@@ -5,7 +5,7 @@ use Rattle.st_format.specs.Fields.{fields_of}
 use Rattle.st_format.specs.Picture.{IsPicture, Values}
 use Rattle.picture_forms.specs.declared.fault.FormFault.{FormFault}
 use Rattle.picture_forms.specs.Frames.{frame_walk}
-use Rattle.picture_forms.specs.Heads.{HasHead}
+use Rattle.picture_forms.specs.Heads.{HasY4mHead}
 use Rattle.picture_forms.specs.Layouts.{planes_text}
 
 -- Octets begin with a frame of this picture, of this format, and what is behind it is so.
@@ -26,14 +26,14 @@ BeginsFrames f (v ∷ vs) rest octets = BeginsFrame f v (BeginsFrames f vs rest)
 -- nothing behind them.
 pub record IsStreamOf (octets : List ℕ) (f : Format) (pictures : List Values) : Type 0 where
   pub frames : List ℕ
-  pub head : HasHead octets frames (fields_of f)
+  pub head : HasY4mHead octets frames (fields_of f)
   pub are : BeginsFrames f pictures [] frames
 
 -- octets begin with a head and with the frames of these pictures, and this is behind them
 pub record BeginsStream (octets : List ℕ) (f : Format) (pictures : List Values) (rest : List ℕ)
     : Type 0 where
   pub frames : List ℕ
-  pub head : HasHead octets frames (fields_of f)
+  pub head : HasY4mHead octets frames (fields_of f)
   pub are : BeginsFrames f pictures rest frames
 
 -- Behind a head and whole frames are octets, one at least, with this fault, the first: so where a

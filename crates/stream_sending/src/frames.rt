@@ -7,7 +7,7 @@ ghost use Rattle.packet_plan.specs.Plan.{IsSize};
 ghost use Rattle.picture_forms.specs.declared.streams.Standing.TheVariants.{Reads};
 ghost use Rattle.run_outcome.specs.Fault.{Accounts, IfRefused, counts};
 ghost use Rattle.run_outcome.specs.Refusing.{OfRefusal};
-ghost use Rattle.stream_sending.specs.Reading.{GaveNext, IsNextRefusal, IsOpenedRefusal};
+ghost use Rattle.stream_sending.specs.Reading.{GaveNextFrame, IsNextRefusal, IsOpenedRefusal};
 ghost use Rattle.stream_sending.specs.Reading.{IsFramesReadRefusal, SendsBehind, SendsFirst};
 ghost use Rattle.stream_sending.specs.Reading.{SendsOpened};
 
@@ -76,7 +76,7 @@ fn next_picture<A: Allocator, S: ByteSource>(
     requires alike { last.format ≡ reader.old.format }
     ensures format { reader.new.format ≡ reader.old.format }
     ensures reads { IfOk result (λ o. IfSome o (λ _. reader.new.standing ≡ Reads)) }
-    ensures gave { IfOk result (λ o. GaveNext reader.old.format (S.gave reader.old.source)
+    ensures gave { IfOk result (λ o. GaveNextFrame reader.old.format (S.gave reader.old.source)
         (S.gave reader.new.source) (S.ended reader.new.source) o) }
     ensures refusal { IfErr result (λ f. OfRefusal f (IsNextRefusal reader.old.format
         (S.gave reader.old.source) (S.gave reader.new.source) (S.ended reader.new.source))) }

@@ -20,7 +20,7 @@ use Rattle.capture_engines.specs.Stopping.{IsReadingStop}
 use Rattle.capture_engines.specs.Taking.{said_behind, said_by}
 use Rattle.capture_engines.specs.declared.way.Way.{Way}
 use Rattle.capture_engines.proofs.Readings.{ended_has, file_goes, said_same}
-use Rattle.window_finding.specs.Finding.{AnnouncesType, FindsBy, FindsFile, FindsRecords}
+use Rattle.window_finding.specs.Finding.{AnnouncesType, FindsFile, FindsRecords, FindsSought}
 use Rattle.window_finding.specs.Finding.{FindsSoFar}
 use Rattle.window_finding.specs.First.{first_timestamps}
 use Rattle.window_finding.specs.Turns.{IsDone, IsStop}
@@ -82,8 +82,8 @@ pub record FindsMore {A : Type 0} (xs : List (List ℕ)) (b a : Finder A) : Type
 -- ---- a file
 
 found_by : {A : Type 0} (o : Sought) (said : List ℕ) (b a : Finder A)
-    (xs ds : List (List ℕ)) → FindsMore xs b a → FindsBy o said b ds
-    → FindsBy o said a (ds ++ xs)
+    (xs ds : List (List ℕ)) → FindsMore xs b a → FindsSought o said b ds
+    → FindsSought o said a (ds ++ xs)
 found_by o said b a xs ds found before = record {
   sought = found.sought ∙ before.sought;
   announced = subst (λ (n : ℕ). AnnouncesType said n) (sym found.payload_type) before.announced;
@@ -103,12 +103,12 @@ stands_by o text b a xs found (Some said) ds stands = found_by o said b a xs ds 
 
 -- one that began with the file stands by its text
 begun_by : {A : Type 0} (o : Sought) (text : List ℕ) (b a : Finder A) (xs : List (List ℕ))
-    → FindsMore xs b a → FindsBy o text b [] → (said : Option (List ℕ)) (ds : List (List ℕ))
+    → FindsMore xs b a → FindsSought o text b [] → (said : Option (List ℕ)) (ds : List (List ℕ))
     → FindsSoFar {A = A} o None said ds → FindsSoFar o (Some a) (said_by said text) (ds ++ xs)
 begun_by o text b a xs found begun (Some said) ds stands = absurd stands
 begun_by o text b a xs found begun None ds stands =
     found_by o text b a xs ds found
-    (subst (λ (l : List (List ℕ)). FindsBy o text b l) (sym stands) begun)
+    (subst (λ (l : List (List ℕ)). FindsSought o text b l) (sym stands) begun)
 
 pub records_found : {A : Type 0} (o : Sought) (text : List ℕ) (begun : Option (Finder A))
     (b a : Finder A) (xs : List (List ℕ)) → begun ≡ Some b → FindsMore xs b a
@@ -119,7 +119,7 @@ records_found {A} o text begun b a xs is found =
     })
 
 pub first_found : {A : Type 0} (o : Sought) (text : List ℕ) (begun : Option (Finder A))
-    (b a : Finder A) (xs : List (List ℕ)) → begun ≡ None → FindsBy o text b []
+    (b a : Finder A) (xs : List (List ℕ)) → begun ≡ None → FindsSought o text b []
     → FindsMore xs b a → FindsRecords o text xs begun (Some a)
 first_found {A} o text begun b a xs is opened found =
     subst (λ (s : Option (Finder A)). FindsRecords o text xs s (Some a)) (sym is) (record {
@@ -234,7 +234,7 @@ nothing (suc n) = refl
 
 pub opened_if : {A E : Type 0} (o : Sought) (r : Result (Finder A) E) (text : List ℕ)
     → IfOk r (λ s. s.sought ≡ o) → IfOk r (λ s. AnnouncesType text s.payload_type)
-    → IfOk r (λ s. s.window.items ≡ []) → IfOk r (λ s. FindsBy o text s [])
+    → IfOk r (λ s. s.window.items ≡ []) → IfOk r (λ s. FindsSought o text s [])
 opened_if o (Ok s) text sought announced none =
     record { sought = sought; announced = announced; first = none ∙ nothing o.count }
 opened_if o (Err e) text sought announced none = tt

@@ -41,7 +41,7 @@ pub record FindsFirst {S : Type 0} (count : ℕ) (ssrc : Option ℕ) (sdp : Opti
 -- ---- on the way there
 
 -- Of these datagrams these timestamps were found, as it was asked for, by what this text announces.
-pub record FindsBy {A : Type 0} (o : Sought) (text : List ℕ) (s : Finder A)
+pub record FindsSought {A : Type 0} (o : Sought) (text : List ℕ) (s : Finder A)
     (datagrams : List (List ℕ)) : Type 0 where
   pub sought : s.sought ≡ o
   pub announced : AnnouncesType text s.payload_type
@@ -53,7 +53,7 @@ abbrev pub FindsSoFar : {A : Type 0} → Sought → Option (Finder A) → Option
 FindsSoFar o None None datagrams = datagrams ≡ []
 FindsSoFar o None (Some text) datagrams = ⊥
 FindsSoFar o (Some s) None datagrams = ⊥
-FindsSoFar o (Some s) (Some text) datagrams = FindsBy o text s datagrams
+FindsSoFar o (Some s) (Some text) datagrams = FindsSought o text s datagrams
 
 -- those of datagrams, of a file, and of all files were
 abbrev pub FindsRecords : {A : Type 0} → Sought → List ℕ → List (List ℕ) → Option (Finder A)

@@ -13,7 +13,7 @@ ghost use Rattle.run_outcome.specs.Fault.{Accounts, counts};
 ghost use Rattle.run_outcome.specs.Moments.{WasRead};
 ghost use Rattle.run_outcome.specs.Refusing.{OfRefusal};
 ghost use Rattle.st_format.specs.History.{IsRead};
-ghost use Rattle.window_finding.specs.Finding.{FindsBy, FindsFile, FindsFiles, FindsFirst};
+ghost use Rattle.window_finding.specs.Finding.{FindsFile, FindsFiles, FindsFirst, FindsSought};
 ghost use Rattle.window_finding.specs.Finding.{FindsRecords, FindsSoFar, IsFindRefusal};
 ghost use Rattle.window_finding.specs.Finding.{IsFindingRefusal};
 ghost use Rattle.window_finding.specs.Turns.{IsDone, IsStop};
@@ -111,7 +111,7 @@ fn begin<A: Allocator + Copy>(
 }
 
 fn open_by<A: Allocator + Copy>(alloc: A, sought: Sought, sdp: &[u8]) -> Result<Finder<A>, Fault>
-    ensures opened { IfOk result (λ s. FindsBy sought sdp.now s []) }
+    ensures opened { IfOk result (λ s. FindsSought sought sdp.now s []) }
     ensures refusal { IfErr result (λ f. OfRefusal f (IsOpeningRefusal (0 ∷ []) sdp.now)) }
     ensures failures { Accounts result [] }
 {
@@ -263,7 +263,7 @@ fn open_by_text<A: Allocator + Copy>(
     sought: Sought,
     said: &[u8],
 ) -> Result<Finder<A>, Fault>
-    ensures opened { IfOk result (λ s. FindsBy sought said.now s []) }
+    ensures opened { IfOk result (λ s. FindsSought sought said.now s []) }
     ensures refusal { IfErr result (λ f. OfRefusal f (IsFrontRefusal (0 ∷ []) said.now)) }
     ensures failures { Accounts result [] }
 {

@@ -1,7 +1,7 @@
 use Rattle.std.proofs.Common.{◌∙◌, ◌∷◌, [], ℕ, List, length, arith, refl, subst, take}
 use Rattle.inspect_engine.specs.Arrivals.{captured}
 use Rattle.inspect_engine.specs.Inspected.{NotesEach}
-use Rattle.pcap_file.specs.Runs.{ReadsEnd, ReadsFault, ReadsPacket, layout_seen, packet_seen}
+use Rattle.pcap_file.specs.Runs.{ReadsFault, ReadsPacket, ReadsToEnd, layout_seen, packet_seen}
 use Rattle.inspect_engine.proofs.Noting.{going_all, going_none, going_on, going_wrong}
 use Rattle.inspect_engine.proofs.Noting.{rest_is}
 use Rattle.inspect_engine.proofs.recording.note_packets.Goals as goal
@@ -66,7 +66,7 @@ returns-in-Ok-None-clause-noted g c =
     (g.S.ByteSource.ended c.next_packet.new.source) c.args.inspection.now
     c.packets.inspection i.going
     (subst
-    (λ (n : ℕ). ReadsEnd n (g.S.ByteSource.gave c.packets.source)
+    (λ (n : ℕ). ReadsToEnd n (g.S.ByteSource.gave c.packets.source)
     (g.S.ByteSource.gave c.next_packet.new.source)
     (g.S.ByteSource.ended c.next_packet.new.source) (layout_seen c.packets.layout)) i.room
     (rw c.in-Ok-None.field-0-is at c.in-Ok-None.ensures.read))

@@ -1,5 +1,5 @@
 use Rattle.std.proofs.Common.{◌≡◌, Result, Err, ◌↔◌, subst, sym, arith}
-use Rattle.pcap_file.specs.Pcap.{IsBadMagic, IsBadVersion, IsPacked}
+use Rattle.pcap_file.specs.Pcap.{IsBadMagic, IsBadVersion, IsGzipped}
 use Rattle.pcap_file.specs.declared.fault.RecordingFault.{RecordingFault}
 use Rattle.pcap_file.specs.declared.fault.RecordingFault.TheVariants.{BadMagic, BadVersion, Packed}
 use Rattle.pcap_file.specs.declared.pcap.PcapHead.{PcapHead}
@@ -8,7 +8,7 @@ use Rattle.pcap_file.proofs.pcap.read_pcap_head.Goals as goal
 
 pub returns-clause-packed : goal.returns-clause-packed
 returns-clause-packed c =
-    subst (λ (r : Result PcapHead RecordingFault). (r ≡ Err Packed) ↔ IsPacked c.args.octets.now)
+    subst (λ (r : Result PcapHead RecordingFault). (r ≡ Err Packed) ↔ IsGzipped c.args.octets.now)
     (sym c.read.ensures.exact) (packed_is c.args.octets.now)
 
 pub returns-clause-bad_magic : goal.returns-clause-bad_magic

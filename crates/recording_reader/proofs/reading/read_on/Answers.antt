@@ -1,6 +1,6 @@
 use Rattle.std.proofs.Common.{◌≡◌, ◌∙◌, ℕ, sym, subst, length}
 use Rattle.std.proofs.lemmas.Result.{err_from_is_err_and}
-use Rattle.pcap_file.specs.Runs.{ReadsEnd, ReadsFault, ReadsPacket, layout_seen, packet_seen}
+use Rattle.pcap_file.specs.Runs.{ReadsFault, ReadsPacket, ReadsToEnd, layout_seen, packet_seen}
 use Rattle.pcap_file.proofs.Growing.{grew_on}
 use Rattle.pcap_file.specs.Runs.{most_packet}
 use Rattle.recording_reader.proofs.Passing.{none_left, passed_end, passed_fault}
@@ -72,6 +72,6 @@ returns-clause-read g c =
     (told.gave c.next_packet.new.source) (told.ended c.next_packet.new.source) c.args.layout.now
     c.next_packet.new.layout (layout_seen l.layout) c.args.left_out.now l.left_out
     c.next_packet.new.buf l.invariant.passed
-    (subst (λ (n : ℕ). ReadsEnd n (told.gave l.source) (told.gave c.next_packet.new.source)
+    (subst (λ (n : ℕ). ReadsToEnd n (told.gave l.source) (told.gave c.next_packet.new.source)
     (told.ended c.next_packet.new.source) (layout_seen l.layout)) same
     (rw none at c.in_ok-packet.ensures.read))
