@@ -4,7 +4,7 @@ ghost use Rattle.following.specs.Need.{comes_of, newest_with, noted_after, noted
 
 use crate::answer::Followed;
 use crate::follower::MOST_FRAMES;
-use crate::standing::{has_at, place_of};
+use crate::standing::{has_at, older_count};
 use arrayvec::ArrayVec;
 use path_receiver::Refusal;
 use std::marker::Model;
@@ -72,7 +72,7 @@ impl WindowNeed {
     fn take(&mut self, timestamp: u32)
         ensures { self.new ≡ noted_at self.old timestamp }
     {
-        let place = place_of(self.newest.as_slice(), timestamp);
+        let place = older_count(self.newest.as_slice(), timestamp);
         let is_there = has_at(self.newest.as_slice(), place, timestamp);
         let newer = self.newest.len() - place;
         let need = if is_there { newer } else { newer + 1 };

@@ -68,7 +68,7 @@ pub fn beyond(newest: Option<u32>, most_ahead: u32, timestamp: u32) -> bool
 fn place_among(window: &[u32], gone: Option<u32>, size: usize, timestamp: u32) -> Standing
     ensures { result ≡ standing_in window.now gone size timestamp }
 {
-    let place = place_of(window, timestamp);
+    let place = older_count(window, timestamp);
     if has_at(window, place, timestamp) {
         return Standing::Inside(place);
     }
@@ -92,7 +92,7 @@ fn entry(count: usize, size: usize, place: usize) -> Standing
 }
 
 /// How many timestamps from the first one on are older.
-pub fn place_of(window: &[u32], timestamp: u32) -> usize
+pub fn older_count(window: &[u32], timestamp: u32) -> usize
     ensures place { result ≡ place_in timestamp window.now }
     ensures within { result ≤ length window.now }
 {

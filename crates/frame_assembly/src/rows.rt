@@ -66,7 +66,7 @@ pub fn marks_of_row<'a>(format: &Format, marks: &'a [u16], octets: &[u8], row: u
 }
 
 /// How many groups stand before a row's group, in raster order.
-fn place_of(format: &Format, row: u32, group: u32) -> usize
+fn group_place(format: &Format, row: u32, group: u32) -> usize
     requires row { row < format.now.height }
     requires group { group < row_groups format.now }
     ensures place { result ≡ row * row_groups format.now + group }
@@ -104,7 +104,7 @@ pub fn group_of(
         }) row group) }
 {
     let size = format.pgroup().octets;
-    let at = place_of(format, row, group);
+    let at = group_place(format, row, group);
     out.copy_from_slice(&octets[size * at..size * (at + 1)]);
     GroupState::of_mark(marks[at])
 }
@@ -135,7 +135,7 @@ pub fn set_group_of(
         (given_cells present contested (values_in (bits_of format.now.depth) from.now))
         (cells_in format.now marks.old octets.old) }
 {
-    let at = place_of(format, row, group);
+    let at = group_place(format, row, group);
     if present {
         // Where no sample is contested, this is the mark of a whole group.
         let mark = GroupState::Mixed(contested).mark();

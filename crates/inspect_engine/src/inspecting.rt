@@ -18,7 +18,7 @@ use st_format::{ByteSink, ByteSource};
 use std::alloc::{AllocError, Allocator};
 
 /// Room for the greatest packet or block of a recording that is read.
-fn room<A: Allocator>(alloc: A) -> Result<Vec<u8, A>, AllocError>
+fn block_room<A: Allocator>(alloc: A) -> Result<Vec<u8, A>, AllocError>
     ensures { IfOk result (λ buf. vec_len buf ≡ most_packet) }
 {
     vec![in alloc; 0u8; MOST_PACKET]
@@ -57,7 +57,7 @@ where
         ∷ []) }
 {
     let mut inspection = Inspection::new(alloc);
-    let mut buf = room(alloc)?;
+    let mut buf = block_room(alloc)?;
     let is_cut = note_recordings(&mut inspection, recordings, &mut buf)?;
     print_inspection(&inspection, form, output)?;
     if is_cut {

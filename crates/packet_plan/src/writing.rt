@@ -27,7 +27,7 @@ use std::alloc::Allocator;
 const RTP_OCTETS: usize = 12;
 
 /// The head of the segment that carries a run: its column in pixels, its length in octets.
-fn head_of(format: &Format, run: PacketRun) -> SegmentHead
+fn segment_head(format: &Format, run: PacketRun) -> SegmentHead
     requires { HasHead format.now run }
     ensures { result ≡ head_at format.now run }
 {
@@ -52,7 +52,7 @@ fn heads_of(format: &Format, runs: &[PacketRun]) -> [SegmentHead; 3]
     let mut count = 0;
     let mut rest = runs;
     while let [run, more @ ..] = rest {
-        heads[count] = head_of(format, *run);
+        heads[count] = segment_head(format, *run);
         count += 1;
         rest = more;
     }
@@ -61,7 +61,7 @@ fn heads_of(format: &Format, runs: &[PacketRun]) -> [SegmentHead; 3]
 
 /// Writes the RTP header and the front of the payload, and answers how long they are: 14 octets and
 /// 6 for each segment.
-fn write_front(
+fn write_datagram_front(
     buf: &mut [u8],
     format: &Format,
     runs: &[PacketRun],
@@ -212,6 +212,6 @@ pub(crate) fn write_datagram<P: Raster>(
     ensures behind { drop result buf.new ≡ drop result buf.old }
 {
     let number = stamp.first.wrapping_add(index);
-    let at = write_front(buf, &picture.format(), runs, stamp, number, is_last);
+    let at = write_datagram_front(buf, &picture.format(), runs, stamp, number, is_last);
     write_runs(buf, at, picture, runs)
 }

@@ -65,7 +65,7 @@ fn write_headers(buf: &mut [u8], heads: &[SegmentHead])
 }
 
 /// Writes the extended number in two octets, and the headers behind it.
-fn write_front(buf: &mut [u8], extended: u16, heads: &[SegmentHead])
+fn write_payload_front(buf: &mut [u8], extended: u16, heads: &[SegmentHead])
     requires room { 2 + 6 * length heads.now ≤ length buf.old }
     requires fields { AllByRecursion HeadFits heads.now }
     ensures length { length buf.new ≡ length buf.old }
@@ -97,6 +97,6 @@ pub fn write_payload_header(buf: &mut [u8], extended: u16, heads: &[SegmentHead]
         → AreInside segments f
         ↔ IsWholePayload (take result buf.new ++ data_text segments) f extended segments }
 {
-    write_front(buf, extended, heads);
+    write_payload_front(buf, extended, heads);
     2 + 6 * heads.len()
 }

@@ -54,13 +54,13 @@ pub fn save_receiver<A: Allocator, K: ByteSink>(
         → (s.opening ≡ receiver.now.opening) × (s.frames ≡ receiver.now.frames) }
 {
     tell_receiver(receiver);
-    write_front(sink, receiver)?;
+    write_start(sink, receiver)?;
     write_frames(sink, receiver)?;
     Ok(())
 }
 
 /// Writes what stands before the frames: name, version, format block, and seven octets more.
-fn write_front<A: Allocator, K: ByteSink>(
+fn write_start<A: Allocator, K: ByteSink>(
     sink: &mut K,
     receiver: &Receiver<A>,
 ) -> Result<(), DeviceFault>
@@ -77,11 +77,11 @@ fn write_front<A: Allocator, K: ByteSink>(
 {
     write_whole(sink, RECEIVER_ONE)?;
     write_whole(sink, &format_block(&receiver.format()))?;
-    write_whole(sink, &head_of(receiver))
+    write_whole(sink, &opening_fields(receiver))
 }
 
 /// The fields behind the format block.
-fn head_of<A: Allocator>(receiver: &Receiver<A>) -> [u8; 7]
+fn opening_fields<A: Allocator>(receiver: &Receiver<A>) -> [u8; 7]
     ensures { result ≡ opening_text (kept_of receiver.now) }
 {
     let count = receiver.window().len() as u8;

@@ -38,7 +38,7 @@ impl Streams {
         ensures { (said : List Rtp) → self.old ≡ rtp_streams_of said
             → self.new ≡ rtp_streams_of (said ++ seen_rtp rtp.now ∷ []) }
     {
-        match place_of(self.kept.as_slice(), rtp.payload_type, rtp.ssrc) {
+        match place_of_stream(self.kept.as_slice(), rtp.payload_type, rtp.ssrc) {
             Some(place) => {
                 let streams = self.kept.as_mut_slice();
                 streams[place].note(rtp.timestamp);
@@ -65,7 +65,7 @@ impl Streams {
 }
 
 /// The place of the stream of a payload type and a source, where it is kept.
-fn place_of(streams: &[RtpStream], payload_type: u8, ssrc: u32) -> Option<usize>
+fn place_of_stream(streams: &[RtpStream], payload_type: u8, ssrc: u32) -> Option<usize>
     ensures place { result ≡ place_of is_same
         (record { payload_type = payload_type; ssrc = ssrc }) (map stream_key_of streams.now) }
     ensures within { IfSome result (λ i. i < length streams.now) }
@@ -73,7 +73,7 @@ fn place_of(streams: &[RtpStream], payload_type: u8, ssrc: u32) -> Option<usize>
     first_of(streams, payload_type, ssrc)
 }
 
-/// `place_of`, by the walk that finds it.
+/// `place_of_stream`, by the walk that finds it.
 fn first_of(streams: &[RtpStream], payload_type: u8, ssrc: u32) -> Option<usize>
     ensures first { result ≡ position_from (λ s. is_same
         (record { payload_type = payload_type; ssrc = ssrc }) (stream_key_of s)) 0 streams.now }

@@ -132,7 +132,7 @@ fn place_in(text: &[u8], section: VideoSection<'_>, fault: SdpFault) -> Place
 }
 
 /// The place of the fault for which a text isn't read.
-pub(crate) fn place_of(text: &[u8], stop: Stop<'_>) -> Option<Place>
+pub(crate) fn place_of_stop(text: &[u8], stop: Stop<'_>) -> Option<Place>
     ensures place { IfSome result (λ place. IsPlace text.now place) }
     ensures placed { result ≡ None
         → (stop.entry.fault ≡ NoMemory) ⊎ (stop.entry.fault ≡ NoVideo) }

@@ -19,7 +19,7 @@ use crate::items::{colorimetry, has_bad, range_named};
 use crate::leg::format_of;
 use crate::lines::{first_attribute, is_raw90000, is_word, media_of, next_video};
 use crate::parameters::{Parameters, is_missing, parameters_of, text_of, value_of};
-use crate::place::{Located, place_of};
+use crate::place::{Located, place_of_stop};
 use crate::sdp::{Leg, Listed, Range, Sdp, Stop, VideoSection};
 use arrayvec::ArrayVec;
 use std::alloc::Allocator;
@@ -275,7 +275,7 @@ pub fn read_located<A: Allocator + Copy>(alloc: A, text: &[u8]) -> Result<Sdp, L
         Ok(sdp) => Ok(sdp),
         Err(stop) => Err(Located {
             fault: stop.fault,
-            place: place_of(text, stop),
+            place: place_of_stop(text, stop),
         }),
     }
 }

@@ -31,7 +31,7 @@ pub fn open<A: Allocator + Copy, B: Allocator>(
 {
     let format = plan.format();
     let opened = open_receivers(alloc, format, stamp, window, receivers)?;
-    let buf = room(alloc, plan)?;
+    let buf = datagram_room(alloc, plan)?;
     plan.facts();
     Ok(Stage {
         receivers: opened,
@@ -86,7 +86,10 @@ fn open_receivers<A: Allocator + Copy>(
 }
 
 /// Room for each datagram of a plan: its greatest size.
-fn room<A: Allocator, B: Allocator>(alloc: A, plan: &Plan<B>) -> Result<Vec<u8, A>, PlayFault>
+fn datagram_room<A: Allocator, B: Allocator>(
+    alloc: A,
+    plan: &Plan<B>,
+) -> Result<Vec<u8, A>, PlayFault>
     ensures room { IfOk result (λ buf. EachHasRoom plan.now (length buf.items)) }
     ensures memory { OnErr result (result ≡ Err PlayFault.NoMemory) }
 {

@@ -14,8 +14,8 @@ returns-clause-spelled c =
     (group_cells (raster_in c.args.format.now c.args.marks.now c.args.octets.now) c.args.row
     c.args.group))) (sym c.copy_from_slice.ensures.after)
     (group_spelled c.args.format.now c.args.marks.now c.args.octets.now c.args.row c.args.group
-    c.pgroup-size.result.octets c.place_of-at.result c.pgroup-size.ensures.octets
-    c.place_of-at.ensures.place
+    c.pgroup-size.result.octets c.group_place-at.result c.pgroup-size.ensures.octets
+    c.group_place-at.ensures.place
     c.requires.whole c.requires.packed c.requires.row c.requires.group)
 
 pub returns-clause-state : goal.returns-clause-state
@@ -23,16 +23,16 @@ returns-clause-state c =
     c.of_mark.ensures.cells _
     (group_few c.args.format.now c.args.marks.now c.args.octets.now c.args.row c.args.group)
     (group_marks c.args.format.now c.args.marks.now c.args.octets.now c.args.row c.args.group
-    c.place_of-at.result c.place_of-at.ensures.place c.requires.whole c.requires.packed
+    c.group_place-at.result c.group_place-at.ensures.place c.requires.whole c.requires.packed
     c.requires.row c.requires.group)
 
 pub overflow_mul-size : goal.overflow_mul-size
 overflow_mul-size c =
     omega (
       arith,
-      octets_inside c.args.format.now c.args.marks.now c.args.octets.now c.place_of-at.result 1
+      octets_inside c.args.format.now c.args.marks.now c.args.octets.now c.group_place-at.result 1
           c.pgroup-size.result.octets c.requires.packed
-          (omega (arith, c.place_of-at.ensures.limit, c.requires.whole))
+          (omega (arith, c.group_place-at.ensures.limit, c.requires.whole))
           c.pgroup-size.ensures.octets,
     )
 
@@ -43,9 +43,9 @@ pub overflow_mul-size-2 : goal.overflow_mul-size-2
 overflow_mul-size-2 c =
     omega (
       arith,
-      octets_inside c.args.format.now c.args.marks.now c.args.octets.now c.place_of-at.result 1
+      octets_inside c.args.format.now c.args.marks.now c.args.octets.now c.group_place-at.result 1
           c.pgroup-size.result.octets c.requires.packed
-          (omega (arith, c.place_of-at.ensures.limit, c.requires.whole))
+          (omega (arith, c.group_place-at.ensures.limit, c.requires.whole))
           c.pgroup-size.ensures.octets,
     )
 
@@ -59,9 +59,9 @@ pub slice_bounds-copy_from_slice-end : goal.slice_bounds-copy_from_slice-end
 slice_bounds-copy_from_slice-end c =
     omega (
       arith,
-      octets_inside c.args.format.now c.args.marks.now c.args.octets.now c.place_of-at.result 1
+      octets_inside c.args.format.now c.args.marks.now c.args.octets.now c.group_place-at.result 1
           c.pgroup-size.result.octets c.requires.packed
-          (omega (arith, c.place_of-at.ensures.limit, c.requires.whole))
+          (omega (arith, c.group_place-at.ensures.limit, c.requires.whole))
           c.pgroup-size.ensures.octets,
     )
 
@@ -70,4 +70,4 @@ offset_bounds-marks-at c = omega arith
 
 pub bounds-marks-at : goal.bounds-marks-at
 bounds-marks-at c =
-    omega (arith, c.place_of-at.ensures.limit, c.requires.whole)
+    omega (arith, c.group_place-at.ensures.limit, c.requires.whole)

@@ -35,13 +35,13 @@ returns-then-present-clause-cells c =
     ∙ ap
     (λ (m : ℕ). replaced_cells
     ((pixel_group c.args.format.now.sampling c.args.format.now.depth).samples *
-    c.place_of-at.result) (cells_in c.args.format.now (m ∷ []) c.args.from.now) old)
+    c.group_place-at.result) (cells_in c.args.format.now (m ∷ []) c.args.from.now) old)
     c.mark-mark.ensures.mark
     ∙ ap
     (λ (k : ℕ). replaced_cells
     ((pixel_group c.args.format.now.sampling c.args.format.now.depth).samples * k)
     (cells_in c.args.format.now
-    (bit_or 32768 c.args.contested ∷ []) c.args.from.now) old) c.place_of-at.ensures.place
+    (bit_or 32768 c.args.contested ∷ []) c.args.from.now) old) c.group_place-at.ensures.place
     ∙ ap
     (λ (cs : List Cell). replaced_cells
     (group_start c.args.format.now c.args.row c.args.group) cs old)
@@ -60,11 +60,11 @@ returns-else-present-clause-cells c =
     ∙ ap
     (λ (m : ℕ). replaced_cells
     ((pixel_group c.args.format.now.sampling c.args.format.now.depth).samples *
-    c.place_of-at.result) (cells_in c.args.format.now (m ∷ []) none) old) c.mark.ensures.mark
+    c.group_place-at.result) (cells_in c.args.format.now (m ∷ []) none) old) c.mark.ensures.mark
     ∙ ap
     (λ (k : ℕ). replaced_cells
     ((pixel_group c.args.format.now.sampling c.args.format.now.depth).samples * k)
-    (cells_in c.args.format.now (0 ∷ []) none) old) c.place_of-at.ensures.place
+    (cells_in c.args.format.now (0 ∷ []) none) old) c.group_place-at.ensures.place
     ∙ ap
     (λ (cs : List Cell). replaced_cells
     (group_start c.args.format.now c.args.row c.args.group) cs old)

@@ -14,6 +14,6 @@ returns-clause-value g c =
 pub returns-clause-behind : goal.returns-clause-behind
 returns-clause-behind g c =
     c.write_runs.ensures.behind
-    ∙ stays_later c.write_front-at.result c.write_runs.result c.args.buf.now
-    c.write_front-at.new.buf
-    (omega (arith, c.write_runs.ensures.value)) c.write_front-at.ensures.behind
+    ∙ stays_later c.write_datagram_front-at.result c.write_runs.result c.args.buf.now
+    c.write_datagram_front-at.new.buf
+    (omega (arith, c.write_runs.ensures.value)) c.write_datagram_front-at.ensures.behind

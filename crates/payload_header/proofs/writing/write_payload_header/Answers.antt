@@ -4,9 +4,9 @@ use Rattle.payload_header.proofs.writing.write_payload_header.Goals as goal
 
 pub returns-clause-payload : goal.returns-clause-payload
 returns-clause-payload c =
-    is_written c.args.extended c.args.heads.now c.write_front.new.buf _
+    is_written c.args.extended c.args.heads.now c.write_payload_front.new.buf _
     (omega (
       arith,
       c.ranges.extended,
     )) c.requires.some c.requires.few c.requires.fields
-    c.write_front.ensures.written
+    c.write_payload_front.ensures.written

@@ -14,7 +14,7 @@ returns-in-Some c =
     (with_items c.args.self.now.kept
     (slice_set c.as_mut_slice-streams.result.now c.in-Some.place c.note.new.self)) e
     (ap (place (rtp_key (seen_rtp c.args.rtp.now))) (sym c.as_slice.ensures.value)
-    ∙ sym c.place_of.ensures.place ∙ c.in-Some.is)
+    ∙ sym c.place_of_stream.ensures.place ∙ c.in-Some.is)
     c.as_mut_slice-streams.ensures.value
     (items-with_items c.args.self.now.kept
     (slice_set c.as_mut_slice-streams.result.now c.in-Some.place c.note.new.self)

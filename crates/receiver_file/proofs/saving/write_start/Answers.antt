@@ -8,7 +8,7 @@ use Rattle.media_file.specs.Fronts.{kind_text, receiver_name}
 use Rattle.media_file.specs.StateFile.{Kept, format_text, opening_text}
 use Rattle.media_file.proofs.Written.{part_first, part_then, prefix_first, prefix_then}
 use Rattle.receiver_file.specs.Saved.{kept_of}
-use Rattle.receiver_file.proofs.saving.write_front.Goals as goal
+use Rattle.receiver_file.proofs.saving.write_start.Goals as goal
 
 abbrev name : List ℕ
 name = kind_text receiver_name One
@@ -46,7 +46,7 @@ returns-clause-ok g c =
     (λ q. Appends-trans _ _ _ name
     (format_text k.format ++ opening_text k) c.in_ok-write_whole.ensures.ok
     (Appends-trans _ _ _ (format_text k.format) (opening_text k)
-    (rw block at c.in_ok-write_whole-2.ensures.ok) (rw c.head_of.ensures at q)))
+    (rw block at c.in_ok-write_whole-2.ensures.ok) (rw c.opening_fields.ensures at q)))
     c.write_whole-3.ensures.ok
 
 pub returns-clause-fault : goal.returns-clause-fault
@@ -59,7 +59,7 @@ returns-clause-fault g c =
     (λ q. prefix_then _ _ _ name
     (format_text k.format ++ opening_text k) c.in_ok-write_whole.ensures.ok
     (prefix_then _ _ _ (format_text k.format) (opening_text k)
-    (rw block at c.in_ok-write_whole-2.ensures.ok) (rw c.head_of.ensures at q)))
+    (rw block at c.in_ok-write_whole-2.ensures.ok) (rw c.opening_fields.ensures at q)))
     c.write_whole-3.ensures.fault
 
 pub returns-in_err-write_whole-clause-took_part : goal.returns-in_err-write_whole-clause-took_part
@@ -96,7 +96,7 @@ returns-clause-took g c =
     (λ q. Appends-trans (Some _) (Some _) (Some _) name
     (format_text k.format ++ opening_text k) c.in_ok-write_whole.ensures.took
     (Appends-trans (Some _) (Some _) (Some _) (format_text k.format) (opening_text k)
-    (rw block at c.in_ok-write_whole-2.ensures.took) (rw c.head_of.ensures at q)))
+    (rw block at c.in_ok-write_whole-2.ensures.took) (rw c.opening_fields.ensures at q)))
     c.write_whole-3.ensures.took
 
 pub returns-clause-took_part : goal.returns-clause-took_part
@@ -109,5 +109,5 @@ returns-clause-took_part g c =
     (λ q. part_then _ _ _ name
     (format_text k.format ++ opening_text k) c.in_ok-write_whole.ensures.took
     (part_then _ _ _ (format_text k.format) (opening_text k)
-    (rw block at c.in_ok-write_whole-2.ensures.took) (rw c.head_of.ensures at q)))
+    (rw block at c.in_ok-write_whole-2.ensures.took) (rw c.opening_fields.ensures at q)))
     c.write_whole-3.ensures.part

@@ -1,6 +1,6 @@
 use Rattle.std.proofs.Common.{◌∙◌, ap, length, ℕ, List}
 use Rattle.receiver_file.proofs.KeptRuns.{opening_same}
-use Rattle.receiver_file.proofs.saving.head_of.Goals as goal
+use Rattle.receiver_file.proofs.saving.opening_fields.Goals as goal
 
 pub returns : goal.returns
 returns g c =

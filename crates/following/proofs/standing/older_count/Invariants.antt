@@ -1,6 +1,6 @@
 use Rattle.std.proofs.Common.{◌≡◌, ◌+◌, drop}
 use Rattle.following.specs.Standing.{place_in}
-use Rattle.following.proofs.standing.place_of.Given as goal
+use Rattle.following.proofs.standing.older_count.Given as goal
 
 abbrev pub invariant-loop-place : goal.invariant-loop-place
 invariant-loop-place l =

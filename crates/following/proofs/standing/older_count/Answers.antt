@@ -3,7 +3,7 @@ use Rattle.std.proofs.Common.{get_or, ap, sym, arith}
 use Rattle.std.proofs.lemmas.List.{drop_all}
 use Rattle.following.specs.Serial.{is_newer}
 use Rattle.following.specs.Standing.{place_in}
-use Rattle.following.proofs.standing.place_of.Goals as goal
+use Rattle.following.proofs.standing.older_count.Goals as goal
 
 -- one more
 at_place : (ts i : ℕ) (w : List ℕ) (b : Bool) → i < length w → b ≡ is_newer ts (get_or w i 0)

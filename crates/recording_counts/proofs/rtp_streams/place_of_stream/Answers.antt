@@ -1,6 +1,6 @@
 use Rattle.std.proofs.Common.{◌∙◌}
 use Rattle.recording_counts.proofs.Kept.{found_at}
-use Rattle.recording_counts.proofs.rtp_streams.place_of.Goals as goal
+use Rattle.recording_counts.proofs.rtp_streams.place_of_stream.Goals as goal
 
 pub returns-clause-place : goal.returns-clause-place
 returns-clause-place c =

@@ -7,7 +7,7 @@ use Rattle.packet_plan.proofs.Behind.{front_stays}
 use Rattle.packet_plan.proofs.Texts.{heads_fit, front_at, length-front}
 use Rattle.packet_plan.proofs.Walks.{length-map}
 use Rattle.payload_header.specs.Writing.{payload_front}
-use Rattle.packet_plan.proofs.writing.write_front.Goals as goal
+use Rattle.packet_plan.proofs.writing.write_datagram_front.Goals as goal
 
 pub write_payload_header-front-requires-clause-fields :
     goal.write_payload_header-front-requires-clause-fields
