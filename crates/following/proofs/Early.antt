@@ -42,11 +42,11 @@ use Rattle.following.proofs.Windows.{waiting_at}
 
 -- ---- what has gone, and what is in
 
-record IsStage (o : Opening) (size ahead : ℕ) (xs : List Timed) (gone : List ℕ) (last : Option ℕ)
+pub record IsStage (o : Opening) (size ahead : ℕ) (xs : List Timed) (gone : List ℕ) (last : Option ℕ)
     (win : List ℕ) : Type 0 where
-  times : in_order (times_of o xs) ≡ gone ++ win
-  room : length win ≤ size
-  ends : Ends gone last
+  pub times : in_order (times_of o xs) ≡ gone ++ win
+  pub room : length win ≤ size
+  pub ends : Ends gone last
 
 -- what is handed out from there on is the rest, and none of what has gone comes again
 record HandsOut (o : Opening) (size ahead : ℕ) (xs : List Timed) (acts : List Act) (gone : List ℕ)
@@ -58,8 +58,8 @@ record HandsOut (o : Opening) (size ahead : ℕ) (xs : List Timed) (acts : List 
   over : (x : ℕ) → IsMember x gone → IsMember x (times_of o (taken_of acts)) → ⊥
 
 -- what is near the time that comes next
-record IsNext (size : ℕ) (us : List ℕ) (u : ℕ) : Type 0 where
-  near : (v : ℕ) → IsMember v us → length (newer_than v us) ≤ size → IsNear u v
+pub record IsNext (size : ℕ) (us : List ℕ) (u : ℕ) : Type 0 where
+  pub near : (v : ℕ) → IsMember v us → length (newer_than v us) ≤ size → IsNear u v
 
 is_next : (o : Opening) (size ahead : ℕ) (xs ys : List Timed) (y : Timed) (d : Datagram)
     → reading_of o y.octets ≡ Ok d → AreNearby size (times_of o (xs ++ y ∷ ys))
@@ -72,13 +72,13 @@ is_next o size ahead xs ys y d read nearby = record {
 le_of : (x v : ℕ) → x < v → x ≤ v
 le_of x v lt = omega arith
 
-near_in : (size u : ℕ) (us gone win : List ℕ) → IsNext size us u → in_order us ≡ gone ++ win
+pub near_in : (size u : ℕ) (us gone win : List ℕ) → IsNext size us u → in_order us ≡ gone ++ win
     → Rises (gone ++ win) → length win ≤ size → AllNear u win
 near_in size u us gone win next e h room v m =
     next.near v (came v us (gone ++ win) e (member_right v gone win m))
     (few_at size v us gone win e room (λ x k. le_of x v (parts_rise x v gone win h k m)))
 
-near_end : (size u : ℕ) (us gone win : List ℕ) (g : ℕ) → IsNext size us u
+pub near_end : (size u : ℕ) (us gone win : List ℕ) (g : ℕ) → IsNext size us u
     → in_order us ≡ gone ++ win → Rises (gone ++ win) → length win ≤ size → EndsIn gone g
     → IsNear u g
 near_end size u us gone win g next e h room ends =
@@ -86,7 +86,7 @@ near_end size u us gone win g next e h room ends =
     (few_at size g us gone win e room (below_end gone win g h ends))
 
 -- a time is newer than what has gone, or not
-abbrev IsOver : Option ℕ → ℕ → Type 0
+abbrev pub IsOver : Option ℕ → ℕ → Type 0
 IsOver None u = ⊥
 IsOver (Some g) u = (u ≤ g) × IsNear u g
 
@@ -120,7 +120,7 @@ fresh_is u us gone win e less out m =
 
 -- ---- one that has no place is late
 
-standing-over : (u : ℕ) (vs : List ℕ) (last : Option ℕ) (size : ℕ) → AllNear u vs
+pub standing-over : (u : ℕ) (vs : List ℕ) (last : Option ℕ) (size : ℕ) → AllNear u vs
     → (IsMember u vs → ⊥) → IsOver last u
     → standing_in (map wrapped vs) (wrapped_if last) size (wrapped u) ≡ Nowhere
 standing-over u vs None size near out over = absurd over
@@ -198,13 +198,13 @@ Goes o size ahead xs acts =
     (gone win : List ℕ) (last : Option ℕ) → IsStage o size ahead xs gone last win
     → NoneLost (shaped o size ahead xs last win) acts → HandsOut o size ahead xs acts gone last win
 
-one_more : (x u : ℕ) (r : Result Datagram Refusal) (vs : List ℕ) → (x ≡ u → ⊥)
+pub one_more : (x u : ℕ) (r : Result Datagram Refusal) (vs : List ℕ) → (x ≡ u → ⊥)
     → (IsMember x vs → ⊥) → IsMember x (time_if u r ++ vs) → ⊥
 one_more x u (Ok d) vs ne out (inl e) = ne e
 one_more x u (Ok d) vs ne out (inr m) = out m
 one_more x u (Err e) vs ne out m = out m
 
-after_refused : (x u : ℕ) (r : Result Datagram Refusal) (e : Refusal) (vs : List ℕ) → r ≡ Err e
+pub after_refused : (x u : ℕ) (r : Result Datagram Refusal) (e : Refusal) (vs : List ℕ) → r ≡ Err e
     → (IsMember x vs → ⊥) → IsMember x (time_if u r ++ vs) → ⊥
 after_refused x u (Ok d) e vs h out m = absurd cc
 after_refused x u (Err f) e vs h out m = out m
@@ -241,7 +241,7 @@ abbrev handed : ℕ → Raster → Handed
 handed v frame = record { timestamp = wrapped v; frame = frame }
 
 -- the frame that goes is that of the whole
-kept_whole : (o : Opening) (v : ℕ) (xs zs : List Timed) → (IsMember v (times_of o zs) → ⊥)
+pub kept_whole : (o : Opening) (v : ℕ) (xs zs : List Timed) → (IsMember v (times_of o zs) → ⊥)
     → handed_at o xs v ≡ handed_at o (xs ++ zs) v
 kept_whole o v xs zs over = ap (λ (r : Raster). handed v r) (frame_kept o v (wrapped v) xs zs over)
 

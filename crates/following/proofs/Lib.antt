@@ -27,3 +27,6 @@ pub mod Complete
 pub mod Handing
 pub mod LostSince
 pub mod Needed
+pub mod Repeats
+pub mod Prompt
+pub mod PromptPictures

@@ -96,7 +96,7 @@ abbrev handed : Opening → ℕ → List Cell → Handed
 handed o u cells =
     record { timestamp = wrapped u; frame = record { format = o.format; cells = cells } }
 
-handed_at-same : (o : Opening) (xs ys : List Timed) → SameMembers xs ys → (u : ℕ)
+pub handed_at-same : (o : Opening) (xs ys : List Timed) → SameMembers xs ys → (u : ℕ)
     → handed_at o xs u ≡ handed_at o ys u
 handed_at-same o xs ys same u =
     ap (handed o u)

@@ -35,10 +35,11 @@ use Rattle.following.specs.Following.{Handed, handed_out}
 use Rattle.following.specs.Pictures.{BroughtAll, picture_time, pictures_from, time_behind}
 use Rattle.following.specs.Pictures.{timed_from, times_from}
 use Rattle.following.specs.Times.{AreInRound, AreTimed, IsOrderly, Timed, frame_of}
-use Rattle.following.specs.Times.{handed_of, in_order, octets_of, time_if, time_of, times_of}
+use Rattle.following.specs.Times.{handed_at, handed_of, in_order, octets_of, time_if, time_of, times_of}
 use Rattle.following.proofs.Ordered.{Rises, rises_behind}
 use Rattle.following.proofs.Orders.{order_members, same_rising}
-use Rattle.following.proofs.WholeList.{times_has, whole_list}
+use Rattle.following.proofs.Streams.{whole_stream}
+use Rattle.following.proofs.WholeList.{map_whole, times_has}
 
 -- ---- a sender's datagram, as the receiver reads it
 
@@ -250,7 +251,7 @@ time_from f base k u (p ∷ ps) (inr m) =
 
 -- ---- the datagrams that came
 
-timed-octets : (o : Opening) (base : ℕ) (ds : List (List ℕ))
+pub timed-octets : (o : Opening) (base : ℕ) (ds : List (List ℕ))
     → octets_of (map (timed_from o base) ds) ≡ ds
 timed-octets o base [] = refl
 timed-octets o base (d ∷ ds) = ap (λ (xs : List (List ℕ)). d ∷ xs) (timed-octets o base ds)
@@ -395,17 +396,29 @@ module _ (o : Opening) (s : Sender) (ps : List Values) (ds : List (List ℕ))
       next : (k j : ℕ) → k + suc j ≡ k + 1 + j
       next k j = omega arith
 
--- The pictures of a sender are handed out, all, in order, with nothing missing.
-pub sender_pictures : (o : Opening) (size ahead : ℕ) (s : Sender) (ps : List Values)
-    (ds : List (List ℕ)) → 0 < size → BroughtAll o s ps ds
-    → IsOrderly size ahead (times_from o s.base ds) → handed_out (opened o size ahead) ds ≡ pictures_from s 0 ps
-sender_pictures o size ahead s ps ds some all orderly =
-    ap (λ (es : List (List ℕ)). handed_out (opened o size ahead) es) (sym (timed-octets o s.base ds))
-    ∙ whole_list o size ahead s.base (xs o s ps ds all) some (timed o s ps ds all) orderly
-    (round o s ps ds all)
+-- The frames of all times of what came are the pictures.
+pub pictures_are : (o : Opening) (s : Sender) (ps : List Values) (ds : List (List ℕ))
+    → BroughtAll o s ps ds
+    → map (handed_at o (map (timed_from o s.base) ds)) (in_order (times_from o s.base ds))
+    ≡ pictures_from s 0 ps
+pictures_are o s ps ds all =
+    map_whole o s.base (xs o s ps ds all) (timed o s ps ds all) (round o s ps ds all)
     ∙ ap (λ (us : List ℕ). map (handed_of o (octets_of (xs o s ps ds all))) us)
     (order o s ps ds all)
     ∙ ap (λ (es : List (List ℕ)). map (handed_of o es) (picture_times s.format s.base 0 ps))
     (timed-octets o s.base ds)
     ∙ handed_in o s ps ds all 0 ps
     (λ j p e. subst (λ (i : ℕ). slice_get ps i ≡ Some p) (sym (same_number o s ps ds all j)) e)
+
+pub pictures_timed : (o : Opening) (s : Sender) (ps : List Values) (ds : List (List ℕ))
+    → BroughtAll o s ps ds → AreTimed o (map (timed_from o s.base) ds)
+pictures_timed o s ps ds all = timed o s ps ds all
+
+-- The pictures of a sender are handed out, all, in order, with nothing missing.
+pub sender_pictures : (o : Opening) (size ahead : ℕ) (s : Sender) (ps : List Values)
+    (ds : List (List ℕ)) → 0 < size → BroughtAll o s ps ds
+    → IsOrderly size ahead (times_from o s.base ds) → handed_out (opened o size ahead) ds ≡ pictures_from s 0 ps
+sender_pictures o size ahead s ps ds some all orderly =
+    ap (λ (es : List (List ℕ)). handed_out (opened o size ahead) es) (sym (timed-octets o s.base ds))
+    ∙ whole_stream o size ahead (xs o s ps ds all) some (timed o s ps ds all) orderly
+    ∙ pictures_are o s ps ds all

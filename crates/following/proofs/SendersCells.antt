@@ -23,7 +23,7 @@ use Rattle.following.specs.Times.{in_order, octets_of, times_of}
 use Rattle.following.proofs.Streams.{whole_stream}
 
 -- the datagrams of a time are among all
-at_time_among : (u : ℕ) (xs : List Timed) (sent : List (List ℕ)) → AreAmong (octets_of xs) sent
+pub at_time_among : (u : ℕ) (xs : List Timed) (sent : List (List ℕ)) → AreAmong (octets_of xs) sent
     → AreAmong (datagrams_at u xs) sent
 at_time_among u xs sent among octets m =
     let r = member-map (λ (x : Timed). x.octets) octets (filter (λ x. eqb x.time u) xs) m in

@@ -229,7 +229,7 @@ le_greatest x (z ∷ w) y h (inl e) =
     omega (arith, e, lt)
 le_greatest x (z ∷ w) y h (inr m) = le_greatest z w y h.1 m
 
-in_parts : (us gone win : List ℕ) (y : ℕ) → in_order us ≡ gone ++ win → IsMember y us
+pub in_parts : (us gone win : List ℕ) (y : ℕ) → in_order us ≡ gone ++ win → IsMember y us
     → IsMember y gone ⊎ IsMember y win
 in_parts us gone win y e m =
     member_cases y gone win
@@ -271,7 +271,7 @@ greatest_near size u v us near g =
     (λ x m. g.all x (came x us (in_order us) refl m)))
 
 -- One that is near the newest, and within the bound, is not too far ahead.
-in_reach : (size ahead u : ℕ) (us gone win : List ℕ) (last : Option ℕ)
+pub in_reach : (size ahead u : ℕ) (us gone win : List ℕ) (last : Option ℕ)
     → ((v : ℕ) → IsMember v us → length (newer_than v us) ≤ size → IsNear u v)
     → ((v : ℕ) → IsGreatest v us → u ≤ v + ahead) → in_order us ≡ gone ++ win
     → Rises (gone ++ win) → Ends gone last → IsInReach ahead last win u
@@ -502,7 +502,7 @@ newer_oldest size ahead u v us gone win next e up full out (inr le) =
     newer lt x (inr m) =
         let k : v < x = all_member (λ y. v < y) x win up.0 m in omega (arith, lt, k)
 
-all_newer_than : (u v : ℕ) (win : List ℕ) → v < u → AllByRecursion (λ x. v < x) win → (x : ℕ)
+pub all_newer_than : (u v : ℕ) (win : List ℕ) → v < u → AllByRecursion (λ x. v < x) win → (x : ℕ)
     → IsMember x (with_time u win) → v < x
 all_newer_than u v win lt all x m = at (from_times x u win m)
   where

@@ -119,7 +119,7 @@ others_in o base u xs timed rounds round x m e =
     otherwise o base u x (reading_of o x.octets) refl
     (λ d read. (timed x d m read, rounds x.time (times_has o x d xs m read))) round e
 
-map_members : {X Y : Type 0} (f g : X → Y) (xs : List X)
+pub map_members : {X Y : Type 0} (f g : X → Y) (xs : List X)
     → ((x : X) → IsMember x xs → f x ≡ g x) → map f xs ≡ map g xs
 map_members {X} {Y} f g [] h = refl
 map_members {X} {Y} f g (x ∷ xs) h =
@@ -129,15 +129,22 @@ map_members {X} {Y} f g (x ∷ xs) h =
 abbrev handed : ℕ → Raster → Handed
 handed u frame = record { timestamp = wrapped u; frame = frame }
 
+-- The frame of each time is the Frames of the whole list at its timestamp.
+pub map_whole : (o : Opening) (base : ℕ) (xs : List Timed) → AreTimed o xs
+    → AreInRound base (times_of o xs)
+    → map (handed_at o xs) (in_order (times_of o xs))
+    ≡ map (handed_of o (octets_of xs)) (in_order (times_of o xs))
+map_whole o base xs timed rounds =
+    map_members (handed_at o xs) (handed_of o (octets_of xs)) (in_order (times_of o xs))
+    (λ u m. ap (handed u)
+    (whole_frame o u xs
+    (others_in o base u xs timed rounds
+    (rounds u ((order_members (times_of o xs)).back u m)))))
+
 -- What is handed out is the Frames of the whole list, at each of its timestamps.
 pub whole_list : (o : Opening) (size ahead base : ℕ) (xs : List Timed) → 0 < size → AreTimed o xs
     → IsOrderly size ahead (times_of o xs) → AreInRound base (times_of o xs)
     → handed_out (opened o size ahead) (octets_of xs)
     ≡ map (handed_of o (octets_of xs)) (in_order (times_of o xs))
 whole_list o size ahead base xs some timed orderly rounds =
-    whole_stream o size ahead xs some timed orderly
-    ∙ map_members (handed_at o xs) (handed_of o (octets_of xs)) (in_order (times_of o xs))
-    (λ u m. ap (handed u)
-    (whole_frame o u xs
-    (others_in o base u xs timed rounds
-    (rounds u ((order_members (times_of o xs)).back u m)))))
+    whole_stream o size ahead xs some timed orderly ∙ map_whole o base xs timed rounds

@@ -15,3 +15,4 @@ pub mod Tally
 pub mod Memory
 pub mod Restarts
 pub mod Need
+pub mod Prompt

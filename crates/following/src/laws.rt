@@ -9,6 +9,8 @@
 //!   datagrams were lost, what is there is the sender's: `sender_cells`.
 //! - Where none was late or too far ahead, nothing was lost, also where frames went early:
 //!   `none_lost`.
+//! - The headline of two paths, early or as frames are due: where all that comes late is a repeat,
+//!   `prompt_stream`, and all of a sender's pictures, `prompt_pictures`.
 //! - Whatever comes, strays and late ones too: what is handed out is of those that were neither
 //!   late nor too far ahead, `kept_alone`, and each frame is of some datagrams, `each_frame`.
 //! - A frame that goes early is complete: `early`.
@@ -29,7 +31,7 @@ ghost use Rattle.path_receiver.specs.Opening.{AreDifferent, IsWindowSize, Openin
 ghost use Rattle.st_format.specs.Picture.{Values};
 ghost use Rattle.packet_plan.specs.Sender.{Sender};
 ghost use Rattle.following.specs.Pictures.{BroughtAll, BroughtSome, IsOfSome, IsSendersSample};
-ghost use Rattle.following.specs.Pictures.{ShowsSender, pictures_from, times_from};
+ghost use Rattle.following.specs.Pictures.{ShowsSender, pictures_from, timed_from, times_from};
 ghost use Rattle.following.specs.Acts.{Act, AreNearby, NoneLost, handed_by, taken_of};
 ghost use Rattle.following.specs.Serial.{ahead_of, wrapped};
 ghost use Rattle.following.specs.Follower.{Following, opened};
@@ -38,6 +40,7 @@ ghost use Rattle.following.specs.Times.{AreInHalf, AreInRound, AreInTime, AreOfT
 ghost use Rattle.following.specs.Times.{AreTimed, AreWithin, HasTime, IsOrderly, Timed, handed_at};
 ghost use Rattle.following.specs.Times.{frame_of, handed_of, in_order, octets_of, times_of};
 ghost use Rattle.following.specs.Need.{none_noted, noted_behind};
+ghost use Rattle.following.specs.Prompt.{AreAgreed, IsPrompt};
 ghost use Rattle.following.specs.Restarts.{AreLostSince, Reply, lost_behind};
 ghost use Rattle.following.specs.Turned.{answers_in, goes_early, handed_all, handed_early};
 ghost use Rattle.following.specs.Turned.{handed_while, is_complete, kept_of, state_behind};
@@ -103,6 +106,31 @@ pub fn none_lost()
         AreNearby size (times_of o (taken_of acts)) → NoneLost (opened o size ahead) acts →
         handed_by (opened o size ahead) acts
         ≡ map (handed_at o (taken_of acts)) (in_order (times_of o (taken_of acts))) }
+{}
+
+/// Where the times of a list rise as they first come, none too far ahead, and each datagram that
+/// comes after as many newer times as the follower has frames came before too, as by the other path
+/// (SMPTE ST 2022-7): what is handed out, and in at the end, is for each time, in rising order, its
+/// timestamp and the Frames at it of all the list's datagrams of that time. So it is also where
+/// frames go early, if no two datagrams of a time give a sample different values; what comes of a
+/// frame that went, repeated or not, may come at any time within half a round.
+pub fn prompt_stream()
+    ensures { (eager : Bool) (o : Opening) (size ahead : ℕ) (datagrams : List Timed) →
+        IsWindowSize size → AreTimed o datagrams → IsPrompt o size ahead datagrams →
+        (IsTrue eager → AreAgreed o datagrams) →
+        handed_all eager (opened o size ahead) (octets_of datagrams)
+        ≡ map (handed_at o datagrams) (in_order (times_of o datagrams)) }
+{}
+
+/// Where all datagrams of a sender's list came so, each by one path or the other or both, and no
+/// others: what is handed out, and in at the end, early or as it is due, are the sender's pictures,
+/// all, in order, each with nothing missing.
+pub fn prompt_pictures()
+    ensures { (eager : Bool) (o : Opening) (size ahead : ℕ) (s : Sender) (pictures : List Values)
+        (datagrams : List (List ℕ)) →
+        IsWindowSize size → BroughtAll o s pictures datagrams →
+        IsPrompt o size ahead (map (timed_from o s.base) datagrams) →
+        handed_all eager (opened o size ahead) datagrams ≡ pictures_from s 0 pictures }
 {}
 
 /// Whatever comes, strays, late ones and repeats among it, and whether frames go early or not: what
