@@ -8,6 +8,7 @@ use Rattle.path_receiver.specs.declared.answer.Refusal.{Refusal}
 use Rattle.path_receiver.specs.Grammar.{Datagram}
 use Rattle.path_receiver.specs.Opening.{Opening}
 use Rattle.path_receiver.proofs.Offered.{admitted_for, admitted_takes}
+use Rattle.following.specs.Acts.{AreNearby}
 use Rattle.following.specs.Follower.{reading_of}
 use Rattle.following.specs.Times.{AreInHalf, AreOfTimes, AreTimed, AreWithin, HasTime, IsInHalf, IsNear}
 use Rattle.following.specs.Times.{IsOrderly, Timed, newer_than, time_if, time_of, times_of}
@@ -48,6 +49,16 @@ near_in base u v a b =
     record { forth = omega (arith, a.below, b.from); back = omega (arith, b.below, a.from) }
 
 -- Within half a round all times are near.
+pub nearby_half : (size base : ℕ) (us : List ℕ) → AreInHalf base us → AreNearby size us
+nearby_half size base us half before after u v e m few =
+    near_in base u v
+    (half u
+    (subst (λ (xs : List ℕ). IsMember u xs) (sym e)
+    (member_right u before (u ∷ after) (inl refl))))
+    (half v
+    (subst (λ (xs : List ℕ). IsMember v xs) (sym e) (member_left v before (u ∷ after) m)))
+
+-- So those that come in time are orderly.
 pub orderly_half : (size ahead base : ℕ) (us : List ℕ) → AreInHalf base us
     → ((before after : List ℕ) (u : ℕ) → us ≡ before ++ u ∷ after
     → length (newer_than u before) < size)
@@ -55,11 +66,5 @@ pub orderly_half : (size ahead base : ℕ) (us : List ℕ) → AreInHalf base us
 orderly_half size ahead base us half in_time within = record {
   in_time = in_time;
   within = within;
-  near = λ before after u v e m few.
-      near_in base u v
-      (half u
-      (subst (λ (xs : List ℕ). IsMember u xs) (sym e)
-      (member_right u before (u ∷ after) (inl refl))))
-      (half v
-      (subst (λ (xs : List ℕ). IsMember v xs) (sym e) (member_left v before (u ∷ after) m)));
+  near = nearby_half size base us half;
 }

@@ -10,14 +10,12 @@ use Rattle.st_format.proofs.Members.{member_cases, member_left, member_right}
 use Rattle.path_receiver.specs.declared.answer.Refusal.{Refusal}
 use Rattle.path_receiver.specs.Grammar.{Datagram}
 use Rattle.path_receiver.specs.Opening.{Opening}
-use Rattle.following.specs.declared.standing.Standing.{Standing}
-use Rattle.following.specs.declared.standing.Standing.TheVariants.{Nowhere}
 use Rattle.following.specs.Serial.{wrapped}
-use Rattle.following.specs.Standing.{standing_in}
 use Rattle.following.specs.Follower.{Following, opened, read_in, reading_of, standing_of, state_after}
 use Rattle.following.specs.Follower.{taken_in}
 use Rattle.following.specs.Following.{Handed, frames_in, is_due, is_waiting}
-use Rattle.following.specs.Prompt.{AreAgreed, FirstsRise, IsPrompt}
+use Rattle.following.specs.Prompt.{AreAgreed, IsPrompt}
+use Rattle.following.specs.Stream.{ShowsAll}
 use Rattle.following.specs.Times.{AreTimed, IsGreatest, Timed, handed_at, in_order, newer_than}
 use Rattle.following.specs.Times.{octets_of, times_of, with_time}
 use Rattle.following.specs.Turned.{first_complete, goes_early, handed_all, handed_early, handed_in}
@@ -25,13 +23,13 @@ use Rattle.following.specs.Turned.{handed_while, is_complete, state_behind, stat
 use Rattle.following.proofs.Early.{IsNext, IsOver, IsStage, kept_whole, near_end, near_in, one_more}
 use Rattle.following.proofs.Early.{standing-over}
 use Rattle.following.proofs.FrameLemmas.{frame_kept}
-use Rattle.following.proofs.Insertions.{AllNear, IsInReach, IsPast, wrapped_if}
+use Rattle.following.proofs.Insertions.{AllNear, IsInReach, IsPast}
 use Rattle.following.proofs.Ordered.{Rises, in_order-more, later, length-with_time, many_newer}
 use Rattle.following.proofs.Ordered.{order_keeps, parts_rise, rises_behind, rises_last, with_time-there}
 use Rattle.following.proofs.Repeats.{completed, repeated}
 use Rattle.following.proofs.Streams.{Ends, all_newer_than, below_end, came, end_in, in_parts, in_reach}
 use Rattle.following.proofs.Streams.{order_more, rises, times_at, times_refused}
-use Rattle.following.proofs.Turning.{handed-due, handed-on, turned-due, turned-on}
+use Rattle.following.proofs.Turning.{handed-due, handed-on, turned-due, turned-on, with_rest}
 use Rattle.following.proofs.WholeList.{map_members}
 use Rattle.following.proofs.Windows.{after-inside, after-new, after-refused, due-full, due-inside}
 use Rattle.following.proofs.Windows.{due-new, due-refused, frame_at_time, frames_in-shaped, shaped}
@@ -335,7 +333,7 @@ module _ (eager : Bool) (o : Opening) (size ahead : ℕ) (zs : List Timed)
       near_in size y.time us gone win on.next stage.times h stage.room in
       let out : IsMember y.time win → ⊥ =
       λ k. let lt : y.time < y.time = parts_rise y.time y.time gone win h m k in
-          absurd (omega (arith, lt)) in
+      absurd (omega (arith, lt)) in
       let over : IsOver last y.time =
       is_over size y.time us gone win last on.next stage.times h stage.room stage.ends m in
       go_on eager o size ahead zs settled xs ys y e gone last win win
@@ -543,3 +541,18 @@ prompt_stream eager o size ahead zs some timed prompt agreed =
     zs [] refl [] [] None
     (record { times = refl; room = omega arith; ends = refl }) in
     h.handed ∙ ap (λ (us : List ℕ). map (handed_at o zs) us) (sym h.order)
+
+-- So a sink is shown that, and what is in.
+pub prompt_turned : (eager : Bool) (s t : Following) (o : Opening) (xs : List Timed)
+    (ds : List (List ℕ)) (old new missed : List Handed) → 0 < s.size
+    → ShowsAll old new missed (handed_while eager s ds) → t ≡ state_behind eager s ds
+    → s ≡ opened o s.size s.most_ahead → octets_of xs ≡ ds → AreTimed o xs
+    → IsPrompt o s.size s.most_ahead xs → (eager ≡ true → AreAgreed o xs)
+    → ShowsAll old new (missed ++ frames_in t) (map (handed_at o xs) (in_order (times_of o xs)))
+prompt_turned eager s t o xs ds old new missed some shown state same octets timed prompt agreed =
+    with_rest old new missed (handed_while eager s ds) (frames_in t)
+    (map (handed_at o xs) (in_order (times_of o xs))) shown
+    (ap (λ (u : Following). handed_while eager s ds ++ frames_in u) state
+    ∙ ap (λ (u : Following). handed_all eager u ds) same
+    ∙ ap (λ (es : List (List ℕ)). handed_all eager (opened o s.size s.most_ahead) es) (sym octets)
+    ∙ prompt_stream eager o s.size s.most_ahead xs some timed prompt agreed)

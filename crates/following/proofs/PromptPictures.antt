@@ -2,10 +2,9 @@
 use Rattle.std.proofs.Common.{◌≡◌, ℕ, ◌<◌, Bool, List, map, sym, ap, ◌∙◌, subst}
 use Rattle.st_format.specs.declared.cell.Cell.{Cell}
 use Rattle.st_format.specs.Picture.{Values}
-use Rattle.st_format.specs.Position.{Position}
 use Rattle.packet_plan.specs.Sender.{Sender}
 use Rattle.path_receiver.specs.Opening.{Opening}
-use Rattle.path_receiver.specs.Sender.{AreAmong, IsSendersCell}
+use Rattle.path_receiver.specs.Sender.{IsSendersCell}
 use Rattle.following.specs.Serial.{wrapped}
 use Rattle.following.specs.Follower.{opened}
 use Rattle.following.specs.Pictures.{BroughtAll, BroughtSome, pictures_from, timed_from}

@@ -8,7 +8,7 @@ use Rattle.std.proofs.lemmas.List.Concat.{flat_map-append}
 use Rattle.st_format.specs.declared.cell.Cell.{Cell}
 use Rattle.st_format.specs.declared.cell.Cell.TheVariants.{Contested}
 use Rattle.st_format.specs.Member.{IsMember, SameMembers}
-use Rattle.st_format.specs.Offer.{Offer, cell_of}
+use Rattle.st_format.specs.Offer.{cell_of}
 use Rattle.st_format.specs.Position.{IsPosition, Position, places}
 use Rattle.st_format.specs.Raster.{cell_at}
 use Rattle.st_format.proofs.Members.{member_cases, member_left}

@@ -6,7 +6,8 @@ use Rattle.std.specs.Prelude.{nat_lt}
 use Rattle.std.specs.List.{filter}
 use Rattle.std.proofs.lemmas.Bool.{cases_lt, eqb-false, le-ltb, ltb-false, ltb-true}
 use Rattle.st_format.specs.Member.{IsMember}
-use Rattle.following.specs.Times.{AreInTime, AreSteady, AreWithin, IsClose, IsGreatest, IsNear, IsOrderly}
+use Rattle.following.specs.Acts.{AreNearby}
+use Rattle.following.specs.Times.{AreInTime, AreSteady, AreWithin, IsClose, IsGreatest, IsOrderly}
 use Rattle.following.specs.Times.{in_order, newer_than, with_time}
 use Rattle.following.proofs.Ordered.{Rises, all_counted, in_order-more, later, rises_behind}
 use Rattle.following.proofs.Orders.{order_members}
@@ -176,29 +177,29 @@ reach v g (x ∷ zs) h up (inr m) n =
     (reach_first v g x (length (filter (later v) zs) * 2 ^ 26) zs lt n
     (λ k. reach v g zs (steps_rest x zs h) up.1 m k))
 
+-- Steady times are near what up to 16 frames know.
+pub nearby_steady : (size : ℕ) (us : List ℕ) → size ≤ 16 → AreSteady us → AreNearby size us
+nearby_steady size us most steady [] after u v e m few = absurd m
+nearby_steady size us most steady (x ∷ before) after u v e m few =
+    let g = greatest_of x before in
+    let close : IsClose u g.0 = steady (x ∷ before) after u g.0 e g.1 in
+    let steps : HasSteps (in_order (x ∷ before)) =
+    steps_front us [] (x ∷ before) (u ∷ after) steady e tt in
+    let far : g.0 ≤ v + length (newer_than v (x ∷ before)) * 2 ^ 26 =
+    reach v g.0 (in_order (x ∷ before)) steps (rises_behind [] (x ∷ before) tt)
+    ((order_members (x ∷ before)).forth v m)
+    ((order_members (x ∷ before)).forth g.0 g.1.inside) in
+    let le : v ≤ g.0 = g.1.all v m in
+    record {
+      forth = omega (arith, far, few, most, close.forth);
+      back = omega (arith, le, close.back);
+    }
+
 -- Steady times that come in time are orderly, for up to 16 frames.
 pub orderly_steady : (size ahead : ℕ) (us : List ℕ) → size ≤ 16 → AreInTime size us
     → AreWithin ahead us → AreSteady us → IsOrderly size ahead us
 orderly_steady size ahead us most in_time within steady = record {
   in_time = in_time;
   within = within;
-  near = near;
+  near = nearby_steady size us most steady;
 }
-  where
-    near : (before after : List ℕ) (u v : ℕ) → us ≡ before ++ u ∷ after → IsMember v before
-        → length (newer_than v before) ≤ size → IsNear u v
-    near [] after u v e m few = absurd m
-    near (x ∷ before) after u v e m few =
-        let g = greatest_of x before in
-        let close : IsClose u g.0 = steady (x ∷ before) after u g.0 e g.1 in
-        let steps : HasSteps (in_order (x ∷ before)) =
-        steps_front us [] (x ∷ before) (u ∷ after) steady e tt in
-        let far : g.0 ≤ v + length (newer_than v (x ∷ before)) * 2 ^ 26 =
-        reach v g.0 (in_order (x ∷ before)) steps (rises_behind [] (x ∷ before) tt)
-        ((order_members (x ∷ before)).forth v m)
-        ((order_members (x ∷ before)).forth g.0 g.1.inside) in
-        let le : v ≤ g.0 = g.1.all v m in
-        record {
-          forth = omega (arith, far, few, most, close.forth);
-          back = omega (arith, le, close.back);
-        }

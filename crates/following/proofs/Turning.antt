@@ -243,7 +243,7 @@ none_acts eager s (x ∷ xs) h =
 
 -- ---- whole streams, by turns
 
-with_rest : (old new missed done rest all : List Handed) → ShowsAll old new missed done
+pub with_rest : (old new missed done rest all : List Handed) → ShowsAll old new missed done
     → done ++ rest ≡ all → ShowsAll old new (missed ++ rest) all
 with_rest old new missed done rest all shown e =
     sym (append_assoc new missed rest) ∙ ap (λ (hs : List Handed). hs ++ rest) shown

@@ -207,7 +207,8 @@ pub fn in_order_is()
 /// What the premises on times say by the grammar of datagrams: which have a time (`members`), and
 /// that it is their timestamp's (`timed`). Where all times are within half a round, all are near,
 /// so that none comes too late is all that is asked (`half`); and so it is where each is less than
-/// twelve minutes from the greatest before it, however long the stream (`steady`).
+/// twelve minutes from the greatest before it, however long the stream (`steady`). Also where some
+/// come too late, as repeats do, all are then near (`half_near`, `steady_near`).
 pub fn premises()
     ensures members { (o : Opening) (datagrams : List Timed) →
         ((x : Timed) → IsMember x datagrams → AreOctets x.octets) → (u : ℕ) →
@@ -221,6 +222,10 @@ pub fn premises()
     ensures steady { (size ahead : ℕ) (times : List ℕ) →
         IsWindowSize size → AreInTime size times → AreWithin ahead times → AreSteady times →
         IsOrderly size ahead times }
+    ensures half_near { (size base : ℕ) (times : List ℕ) → AreInHalf base times →
+        AreNearby size times }
+    ensures steady_near { (size : ℕ) (times : List ℕ) → IsWindowSize size → AreSteady times →
+        AreNearby size times }
 {}
 
 /// Whatever comes, each timestamp that is handed out is newer than the one before (`newer`), also

@@ -8,6 +8,7 @@ ghost use Rattle.path_receiver.specs.Took.{datagrams_since};
 ghost use Rattle.following.specs.Acts.{AreNearby};
 ghost use Rattle.following.specs.Follower.{IsFollower, opened};
 ghost use Rattle.following.specs.Following.{frames_in};
+ghost use Rattle.following.specs.Prompt.{AreAgreed, IsPrompt};
 ghost use Rattle.following.specs.Stream.{CountsSink, CountsSource, NoneDropped, ShowsAll};
 ghost use Rattle.following.specs.Stream.{TellsSourceFault};
 ghost use Rattle.following.specs.Stream.{TookTurns, delivered_by, not_shown};
@@ -133,6 +134,18 @@ pub fn follow_eagerly<S: DatagramSource, A: Allocator, K: FrameSink, O: FollowOb
         AreTimed o timed → AreNearby follower.old.size (times_of o timed) →
         NoneDropped (answers_in true follower.old
         (datagrams_since (S.came source.old) (S.came source.new))) →
+        ShowsAll (K.shown sink.old) (K.shown sink.new)
+        (not_shown result frame.new ++ frames_in follower.new)
+        (map (handed_at o timed) (in_order (times_of o timed))) }
+
+    // The headline of two paths: so it is, whatever was Late, where the times rise as they first
+    // come, what comes after as many newer ones as it has frames is a repeat, and no two datagrams
+    // of a time give a sample different values.
+    ensures prompt { (o : Opening) (timed : List Timed) →
+        follower.old ≡ opened o follower.old.size follower.old.most_ahead →
+        octets_of timed ≡ datagrams_since (S.came source.old) (S.came source.new) →
+        AreTimed o timed →
+        IsPrompt o follower.old.size follower.old.most_ahead timed → AreAgreed o timed →
         ShowsAll (K.shown sink.old) (K.shown sink.new)
         (not_shown result frame.new ++ frames_in follower.new)
         (map (handed_at o timed) (in_order (times_of o timed))) }

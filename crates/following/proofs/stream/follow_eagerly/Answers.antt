@@ -1,6 +1,8 @@
+use Rattle.std.proofs.Common.{true}
 use Rattle.path_receiver.specs.Took.{datagrams_since}
 use Rattle.following.specs.Stream.{not_shown}
 use Rattle.following.proofs.Driving.{turns_told}
+use Rattle.following.proofs.Prompt.{prompt_turned}
 use Rattle.following.proofs.Turning.{early_turned}
 use Rattle.following.proofs.stream.follow_eagerly.Goals as goal
 
@@ -13,6 +15,17 @@ returns-clause-stream g c o timed =
     (shown c.args.sink.now) (shown c.take_turns.new.sink)
     (not_shown c.take_turns.result c.take_turns.new.frame) c.facts.ensures.size.some
     c.take_turns.ensures.shown c.take_turns.ensures.state
+
+pub returns-clause-prompt : goal.returns-clause-prompt
+returns-clause-prompt g c o timed same octets are_timed prompt agreed =
+    let came = g.S.DatagramSource.came in
+    let shown = g.K.FrameSink.shown in
+    prompt_turned true c.args.follower.now c.take_turns.new.follower o timed
+    (datagrams_since (came c.args.source.now) (came c.take_turns.new.source))
+    (shown c.args.sink.now) (shown c.take_turns.new.sink)
+    (not_shown c.take_turns.result c.take_turns.new.frame) c.facts.ensures.size.some
+    c.take_turns.ensures.shown c.take_turns.ensures.state same octets are_timed prompt
+    (λ is. agreed)
 
 pub returns-clause-turns : goal.returns-clause-turns
 returns-clause-turns g c =
