@@ -34,7 +34,7 @@ use Rattle.following.specs.Follower.{opened, reading_of}
 use Rattle.following.specs.Following.{Handed, handed_out}
 use Rattle.following.specs.Pictures.{BroughtAll, picture_time, pictures_from, time_behind}
 use Rattle.following.specs.Pictures.{timed_from, times_from}
-use Rattle.following.specs.Times.{AreInRound, AreTimed, IsOrderly, Timed, frame_of}
+use Rattle.following.specs.Times.{AreInHalf, AreInRound, AreTimed, IsInHalf, IsOrderly, Timed, frame_of}
 use Rattle.following.specs.Times.{handed_at, handed_of, in_order, octets_of, time_if, time_of, times_of}
 use Rattle.following.proofs.Ordered.{Rises, rises_behind}
 use Rattle.following.proofs.Orders.{order_members, same_rising}
@@ -342,8 +342,8 @@ module _ (o : Opening) (s : Sender) (ps : List Values) (ds : List (List ℕ))
         back = λ u m. (order_members (times_of o xs)).forth u (back u m);
       })
 
-  round : AreInRound s.base (times_of o xs)
-  round u m =
+  half : AreInHalf s.base (times_of o xs)
+  half u m =
       let t = time_from s.format s.base 0 u ps (forth u m) in
       let lt : t.number < length ps = slice_get_within ps t.number t.picture t.there in
       let few : ticks s.format t.number ≤ 899910000 =
@@ -351,6 +351,11 @@ module _ (o : Opening) (s : Sender) (ps : List Values) (ds : List (List ℕ))
       let e : u ≡ picture_time s.format s.base t.number =
       t.is ∙ ap (picture_time s.format s.base) (same_number t.number) in
       record { from = omega (arith, e); below = omega (arith, e, few) }
+
+  round : AreInRound s.base (times_of o xs)
+  round u m =
+      let k : IsInHalf s.base u = half u m in
+      record { from = k.from; below = omega (arith, k.below) }
 
   abbrev window_of : ℕ → Opening
   window_of ts = with_window o (ts ∷ [])
@@ -413,6 +418,10 @@ pictures_are o s ps ds all =
 pub pictures_timed : (o : Opening) (s : Sender) (ps : List Values) (ds : List (List ℕ))
     → BroughtAll o s ps ds → AreTimed o (map (timed_from o s.base) ds)
 pictures_timed o s ps ds all = timed o s ps ds all
+
+pub pictures_half : (o : Opening) (s : Sender) (ps : List Values) (ds : List (List ℕ))
+    → BroughtAll o s ps ds → AreInHalf s.base (times_from o s.base ds)
+pictures_half o s ps ds all = half o s ps ds all
 
 -- The pictures of a sender are handed out, all, in order, with nothing missing.
 pub sender_pictures : (o : Opening) (size ahead : ℕ) (s : Sender) (ps : List Values)

@@ -10,6 +10,7 @@ use Rattle.st_format.proofs.Members.{member_cases, member_left, member_right}
 use Rattle.path_receiver.specs.declared.answer.Refusal.{Refusal}
 use Rattle.path_receiver.specs.Grammar.{Datagram}
 use Rattle.path_receiver.specs.Opening.{Opening}
+use Rattle.following.specs.Acts.{AreNearby}
 use Rattle.following.specs.Serial.{wrapped}
 use Rattle.following.specs.Follower.{Following, opened, read_in, reading_of, standing_of, state_after}
 use Rattle.following.specs.Follower.{taken_in}
@@ -491,8 +492,8 @@ module _ (eager : Bool) (o : Opening) (size ahead : ℕ) (zs : List Timed)
 -- ---- whole lists
 
 module _ (eager : Bool) (o : Opening) (size ahead : ℕ) (zs : List Timed) (some : 0 < size)
-    (timed : AreTimed o zs) (prompt : IsPrompt o size ahead zs)
-    (settled : Settles eager o size zs) where
+    (timed : AreTimed o zs) (nearby : AreNearby size (times_of o zs))
+    (prompt : IsPrompt o size ahead zs) (settled : Settles eager o size zs) where
   step : (xs ys : List Timed) (y : Timed) → zs ≡ xs ++ y ∷ ys
       → (r : Result Datagram Refusal) → reading_of o y.octets ≡ r
       → Goes eager o size ahead zs (xs ++ y ∷ []) ys → Goes eager o size ahead zs xs (y ∷ ys)
@@ -505,7 +506,7 @@ module _ (eager : Bool) (o : Opening) (size ahead : ℕ) (zs : List Timed) (some
       let split : times_of o zs ≡ us ++ y.time ∷ times_of o ys =
       ap (times_of o) e ∙ times_at o xs ys y d read in
       let on : ComesOn size ahead us y.time = record {
-        next = record { near = λ v m few. prompt.near us (times_of o ys) y.time v split m few };
+        next = record { near = λ v m few. nearby us (times_of o ys) y.time v split m few };
         within = λ v g. prompt.within us (times_of o ys) y.time v split g;
       } in
       step_read eager o size ahead zs settled some xs ys y
@@ -532,12 +533,14 @@ module _ (eager : Bool) (o : Opening) (size ahead : ℕ) (zs : List Timed) (some
 -- What is handed out of a prompt stream, early or as it is due, is the frame of each of its times,
 -- in rising order, of all datagrams of that time.
 pub prompt_stream : (eager : Bool) (o : Opening) (size ahead : ℕ) (zs : List Timed) → 0 < size
-    → AreTimed o zs → IsPrompt o size ahead zs → (eager ≡ true → AreAgreed o zs)
+    → AreTimed o zs → AreNearby size (times_of o zs) → IsPrompt o size ahead zs
+    → (eager ≡ true → AreAgreed o zs)
     → handed_all eager (opened o size ahead) (octets_of zs)
     ≡ map (handed_at o zs) (in_order (times_of o zs))
-prompt_stream eager o size ahead zs some timed prompt agreed =
+prompt_stream eager o size ahead zs some timed nearby prompt agreed =
     let h : HandsOut eager o size ahead zs [] zs [] None [] =
-    goes eager o size ahead zs some timed prompt (settles eager o size ahead zs prompt agreed)
+    goes eager o size ahead zs some timed nearby prompt
+    (settles eager o size ahead zs prompt agreed)
     zs [] refl [] [] None
     (record { times = refl; room = omega arith; ends = refl }) in
     h.handed ∙ ap (λ (us : List ℕ). map (handed_at o zs) us) (sym h.order)
@@ -547,12 +550,12 @@ pub prompt_turned : (eager : Bool) (s t : Following) (o : Opening) (xs : List Ti
     (ds : List (List ℕ)) (old new missed : List Handed) → 0 < s.size
     → ShowsAll old new missed (handed_while eager s ds) → t ≡ state_behind eager s ds
     → s ≡ opened o s.size s.most_ahead → octets_of xs ≡ ds → AreTimed o xs
-    → IsPrompt o s.size s.most_ahead xs → (eager ≡ true → AreAgreed o xs)
+    → AreNearby s.size (times_of o xs) → IsPrompt o s.size s.most_ahead xs → (eager ≡ true → AreAgreed o xs)
     → ShowsAll old new (missed ++ frames_in t) (map (handed_at o xs) (in_order (times_of o xs)))
-prompt_turned eager s t o xs ds old new missed some shown state same octets timed prompt agreed =
+prompt_turned eager s t o xs ds old new missed some shown state same octets timed nearby prompt agreed =
     with_rest old new missed (handed_while eager s ds) (frames_in t)
     (map (handed_at o xs) (in_order (times_of o xs))) shown
     (ap (λ (u : Following). handed_while eager s ds ++ frames_in u) state
     ∙ ap (λ (u : Following). handed_all eager u ds) same
     ∙ ap (λ (es : List (List ℕ)). handed_all eager (opened o s.size s.most_ahead) es) (sym octets)
-    ∙ prompt_stream eager o s.size s.most_ahead xs some timed prompt agreed)
+    ∙ prompt_stream eager o s.size s.most_ahead xs some timed nearby prompt agreed)

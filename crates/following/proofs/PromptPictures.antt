@@ -7,11 +7,12 @@ use Rattle.path_receiver.specs.Opening.{Opening}
 use Rattle.path_receiver.specs.Sender.{IsSendersCell}
 use Rattle.following.specs.Serial.{wrapped}
 use Rattle.following.specs.Follower.{opened}
-use Rattle.following.specs.Pictures.{BroughtAll, BroughtSome, pictures_from, timed_from}
+use Rattle.following.specs.Pictures.{BroughtAll, BroughtSome, pictures_from, timed_from, times_from}
 use Rattle.following.specs.Prompt.{AreAgreed, IsPrompt}
 use Rattle.following.specs.Times.{Timed, datagrams_at, octets_of}
 use Rattle.following.specs.Turned.{handed_all}
-use Rattle.following.proofs.Pictures.{pictures_are, pictures_timed, timed-octets}
+use Rattle.following.proofs.Pictures.{pictures_are, pictures_half, pictures_timed, timed-octets}
+use Rattle.following.proofs.Premises.{nearby_half}
 use Rattle.following.proofs.Prompt.{prompt_stream}
 use Rattle.following.proofs.SendersCells.{at_time_among, frame_cells}
 
@@ -43,7 +44,8 @@ prompt_pictures eager o size ahead s ps ds some all prompt =
     let xs : List Timed = map (timed_from o s.base) ds in
     let octets : octets_of xs ≡ ds = timed-octets o s.base ds in
     ap (λ (es : List (List ℕ)). handed_all eager (opened o size ahead) es) (sym octets)
-    ∙ prompt_stream eager o size ahead xs some (pictures_timed o s ps ds all) prompt
+    ∙ prompt_stream eager o size ahead xs some (pictures_timed o s ps ds all)
+    (nearby_half size s.base (times_from o s.base ds) (pictures_half o s ps ds all)) prompt
     (λ is. senders_agree o s ps xs
     (subst (BroughtSome o s ps) (sym octets) (brought_some o s ps ds all)))
     ∙ pictures_are o s ps ds all

@@ -9,7 +9,6 @@ use Rattle.path_receiver.specs.Opening.{Opening}
 use Rattle.following.specs.Serial.{wrapped}
 use Rattle.following.specs.Follower.{reading_of}
 use Rattle.following.specs.Times.{AreWithin, Timed, datagrams_at, frame_of, newer_than, times_of}
-use Rattle.following.specs.Acts.{AreNearby}
 
 -- The times rise as they first come: each is one of those before it, or greater than all of them.
 abbrev pub FirstsRise : List ℕ → Type 0
@@ -24,12 +23,10 @@ AreRepeats o size xs = (before after : List Timed) (x : Timed) (d : Datagram)
     → size ≤ length (newer_than x.time (times_of o before)) → IsMember x before
 
 -- A stream is prompt for a follower of so many frames: its times rise as they first come, none more
--- ticks ahead than it may be; each is near those before it that no more than so many newer ones
--- followed; and all that comes of a time has come before that many newer ones have, but for
--- repeats.
+-- ticks ahead of the greatest than it may be; and all that comes of a time has come before that
+-- many newer ones have, but for repeats.
 pub record IsPrompt (o : Opening) (size ahead : ℕ) (xs : List Timed) : Type 0 where
   pub firsts : FirstsRise (times_of o xs)
-  pub near : AreNearby size (times_of o xs)
   pub within : AreWithin ahead (times_of o xs)
   pub repeats : AreRepeats o size xs
 

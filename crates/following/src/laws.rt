@@ -108,23 +108,23 @@ pub fn none_lost()
         ≡ map (handed_at o (taken_of acts)) (in_order (times_of o (taken_of acts))) }
 {}
 
-/// Where the times of a list rise as they first come, none too far ahead, and each datagram that
-/// comes after as many newer times as the follower has frames came before too, as by the other path
-/// (SMPTE ST 2022-7): what is handed out, and in at the end, is for each time, in rising order, its
-/// timestamp and the Frames at it of all the list's datagrams of that time. So it is also where
-/// frames go early, if no two datagrams of a time give a sample different values; what comes of a
-/// frame that went, repeated or not, may come at any time within half a round.
+/// Where the times of a list rise as they first come, none too far ahead, all are near what is in
+/// and what went last, and each datagram that comes after as many newer times as the follower has
+/// frames came before too, as by the other path (SMPTE ST 2022-7): what is handed out, and in at
+/// the end, is for each time, in rising order, its timestamp and the Frames at it of all the list's
+/// datagrams of that time. So it is also where frames go early, if no two datagrams of a time give
+/// a sample different values: what comes of a frame that went is late, and adds nothing.
 pub fn prompt_stream()
     ensures { (eager : Bool) (o : Opening) (size ahead : ℕ) (datagrams : List Timed) →
-        IsWindowSize size → AreTimed o datagrams → IsPrompt o size ahead datagrams →
-        (IsTrue eager → AreAgreed o datagrams) →
+        IsWindowSize size → AreTimed o datagrams → AreNearby size (times_of o datagrams) →
+        IsPrompt o size ahead datagrams → (IsTrue eager → AreAgreed o datagrams) →
         handed_all eager (opened o size ahead) (octets_of datagrams)
         ≡ map (handed_at o datagrams) (in_order (times_of o datagrams)) }
 {}
 
 /// Where all datagrams of a sender's list came so, each by one path or the other or both, and no
-/// others: what is handed out, and in at the end, early or as it is due, are the sender's pictures,
-/// all, in order, each with nothing missing.
+/// others: what is handed out, and in at the end, early or as it is due, is the sender's pictures,
+/// all, in order, each with nothing missing; however late the repeats come, and in whatever order.
 pub fn prompt_pictures()
     ensures { (eager : Bool) (o : Opening) (size ahead : ℕ) (s : Sender) (pictures : List Values)
         (datagrams : List (List ℕ)) →

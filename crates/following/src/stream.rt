@@ -144,7 +144,7 @@ pub fn follow_eagerly<S: DatagramSource, A: Allocator, K: FrameSink, O: FollowOb
     ensures prompt { (o : Opening) (timed : List Timed) →
         follower.old ≡ opened o follower.old.size follower.old.most_ahead →
         octets_of timed ≡ datagrams_since (S.came source.old) (S.came source.new) →
-        AreTimed o timed →
+        AreTimed o timed → AreNearby follower.old.size (times_of o timed) →
         IsPrompt o follower.old.size follower.old.most_ahead timed → AreAgreed o timed →
         ShowsAll (K.shown sink.old) (K.shown sink.new)
         (not_shown result frame.new ++ frames_in follower.new)

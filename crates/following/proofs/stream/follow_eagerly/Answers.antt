@@ -17,14 +17,15 @@ returns-clause-stream g c o timed =
     c.take_turns.ensures.shown c.take_turns.ensures.state
 
 pub returns-clause-prompt : goal.returns-clause-prompt
-returns-clause-prompt g c o timed same octets are_timed prompt agreed =
+returns-clause-prompt g c o timed same octets are_timed nearby prompt agreed =
     let came = g.S.DatagramSource.came in
     let shown = g.K.FrameSink.shown in
     prompt_turned true c.args.follower.now c.take_turns.new.follower o timed
     (datagrams_since (came c.args.source.now) (came c.take_turns.new.source))
     (shown c.args.sink.now) (shown c.take_turns.new.sink)
     (not_shown c.take_turns.result c.take_turns.new.frame) c.facts.ensures.size.some
-    c.take_turns.ensures.shown c.take_turns.ensures.state same octets are_timed prompt
+    c.take_turns.ensures.shown c.take_turns.ensures.state same octets are_timed nearby
+    prompt
     (λ is. agreed)
 
 pub returns-clause-turns : goal.returns-clause-turns
