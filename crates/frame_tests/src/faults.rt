@@ -26,12 +26,6 @@ const OF_PICTURES: [(PictureFault, &str); 2] = [
     ),
 ];
 
-#[test]
-fn of_formats_and_pictures(rt: HostRuntime) {
-    met(&rt, all_say(rt.alloc(), &OF_FORMATS));
-    met(&rt, all_say(rt.alloc(), &OF_PICTURES));
-}
-
 const OF_SOURCES: [(SourceFault, &str); 2] = [
     (SourceFault::Device, "the device failed"),
     (
@@ -39,27 +33,6 @@ const OF_SOURCES: [(SourceFault, &str); 2] = [
         "what the device carries is at fault: number 5 of the source's faults",
     ),
 ];
-
-#[test]
-fn of_devices(rt: HostRuntime) {
-    met(
-        &rt,
-        says(
-            rt.alloc(),
-            &DeviceFault,
-            "a source or a sink of octets failed",
-        ),
-    );
-    met(
-        &rt,
-        says(
-            rt.alloc(),
-            &SinkFault,
-            "a sink of datagrams failed, and did not take the datagram",
-        ),
-    );
-    met(&rt, all_say(rt.alloc(), &OF_SOURCES));
-}
 
 const OF_HEADERS: [(RtpFault, &str); 4] = [
     (
@@ -112,12 +85,6 @@ const OF_PAYLOADS: [(PayloadFault, &str); 8] = [
     ),
 ];
 
-#[test]
-fn of_headers(rt: HostRuntime) {
-    met(&rt, all_say(rt.alloc(), &OF_HEADERS));
-    met(&rt, all_say(rt.alloc(), &OF_PAYLOADS));
-}
-
 /// The first and the last of a header and of a payload, whose words stand above.
 const REFUSALS: [(Refusal, &str); 6] = [
     (
@@ -146,11 +113,6 @@ const REFUSALS: [(Refusal, &str); 6] = [
     ),
 ];
 
-#[test]
-fn of_datagrams(rt: HostRuntime) {
-    met(&rt, all_say(rt.alloc(), &REFUSALS));
-}
-
 const OF_OPENINGS: [(OpenFault, &str); 3] = [
     (
         OpenFault::NoMemory,
@@ -174,12 +136,6 @@ const OF_SLIDES: [(SlideFault, &str); 2] = [
     ),
 ];
 
-#[test]
-fn of_receivers(rt: HostRuntime) {
-    met(&rt, all_say(rt.alloc(), &OF_OPENINGS));
-    met(&rt, all_say(rt.alloc(), &OF_SLIDES));
-}
-
 const OF_MAPS: [(SeqMapFault, &str); 2] = [
     (SeqMapFault::NoMemory, "the memory for the bits was refused"),
     (SeqMapFault::BadCount, "the count is 0 or above 1048576"),
@@ -192,7 +148,35 @@ const STOPPED: ReceiveFault = ReceiveFault {
 };
 
 #[test]
-fn of_maps_and_receiving(rt: HostRuntime) {
+fn of_formats_devices_and_headers(rt: HostRuntime) {
+    met(&rt, all_say(rt.alloc(), &OF_FORMATS));
+    met(&rt, all_say(rt.alloc(), &OF_PICTURES));
+    met(&rt, all_say(rt.alloc(), &OF_SOURCES));
+    met(&rt, all_say(rt.alloc(), &OF_HEADERS));
+    met(&rt, all_say(rt.alloc(), &OF_PAYLOADS));
+    met(
+        &rt,
+        says(
+            rt.alloc(),
+            &DeviceFault,
+            "a source or a sink of octets failed",
+        ),
+    );
+    met(
+        &rt,
+        says(
+            rt.alloc(),
+            &SinkFault,
+            "a sink of datagrams failed, and did not take the datagram",
+        ),
+    );
+}
+
+#[test]
+fn of_datagrams_and_receivers(rt: HostRuntime) {
+    met(&rt, all_say(rt.alloc(), &REFUSALS));
+    met(&rt, all_say(rt.alloc(), &OF_OPENINGS));
+    met(&rt, all_say(rt.alloc(), &OF_SLIDES));
     met(&rt, all_say(rt.alloc(), &OF_MAPS));
     met(
         &rt,

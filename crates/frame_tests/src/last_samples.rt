@@ -1,19 +1,13 @@
-//! The example last-sample-differs through the library, and at each width, sampling and depth: two
-//! datagrams of a row that differ in the last sample of one pgroup alone.
-use crate::checks::met;
+//! The example last-sample-differs through the library: two datagrams of a row that differ in the
+//! last sample of one pgroup alone.
 use crate::packed_marks::cell;
 use frame_assembly::{Counts, Frame};
 use path_receiver::Receiver;
-use st_format::{Cell, Depth, Format, FormatFault, Path, Sampling};
+use st_format::{Cell, Depth, Format, Path, Sampling};
 use std::alloc::{AllocError, Global};
 use std::process::Abort;
 use std::test::Fail;
 use test_kit::datagrams::{begin, opened, put_head};
-use test_kit::small_format::KINDS;
-use test_programs::Generator;
-
-/// Widths up to this are tried: past four vectors of 32 octets.
-const MOST_WIDTH: u32 = 130;
 
 /// Takes a row of one row's datagram, and tells whether it was not refused.
 fn takes_row(
@@ -124,52 +118,6 @@ fn differs_at(
     } else {
         Ok(None)
     }
-}
-
-/// All samples of a format but one, which is contested.
-fn but_one(format: &Format) -> Counts {
-    Counts {
-        present: (format.sample_count() as u64).wrapping_sub(1),
-        missing: 0,
-        contested: 1,
-    }
-}
-
-/// Whether it is so at each group of a row in turn.
-fn width_agrees(alloc: Global, format: Format) -> Result<bool, Fail> {
-    let mut octets = Vec::from_elem(alloc, 0u8, format.row_octets())?;
-    Generator::new(u64::from(format.width())).fill_octets(octets.as_mut_slice());
-    let wanted = Some(but_one(&format));
-    let mut agree = true;
-    for place in 0..format.width() / format.pgroup().pixels {
-        agree &= differs_at(alloc, format, octets.as_mut_slice(), place)? == wanted;
-    }
-    Ok(agree)
-}
-
-/// The same of a width, where there is such a format: one of whole pgroups.
-fn agrees_at(alloc: Global, sampling: Sampling, depth: Depth, width: u32) -> Result<bool, Fail> {
-    match Format::new(sampling, depth, width, 1, 60, 1) {
-        Ok(format) => width_agrees(alloc, format),
-        Err(fault) => Ok(fault == FormatFault::BadWidth && width % 4 != 0),
-    }
-}
-
-/// The same of each even width.
-fn widths_agree(alloc: Global, sampling: Sampling, depth: Depth) -> Result<bool, Fail> {
-    let mut agree = true;
-    for half in 1..MOST_WIDTH / 2 + 1 {
-        agree &= agrees_at(alloc, sampling, depth, 2 * half)?;
-    }
-    Ok(agree)
-}
-
-#[test]
-fn each_width(rt: HostRuntime) -> Result<(), Fail> {
-    for (sampling, depth) in KINDS {
-        met(&rt, widths_agree(rt.alloc(), sampling, depth)?);
-    }
-    Ok(())
 }
 
 /// The counts of *last-sample-differs*.

@@ -1,4 +1,4 @@
-//! The example packed-octets, and rows of each sampling and depth with each bit in turn.
+//! The example packed-octets.
 ghost use Rattle.std.specs.Prelude.{IsTrue};
 ghost use Rattle.pgroup_pack.specs.Packing.{Agree};
 
@@ -121,72 +121,9 @@ fn packed_octets(rt: HostRuntime) -> Result<(), Fail> {
     Ok(())
 }
 
-/// Rows of up to `MOST_GROUPS` pgroups.
-const MOST_GROUPS: usize = 9;
-
 /// Turns bit `place` of the octets, counted from the most significant of the first.
 pub fn turn_bit(octets: &mut [u8], place: usize) {
     if place / 8 < octets.len() {
         octets[place / 8] ^= 0x80 >> (place % 8);
     }
-}
-
-/// Whether octets spell so many samples of one value, but that in the sample of one number
-/// some bits are turned.
-fn row_agrees(
-    alloc: Global,
-    format: &Format,
-    octets: &[u8],
-    rest: (usize, u16),
-    turned: (usize, u16),
-) -> Result<bool, AllocError> {
-    let (count, value) = rest;
-    let (place, one) = turned;
-    let mut samples = Vec::from_elem(alloc, value, count)?;
-    if place < samples.len() {
-        samples[place] ^= one;
-    }
-    is_packing(alloc, format, samples.as_slice(), octets)
-}
-
-/// Rows of one length of one value, whole and with each bit in turn turned.
-fn rows_agree(
-    alloc: Global,
-    format: &Format,
-    groups: usize,
-    fill: u8,
-    value: u16,
-) -> Result<bool, AllocError> {
-    let group = format.pgroup();
-    let mut row = Vec::from_elem(alloc, fill, groups.wrapping_mul(group.octets))?;
-    let rest = (groups.wrapping_mul(group.samples), value);
-    let mut agree = row_agrees(alloc, format, row.as_slice(), rest, (rest.0, 0))?;
-    let mut place = 0usize;
-    for i in 0..rest.0 {
-        let mut one = format.max_value() / 2 + 1;
-        for _ in 0..format.depth().bits() {
-            turn_bit(row.as_mut_slice(), place);
-            agree &= row_agrees(alloc, format, row.as_slice(), rest, (i, one))?;
-            turn_bit(row.as_mut_slice(), place);
-            place = place.wrapping_add(1);
-            one /= 2;
-        }
-    }
-    Ok(agree)
-}
-
-/// No octets, and rows of one to nine groups, all 0 and all the greatest value.
-#[test]
-fn each_sampling_and_depth(rt: HostRuntime) -> Result<(), Fail> {
-    for sampling in [Sampling::Ycc422, Sampling::Ycc444, Sampling::Rgb] {
-        for depth in [Depth::D8, Depth::D10, Depth::D12, Depth::D16] {
-            let format = Format::new(sampling, depth, 4, 1, 60, 1)?;
-            for groups in 0..MOST_GROUPS + 1 {
-                let mut agree = rows_agree(rt.alloc(), &format, groups, 0, 0)?;
-                agree &= rows_agree(rt.alloc(), &format, groups, 255, format.max_value())?;
-                assert!(rt; agree, "{groups} of {sampling:?} {depth:?}");
-            }
-        }
-    }
-    Ok(())
 }

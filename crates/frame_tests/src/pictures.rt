@@ -1,13 +1,13 @@
-//! Pictures, timestamps, and frames that are copied and settled.
+//! Timestamps, and frames that are copied and settled.
 use crate::checks::met;
 use frame_assembly::{Base, Frame};
 use path_receiver::Receiver;
-use st_format::{Depth, Format, Picture, PictureFault, Sampling};
+use st_format::{Depth, Format, Picture, Sampling};
 use std::alloc::{AllocError, Allocator, Global};
 use std::process::Abort;
 use std::test::Fail;
 use test_kit::datagrams::{opened, takes_octets};
-use test_kit::picture_values::{has_values, set};
+use test_kit::picture_values::has_values;
 use test_kit::small_format::small;
 
 /// *timestamps-5994*, and one past 2^32: base, number and timestamp.
@@ -32,99 +32,6 @@ fn timestamps(rt: HostRuntime) {
     for (base, k, timestamp) in TIMESTAMPS {
         met(&rt, is_timestamp(base, k, timestamp));
     }
-}
-
-/// The greatest value of each depth.
-const MOST: [(Depth, u16); 4] = [
-    (Depth::D8, 255),
-    (Depth::D10, 1023),
-    (Depth::D12, 4095),
-    (Depth::D16, 65535),
-];
-
-/// Whether a picture is filled with a value, 1 and 2.
-fn is_filled(picture: &Picture, most: u16) -> bool {
-    let upper = [(0, 0, 2, Some(2)), (0, 1, 1, None)];
-    let lower = [(1, 3, 0, Some(most)), (1, 2, 1, Some(1))];
-    has_values(picture, &upper) && has_values(picture, &lower)
-}
-
-/// Whether a picture of a format is.
-fn format_is_filled(alloc: Global, format: Format, most: u16) -> bool {
-    match Picture::new(alloc, format, [most, 1, 2]) {
-        Ok(picture) => is_filled(&picture, most),
-        Err(_) => false,
-    }
-}
-
-/// Whether a picture of a depth is filled with its greatest value, 1 and 2.
-fn fills(alloc: Global, depth: Depth, most: u16) -> bool {
-    match Format::new(Sampling::Ycc422, depth, 4, 2, 60, 1) {
-        Ok(format) => format_is_filled(alloc, format, most),
-        Err(_) => false,
-    }
-}
-
-/// Whether there is no picture of F1 with a fill, since a value of it is too large.
-fn is_too_large(alloc: Global, fill: [u16; 3]) -> bool {
-    match small() {
-        Ok(format) => {
-            Picture::new(alloc, format, fill).err() == Some(PictureFault::ValueTooLarge)
-        }
-        Err(_) => false,
-    }
-}
-
-/// A value has at most as many bits as a sample.
-#[test]
-fn greatest_values(rt: HostRuntime) {
-    for (depth, most) in MOST {
-        met(&rt, fills(rt.alloc(), depth, most));
-    }
-    for fill in [[256, 0, 0], [0, 256, 0], [0, 0, 256]] {
-        met(&rt, is_too_large(rt.alloc(), fill));
-    }
-}
-
-/// Sets one value, and no other: not where there is no position, and none that is too large.
-fn sets(picture: &mut Picture) -> bool {
-    set(picture, 1, 2, 2, 7) && set(picture, 1, 3, 2, 7) && !set(picture, 1, 2, 2, 256)
-}
-
-/// Row, column, component and value once those were set; none where there is no position.
-const SET: [(u32, u32, u8, Option<u16>); 4] = [
-    (1, 2, 2, Some(7)),
-    (1, 3, 2, None),
-    (1, 2, 1, Some(128)),
-    (1, 0, 2, Some(129)),
-];
-
-/// Whether a picture's copy is the same until a value is set.
-fn is_set_alone(alloc: Global, first: &Picture) -> bool {
-    match first.try_copy(alloc) {
-        Ok(mut picture) => {
-            picture.same(first)
-                && sets(&mut picture)
-                && has_values(&picture, &SET)
-                && !picture.same(first)
-        }
-        Err(_) => false,
-    }
-}
-
-/// The same of a picture of F1.
-fn small_is_set_alone(alloc: Global, format: Format) -> bool {
-    match Picture::new(alloc, format, [16, 128, 129]) {
-        Ok(picture) => is_set_alone(alloc, &picture),
-        Err(_) => false,
-    }
-}
-
-/// A set changes the value at its place, and no other.
-#[test]
-fn one_value(rt: HostRuntime) -> Result<(), Fail> {
-    met(&rt, small_is_set_alone(rt.alloc(), small()?));
-    Ok(())
 }
 
 /// Takes a datagram of hexadecimal digits by A, and tells whether it was not refused.

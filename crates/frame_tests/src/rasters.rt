@@ -391,10 +391,3 @@ fn each_sampling_and_depth(rt: HostRuntime) -> Result<(), Fail> {
     }
     Ok(())
 }
-
-#[test]
-fn full_size(rt: HostRuntime) -> Result<(), Fail> {
-    let format = Format::new(Sampling::Ycc422, Depth::D10, 1920, 1080, 60, 1)?;
-    met(&rt, merges(rt.alloc(), format, 5, 4000));
-    Ok(())
-}

@@ -1,15 +1,10 @@
 //! The kernels over samples against formulas of 128 bits: at every length from 0 to 130, at each
-//! depth, with the least and greatest values, and at all corners of a depth together. The matrix of
-//! whole pixels is compared with that of components too, by which it went before.
+//! depth, with the least and greatest values.
 ghost use Rattle.std.specs.Prelude.{◌≤◌, ◌<◌, ◌^◌, EachIndex, IsTrue, slice_index};
 
-use crate::checks::met;
 use std::process::Abort;
 use test_kit::formulas::{cb, clipped, cr, gained, keyed, luma, mixed, scale};
 use test_programs::Generator;
-
-/// How many corners a depth has: the values at which a formula may turn.
-const CORNERS: usize = 14;
 
 /// The bits of a sample at each depth.
 const BITS: [u32; 4] = [8, 10, 12, 16];
@@ -23,45 +18,11 @@ const ALL: usize = 3 * MOST;
 /// What stands behind the values that a kernel writes.
 const BEHIND: u16 = 7;
 
-/// How many pixels the matrix had taken apart at a time, before it went by whole pixels.
-const BLOCK: usize = 64;
-
-/// How many such blocks the most pixels have.
-const BLOCKS: usize = 3;
-
-/// Pixels of two vectors, in which each corner has a place.
-const WHOLE: usize = 16;
-
 /// Values of one row.
 type Row = [u16; MOST];
 
 /// Samples of pixels.
 type Pixels = [u16; ALL];
-
-/// Values of so many bits: the least and the greatest, and those at and beside the bounds
-/// of ranges.
-fn corners(bits: u32) -> [u16; CORNERS] {
-    let s = scale(bits);
-    let end = s.wrapping_mul(256);
-    let black = s.wrapping_mul(16);
-    let centre = s.wrapping_mul(128);
-    [
-        0,
-        1,
-        s,
-        black.wrapping_sub(1),
-        black,
-        black.wrapping_add(1),
-        s.wrapping_mul(77).wrapping_add(1),
-        centre.wrapping_sub(1),
-        centre,
-        s.wrapping_mul(235),
-        s.wrapping_mul(240),
-        s.wrapping_mul(255).wrapping_sub(1),
-        end.wrapping_sub(2),
-        end.wrapping_sub(1),
-    ]
-}
 
 fn fit(values: &[u16], bits: u32) -> bool
     requires { bits ≤ 16 }
@@ -227,53 +188,10 @@ fn crs(rgb: &[Row; 3], bits: u32, n: usize) -> bool {
     out == wanted
 }
 
-/// The matrix of up to 64 pixels as it was before it went by whole pixels: their components are
-/// taken apart, each of the result is made by itself, and these are put together. Whether it took
-/// them.
-fn matrix_block(rgb: &[u16], bits: u32, out: &mut [u16]) -> bool {
-    let n = rgb.len() / 3;
-    if n > BLOCK || out.len() < 3 * n || bits < 8 || bits > 16 {
-        return false;
-    }
-    let (mut reds, mut greens, mut blues) = ([0; BLOCK], [0; BLOCK], [0; BLOCK]);
-    let (mut lumas, mut cbs, mut crs) = ([0; BLOCK], [0; BLOCK], [0; BLOCK]);
-    for i in 0..n {
-        reds[i] = rgb[3 * i];
-        greens[i] = rgb[3 * i + 1];
-        blues[i] = rgb[3 * i + 2];
-    }
-    let (r, g, b) = (&reds[..n], &greens[..n], &blues[..n]);
-    if !(fit(r, bits) && fit(g, bits) && fit(b, bits)) {
-        return false;
-    }
-    lane_kernels::luma709(r, g, b, bits, &mut lumas[..n]);
-    lane_kernels::cb709(r, g, b, bits, &mut cbs[..n]);
-    lane_kernels::cr709(r, g, b, bits, &mut crs[..n]);
-    for i in 0..n {
-        out[3 * i] = cbs[i];
-        out[3 * i + 1] = lumas[i];
-        out[3 * i + 2] = crs[i];
-    }
-    true
-}
-
-/// The same of so many pixels, block after block.
-fn matrix_before(rgb: &Pixels, bits: u32, n: usize, out: &mut Pixels) -> bool {
-    let mut taken = n <= MOST;
-    for block in 0..BLOCKS {
-        let from = (3 * BLOCK * block).min(ALL);
-        let to = (from + 3 * BLOCK).min(n.min(MOST) * 3);
-        if from < to {
-            taken &= matrix_block(&rgb[from..to], bits, &mut out[from..to]);
-        }
-    }
-    taken
-}
-
-/// `ycc709` of the first `n` pixels, by the formulas, and as it was before.
+/// `ycc709` of the first `n` pixels.
 fn pixels(rgb: &[Row; 3], bits: u32, n: usize) -> bool {
-    let (mut given, mut out, mut wanted) = ([0; ALL], [BEHIND; ALL], [BEHIND; ALL]);
-    let mut before = [BEHIND; ALL];
+    let mut given: Pixels = [0; ALL];
+    let (mut out, mut wanted) = ([BEHIND; ALL], [BEHIND; ALL]);
     if n > MOST || bits < 8 || bits > 16 {
         return false;
     }
@@ -289,7 +207,7 @@ fn pixels(rgb: &[Row; 3], bits: u32, n: usize) -> bool {
         return false;
     }
     lane_kernels::ycc709(&given[..3 * n], bits, &mut out[..3 * n]);
-    matrix_before(&given, bits, n, &mut before) & (out == wanted) & (out == before)
+    out == wanted
 }
 
 /// `pair_keys` of the first `n` pairs of columns: the first three have the key of the first luma.
@@ -391,86 +309,5 @@ fn each_length(rt: HostRuntime) {
     for n in 0..MOST + 1 {
         assert!(rt; pixels_agree(&mut pixels, n), "pixels, {n}");
         assert!(rt; rows_agree(&mut rows, n), "rows, {n}");
-    }
-}
-
-/// The corners of a depth over and over, from the one of a number on.
-fn repeated(corners: &[u16; CORNERS], first: usize) -> Row {
-    let mut row = [0; MOST];
-    for i in 0..MOST {
-        row[i] = corners[(first % CORNERS + i) % CORNERS];
-    }
-    row
-}
-
-/// The matrix of pixels of one R and one G, whose B goes over the corners from each on: so each
-/// stands at each place of whole vectors, and of one to seven pixels alone.
-fn blues_agree(corners: &[u16; CORNERS], red: u16, green: u16, bits: u32) -> bool {
-    let mut agree = true;
-    for first in 0..CORNERS {
-        let rgb = [[red; MOST], [green; MOST], repeated(corners, first)];
-        agree &= pixels(&rgb, bits, WHOLE);
-        for few in 1..8usize {
-            agree &= pixels(&rgb, bits, few);
-        }
-    }
-    agree
-}
-
-/// The matrix of all pixels whose G is one corner and whose R and B are any.
-fn grid_agrees(corners: &[u16; CORNERS], green: u16, bits: u32) -> bool {
-    let mut agree = true;
-    for red in corners {
-        let rgb = [[*red; MOST], [green; MOST], repeated(corners, 0)];
-        agree &= lumas(&rgb, bits, WHOLE) & cbs(&rgb, bits, WHOLE) & crs(&rgb, bits, WHOLE);
-        agree &= lumas(&rgb, bits, CORNERS) & cbs(&rgb, bits, CORNERS) & crs(&rgb, bits, CORNERS);
-        agree &= pixels(&rgb, bits, CORNERS) & blues_agree(corners, *red, green, bits);
-    }
-    agree
-}
-
-/// The gains of all corners: each g, about black and about the centre.
-fn gain_grid_agrees(corners: &[u16; CORNERS], bits: u32) -> bool {
-    let s = scale(bits);
-    let bounds = (s, s.wrapping_mul(255).wrapping_sub(1));
-    let row = repeated(corners, 0);
-    let mut agree = true;
-    for g in [0, 1, 2047, 2048, 2049, 4095, 4096, 4097, 8192, 16383, 16384] {
-        for zero in [s.wrapping_mul(16), s.wrapping_mul(128)] {
-            agree &= gains(&row, CORNERS, zero, g, bounds);
-        }
-    }
-    agree
-}
-
-/// The mixes of a corner with all corners: weights and keys about 0, the middle and the greatest.
-fn mix_grid_agrees(corners: &[u16; CORNERS], a: u16, bits: u32) -> bool {
-    let p = scale(bits).wrapping_mul(219);
-    let (row, b) = ([a; MOST], repeated(corners, 0));
-    let mut agree = true;
-    for w in [0, 1, 2, 127, 128, 129, 254, 255, 256] {
-        agree &= mixes(&row, &b, &[w; MOST], CORNERS);
-    }
-    for k in [0, 1, 2, p / 2, p / 2 + 1, p.wrapping_sub(1), p] {
-        agree &= keys(&row, &b, &[k; MOST], p, CORNERS);
-    }
-    agree
-}
-
-/// All fractions at one depth, over all its corners.
-fn fractions_agree(bits: u32) -> bool {
-    let corners = corners(bits);
-    let mut agree = gain_grid_agrees(&corners, bits);
-    for corner in &corners {
-        agree &= grid_agrees(&corners, *corner, bits);
-        agree &= mix_grid_agrees(&corners, *corner, bits);
-    }
-    agree
-}
-
-#[test]
-fn each_fraction(rt: HostRuntime) {
-    for bits in BITS {
-        met(&rt, fractions_agree(bits));
     }
 }

@@ -92,23 +92,6 @@ fn turns_in_memory(rt: HostRuntime) -> Result<(), Fail> {
     Ok(())
 }
 
-/// What a source of one datagram of so many octets tells, and how many turns are then to come.
-fn told(alloc: Global, octets: usize) -> Result<(Result<Turn, SourceFault>, usize), AllocError> {
-    let datagram = Vec::from_elem(alloc, 7, octets)?;
-    let mut source = source(alloc, &[Some((Path::A, datagram.as_slice()))], 0)?;
-    let (turn, _) = next(alloc, &mut source, b"")?;
-    Ok((turn, source.turns().len()))
-}
-
-/// A datagram of 65,535 octets comes; one of more fails, and stays.
-#[test]
-fn long_datagrams(rt: HostRuntime) -> Result<(), Fail> {
-    let longest = told(rt.alloc(), 65_535)? == (Ok(Turn::Datagram(Path::A, 65_535)), 0);
-    let longer = told(rt.alloc(), 65_536)? == (Err(SourceFault::Device), 1);
-    met(&rt, longest && longer);
-    Ok(())
-}
-
 /// The payload of a datagram, behind its header of 12 octets.
 fn payload(octets: &[u8]) -> &[u8] {
     &octets[octets.len().min(12)..]

@@ -4,7 +4,7 @@ ghost use Rattle.std.specs.Prelude.{◌≡◌, ◌↔◌, IsTrue};
 
 use crate::checks::{met, none_fails};
 use frame_assembly::{Counts, Frame};
-use path_receiver::{OpenFault, OpenedUnlike, Receiver, Refusal, SlideFault, Taken};
+use path_receiver::{OpenFault, Receiver, Refusal, SlideFault, Taken};
 use refusing::Refusing;
 use rtp_header::RtpFault;
 use st_format::{Depth, Format, Path, Sampling};
@@ -74,8 +74,6 @@ enum Step {
     Slide(u32, Result<u32, SlideFault>),
     /// Its window doesn't move on for a frame of another format.
     SlideUnlike(u32),
-    /// The frame that slid out is exchanged for the one at a place; or there is no such place.
-    Exchange(usize, bool),
     /// The other one is the nearer one now.
     Swap,
     /// Its frame of a timestamp, where it has one.
@@ -126,9 +124,6 @@ impl<A: Allocator> Pair<A> {
             Step::SlideUnlike(next) => {
                 self.near.slide(*next, &mut self.unlike) == Err(SlideFault::OtherFormat)
             }
-            Step::Exchange(place, is_one) => {
-                exchanged(&mut self.near, *place, &mut self.out) == *is_one
-            }
             Step::Swap => {
                 mem::swap(&mut self.near, &mut self.far);
                 true
@@ -167,15 +162,6 @@ impl<A: Allocator> Pair<A> {
     }
 }
 
-/// Exchanges a frame of a receiver, where there is such a place and the formats are one.
-fn exchanged<A: Allocator>(receiver: &mut Receiver<A>, place: usize, frame: &mut Frame<A>) -> bool {
-    let can_be = place < receiver.window().len() && receiver.format().same(&frame.format());
-    if can_be {
-        receiver.set_frame(place, frame);
-    }
-    can_be
-}
-
 /// A refusal that is kept, or `None` where there are not so many.
 fn refusal<A: Allocator>(receiver: &Receiver<A>, place: usize) -> Option<(Path, Refusal)> {
     if place < receiver.refusal_count() {
@@ -209,11 +195,6 @@ const MERGE: [Step; 13] = [
     Step::Refusals(1),
 ];
 
-#[test]
-fn merge_two_halves(rt: HostRuntime) -> Result<(), Fail> {
-    follow(&rt, &[900], &MERGE)
-}
-
 /// *outside-and-slide*, and a frame of another format.
 const SLIDE: [Step; 10] = [
     Step::Take(Path::A, LATER, OUTSIDE),
@@ -227,11 +208,6 @@ const SLIDE: [Step; 10] = [
     Step::Has(2400, Some(NONE)),
     Step::Has(900, None),
 ];
-
-#[test]
-fn outside_and_slide(rt: HostRuntime) -> Result<(), Fail> {
-    follow(&rt, &[900], &SLIDE)
-}
 
 /// Whether receivers and frames over an allocator follow *outside-and-slide*, or `None` where
 /// memory is wanted for them.
@@ -257,23 +233,10 @@ const SLIDE_OF_THREE: [Step; 8] = [
 ];
 
 #[test]
-fn slide_of_three(rt: HostRuntime) -> Result<(), Fail> {
+fn merged_and_slid(rt: HostRuntime) -> Result<(), Fail> {
+    follow(&rt, &[900], &MERGE)?;
+    follow(&rt, &[900], &SLIDE)?;
     follow(&rt, &[1, 900, 2400], &SLIDE_OF_THREE)
-}
-
-const EXCHANGES: [Step; 7] = [
-    Step::Take(Path::A, UPPER, FIRST),
-    Step::Exchange(1, true),
-    Step::Out(HALF),
-    Step::Has(900, Some(NONE)),
-    Step::Exchange(0, true),
-    Step::Has(1, Some(HALF)),
-    Step::Exchange(2, false),
-];
-
-#[test]
-fn set_frames(rt: HostRuntime) -> Result<(), Fail> {
-    follow(&rt, &[1, 900], &EXCHANGES)
 }
 
 /// A merge of what differs, a slide, and a datagram that disagrees with itself.
@@ -409,37 +372,6 @@ fn keeps_refusals(pair: &mut Pair) -> bool {
 fn last_refusals(rt: HostRuntime) -> Result<(), Fail> {
     let mut pair = Pair::open(rt.alloc(), &[900])?;
     met(&rt, keeps_refusals(&mut pair));
-    Ok(())
-}
-
-/// Payload type, source, width and window, of which one is otherwise than 96, any, 4 and [900,
-/// 2400].
-const OTHERWISE: [(u8, Option<u32>, u32, &[u32]); 6] = [
-    (96, None, 4, &[900, 2401]),
-    (96, None, 4, &[2400, 900]),
-    (96, None, 4, &[900]),
-    (96, Some(1), 4, &[900, 2400]),
-    (97, None, 4, &[900, 2400]),
-    (96, None, 6, &[900, 2400]),
-];
-
-/// Whether receivers that were opened otherwise aren't merged into this one.
-fn merges_none(alloc: Global, left: &mut Receiver) -> Result<bool, Fail> {
-    for (payload_type, source, width, window) in &OTHERWISE {
-        let format = Format::new(Sampling::Ycc422, Depth::D8, *width, 2, 60, 1)?;
-        let payload_type = (*payload_type).min(127);
-        let other = Receiver::open(alloc, format, payload_type, *source, *window)?;
-        if left.merge(&other) != Err(OpenedUnlike) {
-            return Ok(false);
-        }
-    }
-    Ok(OpenedUnlike.number() == 1 && counts(left, 900) == Some(NONE))
-}
-
-#[test]
-fn opened_unlike(rt: HostRuntime) -> Result<(), Fail> {
-    let mut left = Receiver::open(rt.alloc(), small()?, 96, None, &[900, 2400])?;
-    met(&rt, merges_none(rt.alloc(), &mut left)?);
     Ok(())
 }
 
