@@ -66,11 +66,6 @@ const OF_TEXTS: [(SdpFault, &str); 17] = [
     ),
 ];
 
-#[test]
-fn of_texts(rt: HostRuntime) {
-    met(&rt, all_say(rt.alloc(), &OF_TEXTS));
-}
-
 /// A fault of the third line of a text, and one that has no line.
 const PLACED: [(Located, &str); 2] = [
     (
@@ -93,11 +88,6 @@ const PLACED: [(Located, &str); 2] = [
     ),
 ];
 
-#[test]
-fn of_places(rt: HostRuntime) {
-    met(&rt, all_say(rt.alloc(), &PLACED));
-}
-
 const OF_FLOWS: [(FlowsFault, &str); 4] = [
     (FlowsFault::NoVideo, "no media section is a video section"),
     (
@@ -113,11 +103,6 @@ const OF_FLOWS: [(FlowsFault, &str); 4] = [
         "a section's c= line isn't c=IN IP4 ADDRESS or c=IN IP6 ADDRESS",
     ),
 ];
-
-#[test]
-fn of_flows(rt: HostRuntime) {
-    met(&rt, all_say(rt.alloc(), &OF_FLOWS));
-}
 
 const OF_PLANS: [(PlanFault, &str); 2] = [
     (PlanFault::NoMemory, "the memory was refused"),
@@ -153,20 +138,6 @@ const OF_SCHEDULES: [(PlayFault, &str); 6] = [
 
 /// A sink that failed behind two datagrams.
 const STOPPED: SendFault = SendFault { sent: 2 };
-
-#[test]
-fn of_plans_and_schedules(rt: HostRuntime) {
-    met(&rt, all_say(rt.alloc(), &OF_PLANS));
-    met(&rt, all_say(rt.alloc(), &OF_SCHEDULES));
-    met(
-        &rt,
-        says(
-            rt.alloc(),
-            &STOPPED,
-            "the sink failed after 2 datagrams of the picture",
-        ),
-    );
-}
 
 const OF_COLOURS: [(ColourFault, &str); 3] = [
     (ColourFault::NoMemory, "the memory was refused"),
@@ -219,8 +190,25 @@ const OF_SENDING: [(SendJobFault, &str); 3] = [
 ];
 
 #[test]
-fn of_colours_and_jobs(rt: HostRuntime) {
+fn of_texts_and_schedules(rt: HostRuntime) {
+    met(&rt, all_say(rt.alloc(), &OF_TEXTS));
+    met(&rt, all_say(rt.alloc(), &PLACED));
+    met(&rt, all_say(rt.alloc(), &OF_FLOWS));
+    met(&rt, all_say(rt.alloc(), &OF_PLANS));
+    met(&rt, all_say(rt.alloc(), &OF_SCHEDULES));
+}
+
+#[test]
+fn of_colours_jobs_and_sending(rt: HostRuntime) {
     met(&rt, all_say(rt.alloc(), &OF_COLOURS));
     met(&rt, all_say(rt.alloc(), &OF_JOBS));
     met(&rt, all_say(rt.alloc(), &OF_SENDING));
+    met(
+        &rt,
+        says(
+            rt.alloc(),
+            &STOPPED,
+            "the sink failed after 2 datagrams of the picture",
+        ),
+    );
 }

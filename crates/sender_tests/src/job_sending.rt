@@ -1,9 +1,9 @@
-//! Frames that are settled, run through a job and sent: the examples send-gain-one and held, a sink
-//! that fails at each put, and what is refused before anything is sent.
+//! Frames that are settled, run through a job and sent: the examples send-gain-one and held, and a
+//! sink that fails at each put.
 use crate::checks::met;
 use crate::sending::{GROUPS, WHOLE, has_taken, p0};
 use frame_assembly::{Base, Frame};
-use key_mix::{Axis, Job, JobFault, JobInput, SendJobFault, WipeShape, send_job};
+use key_mix::{Job, JobFault, JobInput, SendJobFault, send_job};
 use path_receiver::Receiver;
 use st_format::memory::MemoryDatagrams;
 use st_format::{Path, Picture};
@@ -120,46 +120,6 @@ fn failing_sinks(rt: HostRuntime) -> Result<(), Fail> {
         let fault = Err(SendJobFault::Sink { sent });
         let (before, call) = (&GROUPS[..sent as usize], u64::from(sent) + 1);
         met(&rt, sends(rt.alloc(), &receiver, 24, call, fault, before));
-    }
-    Ok(())
-}
-
-/// Jobs of one frame of 4:2:2 that are refused, at two packet sizes, the second of which is none.
-const REFUSED: [(Job, JobFault); 5] = [
-    (Job::Key, JobFault::WrongInputCount),
-    (
-        Job::Wipe(WipeShape {
-            axis: Axis::Rows,
-            position: 9,
-            soft: 0,
-        }),
-        JobFault::WrongInputCount,
-    ),
-    (Job::Gain(16385), JobFault::BadGain),
-    (Job::ToYcc444, JobFault::NotRgb),
-    (Job::ToYcc422, JobFault::NotYcc444),
-];
-
-/// Whether a job of a receiver's frame is refused, and nothing sent.
-fn refuses(alloc: Global, receiver: &Receiver, job: &Job, fault: JobFault, size: u32) -> bool {
-    let (Some(frame), Ok(mut sink)) = (receiver.frame(900), sink(alloc, 1)) else {
-        return false;
-    };
-    send_black(alloc, job, frame, size, &mut sink) == Err(SendJobFault::Job(fault))
-        && sink.failures() == 0
-        && sink.taken().is_empty()
-}
-
-/// The same of *first-datagram*'s.
-fn is_refused(alloc: Global, job: &Job, fault: JobFault, size: u32) -> Result<bool, Fail> {
-    Ok(refuses(alloc, &upper(alloc)?, job, fault, size))
-}
-
-#[test]
-fn refused_jobs(rt: HostRuntime) -> Result<(), Fail> {
-    for (job, fault) in &REFUSED {
-        met(&rt, is_refused(rt.alloc(), job, *fault, 42)?);
-        met(&rt, is_refused(rt.alloc(), job, *fault, 23)?);
     }
     Ok(())
 }

@@ -8,8 +8,6 @@ mod bad_events;
 #[cfg(test)]
 mod checks;
 #[cfg(test)]
-mod cut_texts;
-#[cfg(test)]
 mod faults;
 #[cfg(test)]
 mod flows;

@@ -120,7 +120,7 @@ fn singles(rt: HostRuntime) -> Result<(), Fail> {
     Ok(())
 }
 
-/// A wipe or a key.
+/// A wipe, a key, or a job that is sent.
 #[derive(Clone, Copy)]
 enum Mixed {
     /// *wipe-weights* at position 2, softness 4; as a job too.
@@ -129,6 +129,8 @@ enum Mixed {
     /// *key-rounds* at key luma 126; as a job too.
     Key,
     KeyJob,
+    /// *send-gain-one*.
+    Send,
 }
 
 const SHAPE: WipeShape = WipeShape {
@@ -195,30 +197,24 @@ impl Wanting for Mixed {
             Mixed::WipeJob => wiped(global, refusing, true),
             Mixed::Key => keyed(global, refusing, false),
             Mixed::KeyJob => keyed(global, refusing, true),
+            Mixed::Send => has_sent(refusing, global, &merged(global)?),
         })
     }
 }
 
+/// Each of them, and the least number of growths that it takes.
+const CALLS: [(Mixed, u64); 5] = [
+    (Mixed::Wipe, 2),
+    (Mixed::WipeJob, 2),
+    (Mixed::Key, 2),
+    (Mixed::KeyJob, 2),
+    (Mixed::Send, 4),
+];
+
 #[test]
 fn mixes(rt: HostRuntime) -> Result<(), Fail> {
-    for call in &[Mixed::Wipe, Mixed::WipeJob, Mixed::Key, Mixed::KeyJob] {
-        met(&rt, grows(rt.alloc(), call, 2)?);
+    for (call, least) in &CALLS {
+        met(&rt, grows(rt.alloc(), call, *least)?);
     }
-    Ok(())
-}
-
-/// The call of *send-gain-one*, for growths that are refused.
-#[derive(Clone, Copy)]
-struct SendOne;
-
-impl Wanting for SendOne {
-    fn answer(&self, global: Global, refusing: &Refusing<Global>) -> Result<Option<bool>, Fail> {
-        Ok(has_sent(refusing, global, &merged(global)?))
-    }
-}
-
-#[test]
-fn sends(rt: HostRuntime) -> Result<(), Fail> {
-    met(&rt, grows(rt.alloc(), &SendOne, 4)?);
     Ok(())
 }

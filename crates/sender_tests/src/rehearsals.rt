@@ -4,7 +4,7 @@ use crate::sending::p0;
 use frame_assembly::Counts;
 use packet_plan::{Plan, Stamp};
 use path_merge::{Event, Played, play};
-use path_receiver::{PlayFault, Receiver};
+use path_receiver::PlayFault;
 use st_format::{Depth, Format, Path, Picture, Sampling};
 use std::alloc::{AllocError, Allocator, Global};
 use std::process::Abort;
@@ -51,16 +51,6 @@ pub fn rehearse(
         receivers,
         events,
     ))
-}
-
-/// The fault of a schedule of two pictures, if it has one.
-pub fn fault_of(
-    alloc: Global,
-    window: &[u32],
-    receivers: u8,
-    events: &[Event],
-) -> Result<Option<PlayFault>, Fail> {
-    Ok(rehearse(alloc, 2, window, receivers, events)?.err())
 }
 
 /// Of a receiver's frame of a timestamp.
@@ -130,43 +120,6 @@ fn is_rehearsal<A: Allocator>(played: &Played<A>) -> bool {
 fn rehearsal(rt: HostRuntime) -> Result<(), Fail> {
     let played = rehearse(rt.alloc(), 2, &[0], 2, &SHOW)??;
     met(&rt, is_rehearsal(&played));
-    Ok(())
-}
-
-/// Whether a receiver was opened with the plan's format, the stamp's payload type and its source.
-fn is_opened(receiver: &Receiver, format: &Format, window: &[u32]) -> bool {
-    receiver.format() == *format
-        && receiver.payload_type() == 96
-        && receiver.ssrc() == Some(1)
-        && receiver.window() == window
-        && receiver.refusal_count() == 0
-}
-
-#[test]
-fn receivers_opened(rt: HostRuntime) -> Result<(), Fail> {
-    let format = small()?;
-    let played = rehearse(rt.alloc(), 0, &[7, 5], 3, &[])??;
-    met(&rt, comes_to(&played, 3, &[], &[]));
-    for receiver in &played.receivers {
-        met(&rt, is_opened(receiver, &format, &[7, 5]));
-    }
-    Ok(())
-}
-
-/// Nothing reaches the second stay of timestamp 0.
-const TWO_STAYS: [Event; 5] = [
-    Event::Send,
-    Event::Arrive(0, Path::A, 0),
-    Event::Slide(0, 1500),
-    Event::Slide(0, 0),
-    Event::Merge(1, 0),
-];
-
-#[test]
-fn second_stay(rt: HostRuntime) -> Result<(), Fail> {
-    let played = rehearse(rt.alloc(), 2, &[0], 2, &TWO_STAYS)??;
-    let handed = [(0, 0, 12), (0, 1500, 0)];
-    met(&rt, comes_to(&played, 2, &handed, &[(0, 0, 0), (1, 0, 0)]));
     Ok(())
 }
 

@@ -7,7 +7,7 @@ use std::process::Abort;
 use test_kit::camera::{CAMERA, LINE};
 
 /// The canonical line of a text.
-pub fn line_of<A: Allocator + Copy>(alloc: A, text: &[u8]) -> Result<Vec<u8, A>, SdpFault> {
+fn line_of<A: Allocator + Copy>(alloc: A, text: &[u8]) -> Result<Vec<u8, A>, SdpFault> {
     let sdp = read_sdp(alloc, text)?;
     fmtp_text(alloc, &sdp)
 }

@@ -240,21 +240,10 @@ fn second() -> (&'static str, &'static str) {
 }
 
 #[test]
-fn faults_of_both_sections(rt: HostRuntime) -> Result<(), Fail> {
-    none_fails(&rt, fails_at(rt.alloc(), "", CAMERA, &BOTH)?);
-    Ok(())
-}
-
-#[test]
-fn faults_of_the_second_section(rt: HostRuntime) -> Result<(), Fail> {
+fn faults_of_sections(rt: HostRuntime) -> Result<(), Fail> {
     let (front, rest) = second();
+    none_fails(&rt, fails_at(rt.alloc(), "", CAMERA, &BOTH)?);
     none_fails(&rt, fails_at(rt.alloc(), front, rest, &SECOND)?);
-    Ok(())
-}
-
-#[test]
-fn a_third_section(rt: HostRuntime) -> Result<(), Fail> {
-    let (_, rest) = second();
     none_fails(&rt, fails_at(rt.alloc(), CAMERA.trim_end(), rest, &THIRD)?);
     Ok(())
 }
@@ -342,7 +331,8 @@ fn has_no_place(located: Option<Located>, fault: SdpFault) -> bool {
     }
 }
 
-/// Without video there is no line at fault, and none where memory is wanted.
+/// Without video there is no line at fault, and none where memory is wanted. Of a text that is read
+/// well there is no fault.
 #[test]
 fn faults_without_a_place(rt: HostRuntime) {
     met(
@@ -356,10 +346,5 @@ fn faults_without_a_place(rt: HostRuntime) {
     let refusing = Refusing::new(rt.alloc(), 1);
     let wanting = read_located(&refusing, CAMERA.as_bytes()).err();
     met(&rt, has_no_place(wanting, SdpFault::NoMemory));
-}
-
-/// Of a text that is read well no place is told.
-#[test]
-fn a_text_without_a_fault(rt: HostRuntime) {
     met(&rt, located(rt.alloc(), CAMERA).is_none());
 }

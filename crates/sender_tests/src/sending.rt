@@ -238,34 +238,6 @@ fn sender_sizes(rt: HostRuntime) -> Result<(), Fail> {
     Ok(())
 }
 
-/// Whether a plan of a format has so many packets, or there is none for this fault.
-fn is_planned(alloc: Global, format: Format, size: u32, wanted: Result<u32, PlanFault>) -> bool {
-    match Plan::new(alloc, format, size) {
-        Ok(plan) => wanted == Ok(plan.len()),
-        Err(fault) => wanted == Err(fault),
-    }
-}
-
-/// Sizes, and what there is of a plan of F1 at each.
-const SIZES: [(u32, Result<u32, PlanFault>); 6] = [
-    (24, Ok(4)),
-    (9000, Ok(1)),
-    (0, Err(PlanFault::BadPacketSize)),
-    (23, Err(PlanFault::BadPacketSize)),
-    (9001, Err(PlanFault::BadPacketSize)),
-    (4_294_967_295, Err(PlanFault::BadPacketSize)),
-];
-
-/// How many packets there are at 24, and *sender-sizes* at 23 and 9001.
-#[test]
-fn least_and_greatest_sizes(rt: HostRuntime) -> Result<(), Fail> {
-    let format = small()?;
-    for (size, wanted) in SIZES {
-        met(&rt, is_planned(rt.alloc(), format, size, wanted));
-    }
-    Ok(())
-}
-
 /// The pgroups of a packet, segment by segment, 0 where there is none.
 fn groups_of(plan: &Plan, index: u32) -> [u32; 3] {
     let mut groups = [0; 3];

@@ -14,17 +14,6 @@ use std::test::Fail;
 use test_kit::small_format::{UPPER, counted, counts, small};
 use test_kit::wanting::{Wanting, grows};
 
-/// A call for a picture, or for a plan of its packets.
-#[derive(Clone, Copy)]
-enum Sent {
-    /// *sender-sizes* at 42 octets, of a picture that is made.
-    Picture,
-    /// The copy of P0 of *copies-and-settling*.
-    Copy,
-    /// *sender-sizes* at 24 octets, by a plan that is made.
-    Plan,
-}
-
 /// Whether a copy of P0 equals it, or `None` where memory is wanted.
 fn is_copied<A: Allocator>(global: Global, alloc: A) -> Result<Option<bool>, Fail> {
     let picture = p0(global)?;
@@ -35,27 +24,16 @@ fn is_copied<A: Allocator>(global: Global, alloc: A) -> Result<Option<bool>, Fai
     })
 }
 
-impl Wanting for Sent {
-    fn answer(&self, global: Global, refusing: &Refusing<Global>) -> Result<Option<bool>, Fail> {
-        match self {
-            Sent::Picture => gives_whole(global, refusing),
-            Sent::Copy => is_copied(global, refusing),
-            Sent::Plan => gives_groups(global, refusing),
-        }
-    }
-}
-
-#[test]
-fn pictures_and_plans(rt: HostRuntime) -> Result<(), Fail> {
-    for call in &[Sent::Picture, Sent::Copy, Sent::Plan] {
-        met(&rt, grows(rt.alloc(), call, 1)?);
-    }
-    Ok(())
-}
-
-/// A call for a receiver, for receivers of a schedule, or for a map of packet numbers.
+/// A call for a picture, a plan of its packets, a receiver, receivers of a schedule, a map of packet
+/// numbers, or an SDP text.
 #[derive(Clone, Copy)]
-enum Opened {
+enum Call {
+    /// *sender-sizes* at 42 octets, of a picture that is made.
+    Picture,
+    /// The copy of P0 of *copies-and-settling*.
+    Copy,
+    /// *sender-sizes* at 24 octets, by a plan that is made.
+    Plan,
     /// *first-datagram*, of a receiver of this window.
     Receiver(&'static [u32]),
     /// *rehearsal*.
@@ -64,6 +42,8 @@ enum Opened {
     Numbers,
     /// The missing runs of a map of packet numbers, more than the first memory for them holds.
     MissingRuns,
+    /// `read_sdp` and `fmtp_text` of *camera-sdp*.
+    Line,
 }
 
 /// Whether a receiver of a window takes *first-datagram*, or `None` where memory is wanted.
@@ -78,46 +58,38 @@ fn is_taken<A: Allocator + Copy>(alloc: A, window: &[u32]) -> Result<Option<bool
     }
 }
 
-impl Wanting for Opened {
+impl Wanting for Call {
     fn answer(&self, global: Global, refusing: &Refusing<Global>) -> Result<Option<bool>, Fail> {
         match self {
-            Opened::Receiver(window) => is_taken(refusing, *window),
-            Opened::Schedule => is_played(global, refusing),
-            Opened::Numbers => Ok(is_mapped(refusing)),
-            Opened::MissingRuns => Ok(misses_six(global, refusing)),
+            Call::Picture => gives_whole(global, refusing),
+            Call::Copy => is_copied(global, refusing),
+            Call::Plan => gives_groups(global, refusing),
+            Call::Receiver(window) => is_taken(refusing, *window),
+            Call::Schedule => is_played(global, refusing),
+            Call::Numbers => Ok(is_mapped(refusing)),
+            Call::MissingRuns => Ok(misses_six(global, refusing)),
+            Call::Line => Ok(is_written(refusing)),
         }
     }
 }
 
 /// Each call, and the least number of growths that it takes.
-const OPENED: [(Opened, u64); 5] = [
-    (Opened::Receiver(&[900]), 1),
-    (Opened::Receiver(&[900, 2400]), 3),
-    (Opened::Schedule, 8),
-    (Opened::Numbers, 2),
-    (Opened::MissingRuns, 1),
+const CALLS: [(Call, u64); 9] = [
+    (Call::Picture, 1),
+    (Call::Copy, 1),
+    (Call::Plan, 1),
+    (Call::Receiver(&[900]), 1),
+    (Call::Receiver(&[900, 2400]), 3),
+    (Call::Schedule, 8),
+    (Call::Numbers, 2),
+    (Call::MissingRuns, 1),
+    (Call::Line, 2),
 ];
 
 #[test]
-fn receivers_and_numbers(rt: HostRuntime) -> Result<(), Fail> {
-    for (call, least) in &OPENED {
+fn each_growth_refused(rt: HostRuntime) -> Result<(), Fail> {
+    for (call, least) in &CALLS {
         met(&rt, grows(rt.alloc(), call, *least)?);
     }
-    Ok(())
-}
-
-/// `read_sdp` and `fmtp_text` of *camera-sdp*.
-#[derive(Clone, Copy)]
-struct Line;
-
-impl Wanting for Line {
-    fn answer(&self, _global: Global, refusing: &Refusing<Global>) -> Result<Option<bool>, Fail> {
-        Ok(is_written(refusing))
-    }
-}
-
-#[test]
-fn lines(rt: HostRuntime) -> Result<(), Fail> {
-    met(&rt, grows(rt.alloc(), &Line, 2)?);
     Ok(())
 }
