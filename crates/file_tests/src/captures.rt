@@ -115,8 +115,9 @@ fn is_received(
     }
 }
 
+/// *cut-capture*, and a whole one.
 #[test]
-fn capture_receive(rt: HostRuntime) -> Result<(), Fail> {
+fn whole_and_cut(rt: HostRuntime) -> Result<(), Fail> {
     let received = Received {
         delivered: 1,
         ended: true,
@@ -125,11 +126,6 @@ fn capture_receive(rt: HostRuntime) -> Result<(), Fail> {
         &rt,
         is_received(rt.alloc(), OLD, Ok(received), Ok(Turn::End))?,
     );
-    Ok(())
-}
-
-#[test]
-fn cut_capture(rt: HostRuntime) -> Result<(), Fail> {
     let truncated = SourceFault::Content(5);
     let fault = ReceiveFault {
         delivered: 1,

@@ -29,13 +29,6 @@ fn ended(run: &Ran, status: u8, printed: &[u8], told: &[u8]) -> bool {
 }
 
 #[test]
-fn one_octet_a_call(rt: HostRuntime) -> Result<(), Fail> {
-    let run = run_on(rt.alloc(), rt.alloc(), SCRIPT, 1, SOUND)?;
-    met(&rt, ended(&run, 0, OUTPUT, b""));
-    Ok(())
-}
-
-#[test]
 fn refused_one_octet_a_call(rt: HostRuntime) -> Result<(), Fail> {
     let run = run_on(rt.alloc(), rt.alloc(), REFUSED, 1, SOUND)?;
     met(&rt, ended(&run, 1, REFUSED_OUTPUT, TOLD));
@@ -59,7 +52,7 @@ fn ends_at_source(
     };
     let run = run_on(rt.alloc(), rt.alloc(), SCRIPT, 1, failing)?;
     Ok(if is_done {
-        run.status == 0
+        ended(&run, 0, OUTPUT, b"")
     } else {
         ended(&run, 3, b"", DEVICE)
     })

@@ -124,6 +124,7 @@ fn each_growth_refused(rt: HostRuntime) -> Result<(), Fail> {
     ] {
         met(&rt, grows(rt.alloc(), engine, 3)?);
     }
+    met(&rt, grows(rt.alloc(), &Processed, 4)?);
     Ok(())
 }
 
@@ -158,10 +159,4 @@ impl Wanting for Processed {
         let run = process_on(global, refusing, PROCESSING, &file)?;
         Ok(answered(&run, &written, b"sent 1\n"))
     }
-}
-
-#[test]
-fn processed_with_each_growth_refused(rt: HostRuntime) -> Result<(), Fail> {
-    met(&rt, grows(rt.alloc(), &Processed, 4)?);
-    Ok(())
 }

@@ -85,17 +85,12 @@ fn captures_from_a_source_that_fails(rt: HostRuntime) -> Result<(), Fail> {
 }
 
 #[test]
-fn pictures_from_a_source_that_fails(rt: HostRuntime) -> Result<(), Fail> {
-    let read = (picture_files::FILE, [].as_slice(), 16);
-    met(&rt, is_told_at_each(rt.alloc(), &Samples, read)?);
-    met(&rt, is_told_at_each(rt.alloc(), &Packed, read)?);
-    Ok(())
-}
-
-#[test]
-fn receivers_from_a_source_that_fails(rt: HostRuntime) -> Result<(), Fail> {
-    let read = (receiver_files::FILE, [].as_slice(), 7);
-    met(&rt, is_told_at_each(rt.alloc(), &Present, read)?);
+fn pictures_and_receivers_from_a_source_that_fails(rt: HostRuntime) -> Result<(), Fail> {
+    let picture = (picture_files::FILE, [].as_slice(), 16);
+    met(&rt, is_told_at_each(rt.alloc(), &Samples, picture)?);
+    met(&rt, is_told_at_each(rt.alloc(), &Packed, picture)?);
+    let receiver = (receiver_files::FILE, [].as_slice(), 7);
+    met(&rt, is_told_at_each(rt.alloc(), &Present, receiver)?);
     Ok(())
 }
 
@@ -239,16 +234,11 @@ fn captures_to_a_sink_that_fails(rt: HostRuntime) -> Result<(), Fail> {
 }
 
 #[test]
-fn pictures_to_a_sink_that_fails(rt: HostRuntime) -> Result<(), Fail> {
+fn pictures_and_receivers_to_a_sink_that_fails(rt: HostRuntime) -> Result<(), Fail> {
     met(
         &rt,
         has_taken_at_each(rt.alloc(), &Picture, picture_files::FILE)?,
     );
-    Ok(())
-}
-
-#[test]
-fn receivers_to_a_sink_that_fails(rt: HostRuntime) -> Result<(), Fail> {
     met(
         &rt,
         has_taken_at_each(rt.alloc(), &Saved, receiver_files::FILE)?,

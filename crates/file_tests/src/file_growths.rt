@@ -85,15 +85,10 @@ impl Wanting for Reading {
 
 /// A picture takes one growth, packed or not.
 #[test]
-fn pictures(rt: HostRuntime) -> Result<(), Fail> {
+fn each_growth_refused(rt: HostRuntime) -> Result<(), Fail> {
     for call in &[Reading::Picture, Reading::Packed] {
         met(&rt, growths(rt.alloc(), call)? == Some(1));
     }
-    Ok(())
-}
-
-#[test]
-fn captures_and_receivers(rt: HostRuntime) -> Result<(), Fail> {
     met(&rt, grows(rt.alloc(), &Reading::Capture, 2)?);
     met(&rt, grows(rt.alloc(), &Reading::Receiver, 4)?);
     Ok(())

@@ -4,7 +4,7 @@ use capture_file::FileFault;
 use path_receiver::Receiver;
 use receiver_file::{load_receiver, save_receiver};
 use st_format::memory::{MemorySink, MemorySource};
-use st_format::{Depth, Format, Sampling};
+use st_format::Format;
 use std::alloc::{AllocError, Allocator, Global};
 use std::process::Abort;
 use std::test::Fail;
@@ -63,21 +63,6 @@ fn contested_state_file(rt: HostRuntime) -> Result<(), Fail> {
     Ok(())
 }
 
-/// Whether the file is read in such pieces, and written the same again.
-fn comes_again(alloc: Global, piece: usize) -> bool {
-    match load(alloc, alloc, FILE, piece) {
-        Ok(Ok(receiver)) => is_contested(&receiver) && saves(alloc, &receiver, FILE),
-        _ => false,
-    }
-}
-
-#[test]
-fn state_file_again(rt: HostRuntime) {
-    for piece in [1usize, 3, 4096] {
-        met(&rt, comes_again(rt.alloc(), piece));
-    }
-}
-
 /// Whether a receiver is the file's: *contested*'s, which keeps no refusal.
 fn is_contested<A: Allocator>(receiver: &Receiver<A>) -> bool {
     counts(receiver, 900) == Some(counted(7, 8, 1)) && receiver.refusal_count() == 0
@@ -90,52 +75,4 @@ pub fn is_loaded<A: Allocator + Copy>(global: Global, alloc: A) -> Result<Option
         Err(FileFault::NoMemory) => Ok(None),
         Err(_) => Ok(Some(false)),
     }
-}
-
-/// Whether the file of a receiver of source 7 says its depth, and is read and written again.
-fn tells_depth(alloc: Global, file: &[u8], bits: u8) -> bool {
-    match load(alloc, alloc, file, 3) {
-        Ok(Ok(again)) => {
-            file.len() > 9
-                && file[9] == bits
-                && again.ssrc() == Some(7)
-                && saves(alloc, &again, file)
-        }
-        _ => false,
-    }
-}
-
-/// The same of the file that a receiver is saved as.
-fn saved_tells_depth(alloc: Global, receiver: &Receiver, bits: u8) -> bool {
-    match Vec::with_capacity(alloc, 4096) {
-        Ok(room) => {
-            let mut sink = MemorySink::new(room, 7, 0);
-            save_receiver(&mut sink, receiver).is_ok() && tells_depth(alloc, sink.held(), bits)
-        }
-        Err(_) => false,
-    }
-}
-
-/// The same of a receiver of a format that took nothing.
-fn says_depth(alloc: Global, format: Format, bits: u8) -> bool {
-    match Receiver::open(alloc, format, 96, Some(7), &[900, 901]) {
-        Ok(receiver) => saved_tells_depth(alloc, &receiver, bits),
-        Err(_) => false,
-    }
-}
-
-const DEPTHS: [(Depth, u8); 4] = [
-    (Depth::D8, 8),
-    (Depth::D10, 10),
-    (Depth::D12, 12),
-    (Depth::D16, 16),
-];
-
-#[test]
-fn state_file_of_each_depth(rt: HostRuntime) -> Result<(), Fail> {
-    for (depth, bits) in &DEPTHS {
-        let format = Format::new(Sampling::Ycc422, *depth, 4, 2, 60, 1)?;
-        met(&rt, says_depth(rt.alloc(), format, *bits));
-    }
-    Ok(())
 }

@@ -1,7 +1,6 @@
-//! Reports: of *contested*, of each sampling and depth, of a row with each second pgroup,
-//! and through the engine.
+//! Reports of each sampling and depth, and of a row with each second pgroup; and *contested-report*,
+//! for runs in which devices fail or memory is wanted.
 use crate::checks::met;
-use crate::running::{Ran, SOUND, report_on};
 use frame_report::write_report;
 use path_receiver::Receiver;
 use st_format::memory::MemorySink;
@@ -10,7 +9,6 @@ use std::alloc::{AllocError, Global};
 use std::process::Abort;
 use std::test::Fail;
 use test_kit::datagrams::{begin, opened, put_head, takes_octets};
-use test_kit::small_format::{ANOTHER, UPPER, small};
 
 /// What a report tells of *contested*'s receiver.
 pub const REPORT: &[u8] = b"receiver YCbCr-4:2:2 8 4 2 60/1 pt 96 ssrc any\n\
@@ -64,24 +62,6 @@ fn tells(alloc: Global, receiver: &Receiver, text: &[u8]) -> bool {
         Ok(mut sink) => write_report(receiver, &mut sink).is_ok() && sink.held() == text,
         Err(_) => false,
     }
-}
-
-/// Whether that of *contested*'s receiver is.
-fn contested_is_told(alloc: Global, format: Format) -> bool {
-    match opened(alloc, format) {
-        Ok(mut receiver) => {
-            takes_octets(&mut receiver, UPPER)
-                && takes_octets(&mut receiver, ANOTHER)
-                && tells(alloc, &receiver, REPORT)
-        }
-        Err(_) => false,
-    }
-}
-
-#[test]
-fn contested_report(rt: HostRuntime) -> Result<(), Fail> {
-    met(&rt, contested_is_told(rt.alloc(), small()?));
-    Ok(())
 }
 
 /// A datagram of the pgroup at a column of a row, all zeros but for its first and last octet.
@@ -228,24 +208,5 @@ fn each_second_is_told(alloc: Global, format: Format) -> bool {
 fn each_second_group(rt: HostRuntime) -> Result<(), Fail> {
     let format = Format::new(Sampling::Ycc444, Depth::D8, 8192, 1, 60, 1)?;
     met(&rt, each_second_is_told(rt.alloc(), format));
-    Ok(())
-}
-
-/// Whether a run ended by this status, and wrote just these octets to output and faults.
-fn ended(run: &Ran, status: u8, printed: &[u8], told: &[u8]) -> bool {
-    run.status == status && run.printed() == printed && run.told() == told
-}
-
-#[test]
-fn report_of_a_file(rt: HostRuntime) -> Result<(), Fail> {
-    let run = report_on(rt.alloc(), rt.alloc(), FILE, 5, SOUND)?;
-    met(&rt, ended(&run, 0, REPORT, b""));
-    Ok(())
-}
-
-#[test]
-fn report_of_a_file_that_is_cut(rt: HostRuntime) -> Result<(), Fail> {
-    let run = report_on(rt.alloc(), rt.alloc(), &FILE[..20], 5, SOUND)?;
-    met(&rt, ended(&run, 1, b"", b"st2110: state 5 Truncated\n"));
     Ok(())
 }

@@ -197,7 +197,10 @@ impl Wanting for Mixed {
             Mixed::WipeJob => wiped(global, refusing, true),
             Mixed::Key => keyed(global, refusing, false),
             Mixed::KeyJob => keyed(global, refusing, true),
-            Mixed::Send => has_sent(refusing, global, &merged(global)?),
+            Mixed::Send => {
+                let receiver = merged(global)?;
+                has_sent(refusing, global, &receiver)
+            }
         })
     }
 }
