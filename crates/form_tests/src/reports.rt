@@ -31,16 +31,6 @@ fn failing(alloc: Global, fails_in: u64) -> Result<MemorySink, AllocError> {
     Ok(MemorySink::new(room, 7, fails_in))
 }
 
-#[test]
-fn reports(rt: HostRuntime) -> Result<(), Fail> {
-    let mut report = ReportSink {
-        sink: sink(rt.alloc())?,
-    };
-    let shown = show_two(rt.alloc(), &mut report)?;
-    met(&rt, shown.is_ok() && report.sink.held() == TWO);
-    Ok(())
-}
-
 /// A device that fails in each call: what was written is a first part.
 #[test]
 fn in_each_call(rt: HostRuntime) -> Result<(), Fail> {

@@ -89,14 +89,6 @@ fn ended(run: &Run, written: &[u8], printed: &[u8]) -> bool {
     run.outcome.is_ok() && run.written.held() == written && run.printed.held() == printed
 }
 
-#[test]
-fn each_picture(rt: HostRuntime) -> Result<(), Fail> {
-    let both = capture(rt.alloc(), &[FIRST, SECOND])?;
-    let run = send_over(rt.alloc(), rt.alloc(), STREAM, 0, 0)?;
-    met(&rt, ended(&run, &both, b"sent 2\n"));
-    Ok(())
-}
-
 /// A head and no frame: nothing is written.
 #[test]
 fn no_picture(rt: HostRuntime) -> Result<(), Fail> {

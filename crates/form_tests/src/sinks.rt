@@ -26,26 +26,20 @@ fn are_written(
 }
 
 /// Black is 64 and 512 at 10 bits, each in two octets, the low one first, and 16 of 8 bits in RGB.
-/// A stream has its line once.
+/// A stream has its line once. Values above the greatest of a sample count as that: 1023, and 255.
 #[test]
-fn black(rt: HostRuntime) -> Result<(), Fail> {
+fn black_and_large_fill(rt: HostRuntime) -> Result<(), Fail> {
     let text = b"YUV4MPEG2 W2 H1 F25:1 Ip A1:1 C422p10\n\
         FRAME\n\x40\0\x40\0\0\x02\0\x02FRAME\n\x40\0\x40\0\0\x02\0\x02\
         P6\n2 1\n255\n\x10\x10\x10\x10\x10\x10"
         .as_slice();
     met(&rt, are_written(rt.alloc(), Filling::Fill, None, text)?);
     met(&rt, are_written(rt.alloc(), Filling::Hold, None, text)?);
-    Ok(())
-}
-
-/// Values above the greatest of a sample count as that: 1023, and 255.
-#[test]
-fn large_fill(rt: HostRuntime) -> Result<(), Fail> {
-    let text = b"YUV4MPEG2 W2 H1 F25:1 Ip A1:1 C422p10\n\
+    let large = b"YUV4MPEG2 W2 H1 F25:1 Ip A1:1 C422p10\n\
         FRAME\n\x01\0\x01\0\xFF\x03\0\x01FRAME\n\x01\0\x01\0\xFF\x03\0\x01\
         P6\n2 1\n255\n\x01\xFF\xFF\x01\xFF\xFF"
         .as_slice();
     let fill = Some([1, 1024, 256]);
-    met(&rt, are_written(rt.alloc(), Filling::Fill, fill, text)?);
+    met(&rt, are_written(rt.alloc(), Filling::Fill, fill, large)?);
     Ok(())
 }

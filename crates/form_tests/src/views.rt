@@ -1,7 +1,6 @@
-//! The marked view of frames, and settled frames in a form.
+//! Settled frames in a form.
 use crate::checks::{met, sink};
 use frame_assembly::{Base, Frame};
-use marked_view::marked_picture;
 use settled_forms::write_settled;
 use st_format::{Depth, Format, Sampling};
 use std::alloc::{AllocError, Global};
@@ -10,18 +9,6 @@ use std::test::Fail;
 
 /// What a sample without a value gets.
 const FILL: [u16; 3] = [16, 200, 128];
-
-#[test]
-fn nothing_known(rt: HostRuntime) -> Result<(), Fail> {
-    let format = Format::new(Sampling::Ycc422, Depth::D10, 2, 1, 25, 1)?;
-    let frame = Frame::new(rt.alloc(), format)?;
-    let view = marked_picture(rt.alloc(), &frame)?;
-    met(
-        &rt,
-        view.samples() == [255u16, 0, 255, 255, 0, 255].as_slice(),
-    );
-    Ok(())
-}
 
 /// Whether a frame of four samples is written as this text, settled with the fill.
 fn is_written_as(alloc: Global, frame: &Frame, text: &[u8]) -> Result<bool, AllocError> {
