@@ -50,16 +50,12 @@ fn is_front(global: Global, octets: &[u8], wanted: Result<&[u8], FileFault>) -> 
     }
 }
 
+/// Of the first front, ten octets and its text are wanted.
 #[test]
 fn fronts_of_captures(rt: HostRuntime) {
     for (octets, wanted) in FRONTS {
         met(&rt, is_front(rt.alloc(), octets, wanted));
     }
-}
-
-/// Of the first front ten octets and its text are wanted.
-#[test]
-fn cut_fronts(rt: HostRuntime) {
     let whole = FRONTS[0].0;
     for count in 4..13usize {
         let octets = whole.get(..count).unwrap_or(&[]);

@@ -131,19 +131,3 @@ fn faults(rt: HostRuntime) -> Result<(), Fail> {
     }
     Ok(())
 }
-
-/// It ends behind a block, and nowhere else.
-#[test]
-fn cut(rt: HostRuntime) -> Result<(), Fail> {
-    for count in 0..141usize {
-        let wanted = match count {
-            28 | 72 | 84 | 120 | 140 => None,
-            _ => Some(RecordingFault::Truncated),
-        };
-        met(
-            &rt,
-            first_fault(rt.alloc(), &BLOCKS[..count], 32)? == wanted,
-        );
-    }
-    Ok(())
-}

@@ -62,12 +62,19 @@ const CUTS: [(usize, usize, Option<u8>); 12] = [
     (52, 3, None),
 ];
 
+/// What is no capture, and a version that isn't read, each with the number of its fault.
+const NONE: [(&[u8], u8); 2] = [(b"S20CAQ02\x00\x00", 3), (b"S20CAP03\x00\x00", 4)];
+
 #[test]
 fn cut(rt: HostRuntime) {
     for (count, datagrams, number) in CUTS {
         let octets = CAPTURE.get(..count).unwrap_or(&[]);
         let read = read(rt.alloc(), octets, 0);
         met(&rt, is_so(read, datagrams, content(number)));
+    }
+    for (octets, number) in NONE {
+        let read = read(rt.alloc(), octets, 0);
+        met(&rt, is_so(read, 0, content(Some(number))));
     }
 }
 
@@ -89,17 +96,6 @@ fn failing_device(rt: HostRuntime) {
     for (call, datagrams, fault) in FAILING {
         let read = read(rt.alloc(), CAPTURE, call);
         met(&rt, is_so(read, datagrams, fault));
-    }
-}
-
-/// What is no capture, and a version that isn't read, each with the number of its fault.
-const NONE: [(&[u8], u8); 2] = [(b"S20CAQ02\x00\x00", 3), (b"S20CAP03\x00\x00", 4)];
-
-#[test]
-fn no_captures(rt: HostRuntime) {
-    for (octets, number) in NONE {
-        let read = read(rt.alloc(), octets, 0);
-        met(&rt, is_so(read, 0, content(Some(number))));
     }
 }
 

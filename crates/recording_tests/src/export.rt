@@ -2,7 +2,6 @@
 use crate::checks::met;
 use crate::engines::{Run, sink, source};
 use export_engine::{Exporting, export};
-use run_outcome::{Fault, Refusal};
 use std::alloc::{AllocError, Allocator, Global};
 use std::process::Abort;
 use std::test::Fail;
@@ -49,12 +48,6 @@ pub fn is_exported<A: Allocator + Copy>(
     Ok(run.answered(RECORDING, b"exported 1 left out 1\n"))
 }
 
-#[test]
-fn one_path(rt: HostRuntime) -> Result<(), Fail> {
-    met(&rt, is_exported(rt.alloc(), rt.alloc())? == Some(true));
-    Ok(())
-}
-
 /// Whether a run ended well, and wrote and printed what it does of both paths: the packet of path B
 /// has 58 octets, and none of data.
 fn has_both(run: &Run) -> bool {
@@ -70,19 +63,5 @@ fn two_paths(rt: HostRuntime) -> Result<(), Fail> {
     let b = b"239.1.1.2:5004".as_slice();
     let run = export_by(rt.alloc(), rt.alloc(), b"239.1.1.1:5004", Some(b))?;
     met(&rt, has_both(&run));
-    Ok(())
-}
-
-/// Whether a run was refused since a word is no flow, and wrote and printed nothing.
-fn is_no_flow(run: &Run) -> bool {
-    matches!(run.outcome, Err(Fault::Refused(Refusal::ExportFlow)))
-        && run.written.held().is_empty()
-        && run.printed.held().is_empty()
-}
-
-#[test]
-fn what_is_no_flow(rt: HostRuntime) -> Result<(), Fail> {
-    let run = export_by(rt.alloc(), rt.alloc(), b"5004", None)?;
-    met(&rt, is_no_flow(&run));
     Ok(())
 }

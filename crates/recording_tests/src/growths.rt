@@ -31,31 +31,15 @@ impl Wanting for Engine {
     }
 }
 
-/// For the SDP text, for the flows of each file, for a capture's text, for a packet of each
-/// recording, and for a record of the capture.
+/// Of `import` for the SDP text, for the flows of each file, for a capture's text, for a packet of
+/// each recording, and for a record of the capture; of `inspect` for a packet, and for the table of
+/// flows and its index; of `export` for a record, and for a packet; of streams for the SDP text, the
+/// rooms, the tables and their indexes, and the text.
 #[test]
-fn of_import(rt: HostRuntime) -> Result<(), Fail> {
+fn of_each_engine(rt: HostRuntime) -> Result<(), Fail> {
     met(&rt, grows(rt.alloc(), &Engine::Import, 6)?);
-    Ok(())
-}
-
-/// For a packet, and for the table of flows and its index.
-#[test]
-fn of_inspect(rt: HostRuntime) -> Result<(), Fail> {
     met(&rt, grows(rt.alloc(), &Engine::Inspect, 6)?);
-    Ok(())
-}
-
-/// For a record, and for a packet.
-#[test]
-fn of_export(rt: HostRuntime) -> Result<(), Fail> {
     met(&rt, growths(rt.alloc(), &Engine::Export)? == Some(2));
-    Ok(())
-}
-
-/// For the SDP text, the rooms, the tables and their indexes, and the text.
-#[test]
-fn of_streams(rt: HostRuntime) -> Result<(), Fail> {
     met(&rt, grows(rt.alloc(), &Engine::Streams, 10)?);
     Ok(())
 }

@@ -154,11 +154,6 @@ pub fn is_imported<A: Allocator + Copy>(
     })
 }
 
-#[test]
-fn joined(rt: HostRuntime) {
-    met(&rt, is_imported(rt.alloc(), rt.alloc()) == Ok(Some(true)));
-}
-
 /// A run of both recordings and a third file, of whose source a call fails.
 fn run_of(global: Global, octets: &[u8], fails_in: u64) -> Result<Run, AllocError> {
     let third = MemorySource::new(Vec::from_slice(global, octets)?, 64, fails_in);
@@ -255,17 +250,11 @@ fn run_between(global: Global, second: &[u8]) -> Result<Run, AllocError> {
     Ok(import_by(global, global, ALIKE, files.as_mut_slice())?.0)
 }
 
-/// Three files don't tell the paths of a recording.
+/// Three files don't tell the paths of a recording; captures say them.
 #[test]
-fn one_place_of_a_recording(rt: HostRuntime) -> Result<(), Fail> {
+fn one_place(rt: HostRuntime) -> Result<(), Fail> {
     let run = run_between(rt.alloc(), RECORDING)?;
     met(&rt, stops(&run, ("import", 3), b""));
-    Ok(())
-}
-
-/// Captures say them.
-#[test]
-fn one_place_of_captures(rt: HostRuntime) -> Result<(), Fail> {
     let run = run_between(rt.alloc(), OLDER)?;
     let told = b"recorded A 3 B 6 left out 0\n".as_slice();
     met(&rt, run.outcome.is_ok() && run.printed.held() == told);

@@ -1,13 +1,12 @@
-//! Sets of numbers that come in no order: what each call answers, against a list of flags, and with
-//! each growth refused in turn.
+//! Sets of numbers that come in no order: what each call answers, and with each growth refused in
+//! turn.
 use crate::checks::met;
 use recording_counts::NumberSet;
 use refusing::Refusing;
-use std::alloc::{AllocError, Global};
+use std::alloc::Global;
 use std::process::Abort;
 use std::test::Fail;
 use test_kit::wanting::{Wanting, grows};
-use test_programs::Generator;
 
 /// Numbers in the order of their coming, and whether each is new: runs that grow at either end,
 /// that join one another and the highest, numbers in them, and the least and the greatest number.
@@ -48,35 +47,6 @@ fn of_ten_and_more(rt: HostRuntime) {
     for number in [1, 7, 21, u64::MAX - 2] {
         met(&rt, !set.contains(number));
     }
-}
-
-/// How many numbers a list of flags tells apart.
-const FLAGS: u32 = 300;
-
-/// Whether a set of numbers that are drawn tells what a list of flags does.
-fn is_as_flags(alloc: Global, seed: u64, draws: u32) -> Result<bool, AllocError> {
-    let mut generator = Generator::new(seed);
-    let mut set = NumberSet::new(alloc);
-    let mut flags = [false; FLAGS as usize];
-    for _ in 0..draws {
-        let number = generator.below(FLAGS);
-        if set.insert(u64::from(number))? == flags[number as usize] {
-            return Ok(false);
-        }
-        flags[number as usize] = true;
-    }
-    Ok((0..FLAGS).all(|number| set.contains(u64::from(number)) == flags[number as usize]))
-}
-
-/// Few, many and nearly all of them.
-#[test]
-fn of_draws(rt: HostRuntime) -> Result<(), Fail> {
-    for seed in 1..=8u64 {
-        for draws in [40, 300, 1600] {
-            met(&rt, is_as_flags(rt.alloc(), seed, draws)?);
-        }
-    }
-    Ok(())
 }
 
 /// Every other number, up or down.

@@ -58,16 +58,3 @@ fn faults(rt: HostRuntime) -> Result<(), Fail> {
     }
     Ok(())
 }
-
-/// It ends behind its front and behind its packet, and nowhere else.
-#[test]
-fn cut(rt: HostRuntime) -> Result<(), Fail> {
-    for count in 0..50usize {
-        let wanted = match count {
-            24 | 49 => None,
-            _ => Some(RecordingFault::Truncated),
-        };
-        met(&rt, first_fault(rt.alloc(), &FILE[..count], 9)? == wanted);
-    }
-    Ok(())
-}

@@ -113,14 +113,6 @@ fn stopped_by_a_cut(rt: HostRuntime) -> Result<(), Fail> {
     Ok(())
 }
 
-/// That no recording is taken.
-#[test]
-fn stopped_untaken(rt: HostRuntime) -> Result<(), Fail> {
-    let (outcome, _) = run(rt.alloc(), &[RECORDING], &[NO_FLOWS], false, Some(SDP))?;
-    met(&rt, lacks_sdp(&outcome));
-    Ok(())
-}
-
 /// How many octets of a recording there are, and the fault by which they are no capture.
 const NO_CAPTURES: [(usize, FileFault); 3] = [
     (3, FileFault::Truncated),
@@ -128,8 +120,11 @@ const NO_CAPTURES: [(usize, FileFault); 3] = [
     (8, FileFault::BadName),
 ];
 
+/// That no recording is taken, and that a file is no capture.
 #[test]
-fn stopped_by_no_capture(rt: HostRuntime) -> Result<(), Fail> {
+fn stopped_at_once(rt: HostRuntime) -> Result<(), Fail> {
+    let (outcome, _) = run(rt.alloc(), &[RECORDING], &[NO_FLOWS], false, Some(SDP))?;
+    met(&rt, lacks_sdp(&outcome));
     for (count, fault) in NO_CAPTURES {
         let octets = RECORDING.get(..count).unwrap_or(&[]);
         let (outcome, _) = run(rt.alloc(), &[octets], &[], false, Some(SDP))?;

@@ -278,16 +278,11 @@ const BY_FLOWS: Result<Flows, Refusal> = Ok(FLOWS);
 
 const NO_FLOWS: Result<Flows, Refusal> = Err(Refusal::ReceiveNoSdp);
 
+/// Whole, and with a second one that is cut within its first packet.
 #[test]
-fn a_recording(rt: HostRuntime) -> Result<(), Fail> {
+fn recordings(rt: HostRuntime) -> Result<(), Fail> {
     let (outcome, is_told) = run(rt.alloc(), &[RECORDING], &[BY_FLOWS], SHORT)?;
     met(&rt, outcome.is_ok() && is_told);
-    Ok(())
-}
-
-/// The second one is cut within its first packet.
-#[test]
-fn a_recording_that_is_cut(rt: HostRuntime) -> Result<(), Fail> {
     let files = [RECORDING, &RECORDING[..70]];
     let (outcome, is_told) = run(rt.alloc(), &files, &[BY_FLOWS, BY_FLOWS], SHORT)?;
     let is_cut = is_recording_fault(&outcome, RecordingFault::Truncated);
@@ -295,16 +290,12 @@ fn a_recording_that_is_cut(rt: HostRuntime) -> Result<(), Fail> {
     Ok(())
 }
 
+/// One that isn't taken, and one that is taken as a capture.
 #[test]
-fn a_recording_that_is_not_taken(rt: HostRuntime) -> Result<(), Fail> {
+fn recordings_not_taken(rt: HostRuntime) -> Result<(), Fail> {
     let files = [RECORDING, RECORDING];
     let (outcome, is_told) = run(rt.alloc(), &files, &[BY_FLOWS, NO_FLOWS], b"")?;
     met(&rt, lacks_sdp(&outcome) && is_told);
-    Ok(())
-}
-
-#[test]
-fn a_recording_taken_as_a_capture(rt: HostRuntime) -> Result<(), Fail> {
     let (outcome, is_told) = run(rt.alloc(), &[RECORDING], &[], b"")?;
     let is_none = is_capture_fault(&outcome, FileFault::BadName);
     met(&rt, is_none && is_told);
