@@ -67,11 +67,6 @@ fn no_directory(rt: HostRuntime) -> io::Result<()> {
     let mut directory = DirectoryOutput::new(&rt, "nowhere");
     let none = takes_none(&mut directory);
     assert!(rt; none);
-    Ok(())
-}
-
-#[test]
-fn a_file_is_no_directory(rt: HostRuntime) -> io::Result<()> {
     fs::write(&rt, "file", b"what stood there")?;
     let refused = DirectoryOutput::new(&rt, "file").find().is_err();
     assert!(rt; refused);

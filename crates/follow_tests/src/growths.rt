@@ -34,21 +34,15 @@ pub fn growths_of_two_paths(alloc: Global) -> Result<Option<u64>, Fail> {
 
 /// For the list of the files, for two texts or datagrams, for the follower's lists of frames, for
 /// marks and octets of a frame that is in and of the one that leaves, and for a record or a packet
-/// of each file.
+/// of each file. Of 16 frames, each has marks and octets.
 #[test]
 fn of_follow(rt: HostRuntime) -> Result<(), Fail> {
-    met(&rt, grows(rt.alloc(), &Stream::Captures(TWO_PATHS), 11)?);
-    met(&rt, grows(rt.alloc(), &Stream::Recordings, 11)?);
-    Ok(())
-}
-
-/// Of 16 frames, each has marks and octets.
-#[test]
-fn of_sixteen_frames(rt: HostRuntime) -> Result<(), Fail> {
-    let example = Example {
+    let sixteen = Example {
         frames: 16,
         ..TWO_PATHS
     };
-    met(&rt, grows(rt.alloc(), &Stream::Captures(example), 41)?);
+    met(&rt, grows(rt.alloc(), &Stream::Captures(TWO_PATHS), 11)?);
+    met(&rt, grows(rt.alloc(), &Stream::Captures(sixteen), 41)?);
+    met(&rt, grows(rt.alloc(), &Stream::Recordings, 11)?);
     Ok(())
 }

@@ -30,15 +30,15 @@ fn both_paths(alloc: Global) -> Result<Vec<u8>, AllocError> {
 const CAPTURED: [Sent; 2] = [Sent(2_400, 1, 16), Sent(3_900, 1, 16)];
 
 /// What is told of both.
-pub const TOLD: &[u8] = b"\
+const TOLD: &[u8] = b"\
 frame 900 present 16 missing 0 contested 0 late 0
 frame 2400 present 16 missing 0 contested 0 late 0
 frame 3900 present 8 missing 8 contested 0 late 0
 frames 3 kept 5 late 0 far 0 refused 0
 ";
 
-/// Whether a recording and a capture behind it are told so, by an SDP text that is given; `None`
-/// where memory is wanted.
+/// *beside-a-capture*: whether a recording and a capture behind it are told so, by an SDP text that
+/// is given; `None` where memory is wanted.
 pub fn is_told<A: Allocator + Copy>(global: Global, alloc: A) -> Result<Option<bool>, AllocError> {
     let captured = capture(global, b"", Path::A, &CAPTURED)?;
     let ways = [Ok(FLOWS)];
@@ -54,12 +54,6 @@ pub fn is_told<A: Allocator + Copy>(global: Global, alloc: A) -> Result<Option<b
         // (the list of the files had no memory)
         Err(AllocError) => Ok(None),
     }
-}
-
-#[test]
-fn beside_a_capture(rt: HostRuntime) -> Result<(), Fail> {
-    met(&rt, is_told(rt.alloc(), rt.alloc())? == Some(true));
-    Ok(())
 }
 
 /// What became of that stream.

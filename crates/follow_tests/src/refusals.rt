@@ -3,12 +3,11 @@ use crate::checks::{met, none_fails};
 use crate::running::{FLOWS, Input, Run, asked, run_on, source};
 use crate::sources::{SDP, Sent, capture, recording};
 use flow::Flows;
-use follow_engine::{FollowAsked, check_words};
-use run_outcome::{Fault, Refusal};
+use follow_engine::FollowAsked;
+use run_outcome::Refusal;
 use st_format::Path;
 use std::alloc::{AllocError, Global};
 use std::test::Fail;
-use test_kit::words::says;
 
 /// What `follow` is asked for, two files, and the words that it is refused by.
 #[derive(Clone, Copy)]
@@ -201,26 +200,6 @@ fn fails_at(alloc: Global) -> Result<Option<u64>, AllocError> {
 fn in_their_order(rt: HostRuntime) -> Result<(), Fail> {
     none_fails(&rt, fails_at(rt.alloc())?);
     Ok(())
-}
-
-/// Whether the words of a row are refused as the row is, with no file.
-fn are_refused(alloc: Global, row: &Refused) -> bool {
-    match check_words(asked_in(row)) {
-        Err(Fault::Refused(refusal)) => says(alloc, &refusal, row.words),
-        _ => false,
-    }
-}
-
-/// The first three rows are refused by their words, and no other is.
-#[test]
-fn of_words(rt: HostRuntime) {
-    let mut count = 0u64;
-    for row in &REFUSED {
-        if are_refused(rt.alloc(), row) {
-            count = count.wrapping_add(1);
-        }
-    }
-    met(&rt, count == 3);
 }
 
 /// How a recording is taken: refused so; or as a capture, which begins otherwise.

@@ -2,7 +2,6 @@
 //! to timestamps, worked out by hand.
 use crate::checks::{met, none_fails};
 use following::{Followed, Restarts, WindowNeed};
-use std::test::Fail;
 
 /// The answer of a datagram that is kept.
 const KEPT: Followed = Followed::Kept(7);
@@ -81,14 +80,8 @@ fn tells_many() -> bool {
 }
 
 #[test]
-fn windows_are_told(rt: HostRuntime) -> Result<(), Fail> {
+fn windows_and_restarts(rt: HostRuntime) {
     none_fails(&rt, needs_fail_at());
     met(&rt, tells_many());
-    Ok(())
-}
-
-#[test]
-fn streams_are_followed_anew(rt: HostRuntime) -> Result<(), Fail> {
     none_fails(&rt, anew_fails_at());
-    Ok(())
 }
