@@ -2,6 +2,7 @@
 ghost use Rattle.std.specs.Prelude.{◌≡◌, [], IfOk};
 
 use crate::checks::met;
+use crate::file_runs::{file_sink, source};
 use capture_file::{
     Capture, CaptureReader, FileFault, Record, migrate_capture, read_capture, write_capture,
 };
@@ -29,18 +30,6 @@ const CUT: &[u8] = b"S20CAP01\0\0\0\0\0\0\0\0\0\0\x1C\
     \x80\xE0\0\x01\0\0\x03\x84\0\0\0\x01\0\0\0\x08\0\0\0\0\x80\x10\x80\x11\x80\x12\x80\x13\
     \x01\0\0\0\0\0\0\0\0\0\x1C\
     \x80\xE0\0\x01\0\0\x03\x84\0\0\0\x01\0\0\0\x08\0\0\0\0\x80\x10\x80\x11\x80\x12\x80";
-
-/// A source of a file, which gives three octets a call.
-fn source(alloc: Global, file: &[u8]) -> Result<MemorySource, AllocError> {
-    Ok(MemorySource::new(Vec::from_slice(alloc, file)?, 3, 0))
-}
-
-/// A sink that holds nothing yet.
-fn sink(alloc: Global) -> Result<MemorySink, AllocError>
-    ensures { IfOk result (λ s. s.held ≡ []) }
-{
-    Ok(MemorySink::new(Vec::with_capacity(alloc, 4096)?, 7, 0))
-}
 
 /// Whether a capture has no text and one record: by A, of moment 0, with these octets.
 pub fn is_of_one<A: Allocator>(capture: &Capture<A>, octets: &[u8]) -> bool {
@@ -77,7 +66,7 @@ fn written(rt: HostRuntime) -> Result<(), Fail> {
         moment: 0,
         octets,
     }];
-    let mut sink = sink(rt.alloc())?;
+    let mut sink = file_sink(rt.alloc())?;
     write_capture(&mut sink, &[], &records)?;
     met(&rt, sink.held() == NEW);
     Ok(())
@@ -145,7 +134,7 @@ fn migrate(
     limit: u64,
 ) -> Result<(Result<u64, FileFault>, MemorySink), AllocError> {
     let mut buf = vec![in alloc; 0u8; 65535]?;
-    let mut sink = sink(alloc)?;
+    let mut sink = file_sink(alloc)?;
     let result = migrate_capture(
         &mut source(alloc, file)?,
         &mut sink,

@@ -19,10 +19,7 @@ const OF_FILES: [(FileFault, &str); 9] = [
         FileFault::Truncated,
         "the octets end within the name, a field or what a field counts",
     ),
-    (
-        FileFault::BadField,
-        "a field says what no such file says",
-    ),
+    (FileFault::BadField, "a field says what no such file says"),
     (
         FileFault::TrailingBytes,
         "an octet stands behind the file's last field",

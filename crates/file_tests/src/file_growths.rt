@@ -1,12 +1,12 @@
 //! Files that are read, with each growth refused in turn; and then the same call with memory.
 use crate::captures::{OLD, is_of_one};
 use crate::checks::met;
+use crate::file_runs::source;
 use crate::picture_files::{FILE, is_first};
 use crate::receiver_files::is_loaded;
 use capture_file::{FileFault, read_capture, read_packed_picture, read_picture};
 use pgroup_pack::PackedPicture;
 use refusing::Refusing;
-use st_format::memory::MemorySource;
 use std::alloc::{AllocError, Allocator, Global};
 use std::process::Abort;
 use std::test::Fail;
@@ -24,11 +24,6 @@ enum Reading {
     Packed,
     /// *contested-state-file*.
     Receiver,
-}
-
-/// A source of a file, which gives five octets a call.
-fn source(global: Global, file: &[u8]) -> Result<MemorySource, AllocError> {
-    Ok(MemorySource::new(Vec::from_slice(global, file)?, 5, 0))
 }
 
 /// Whether *capture-of-one*'s file is read as its record, or `None` where memory is wanted.

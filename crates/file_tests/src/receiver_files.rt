@@ -3,9 +3,9 @@ use crate::checks::met;
 use capture_file::FileFault;
 use path_receiver::Receiver;
 use receiver_file::{load_receiver, save_receiver};
-use st_format::memory::{MemorySink, MemorySource};
 use st_format::Format;
-use std::alloc::{AllocError, Allocator, Global};
+use st_format::memory::{MemorySink, MemorySource};
+use std::alloc::{Allocator, Global};
 use std::process::Abort;
 use std::test::Fail;
 use test_kit::datagrams::{opened, takes_octets};
@@ -17,7 +17,7 @@ pub const FILE: &[u8] =
     \x02\0\x02\x80\0\x80\x11\x01\x80\x12\x80\x13\0\0";
 
 /// Whether a receiver's file has just these octets.
-fn saves<A: Allocator>(alloc: Global, receiver: &Receiver<A>, file: &[u8]) -> bool {
+pub fn saves<A: Allocator>(alloc: Global, receiver: &Receiver<A>, file: &[u8]) -> bool {
     match Vec::with_capacity(alloc, 4096) {
         Ok(room) => {
             let mut sink = MemorySink::new(room, 7, 0);
@@ -40,18 +40,6 @@ fn saves_both(alloc: Global, format: Format, first: &[u8], second: &[u8]) -> boo
     }
 }
 
-/// What octets are read as, of which a call gives at most `piece`.
-fn load<A: Allocator + Copy>(
-    alloc: A,
-    global: Global,
-    octets: &[u8],
-    piece: usize,
-) -> Result<Result<Receiver<A>, FileFault>, AllocError> {
-    let octets = Vec::from_slice(global, octets)?;
-    let mut source = MemorySource::new(octets, piece.max(1), 0);
-    Ok(load_receiver(alloc, &mut source))
-}
-
 #[test]
 fn contested_state_file(rt: HostRuntime) -> Result<(), Fail> {
     let format = small()?;
@@ -70,7 +58,8 @@ fn is_contested<A: Allocator>(receiver: &Receiver<A>) -> bool {
 
 /// Whether the file is read as its receiver over an allocator, or `None` where memory is wanted.
 pub fn is_loaded<A: Allocator + Copy>(global: Global, alloc: A) -> Result<Option<bool>, Fail> {
-    match load(alloc, global, FILE, 3)? {
+    let mut source = MemorySource::new(Vec::from_slice(global, FILE)?, 3, 0);
+    match load_receiver(alloc, &mut source) {
         Ok(receiver) => Ok(Some(is_contested(&receiver) && saves(global, &receiver, FILE))),
         Err(FileFault::NoMemory) => Ok(None),
         Err(_) => Ok(Some(false)),

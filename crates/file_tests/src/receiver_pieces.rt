@@ -1,10 +1,11 @@
 //! Receivers' files of which a source gives pieces: of each size they are read alike, whole, cut
 //! and wrong.
 use crate::checks::met;
+use crate::receiver_files::saves;
 use capture_file::FileFault;
 use path_receiver::Receiver;
-use receiver_file::{load_receiver, save_receiver};
-use st_format::memory::{MemorySink, MemorySource};
+use receiver_file::load_receiver;
+use st_format::memory::MemorySource;
 use std::alloc::{AllocError, Global};
 use std::process::Abort;
 use std::test::Fail;
@@ -63,23 +64,12 @@ fn is_told(receiver: &Receiver, table: &Table) -> bool {
     counts(receiver, 900) == Some(counted(present, missing, contested))
 }
 
-/// Whether it is saved as a file.
-fn is_saved(alloc: Global, receiver: &Receiver, file: &[u8]) -> bool {
-    match Vec::with_capacity(alloc, 4096) {
-        Ok(room) => {
-            let mut sink = MemorySink::new(room, 7, 0);
-            save_receiver(&mut sink, receiver).is_ok() && sink.held() == file
-        }
-        Err(_) => false,
-    }
-}
-
 /// Whether a file is read whole: what is counted of its frame, and what is saved again.
 fn is_read(alloc: Global, table: &Table, piece: usize) -> Result<bool, AllocError> {
     let (receiver, left) = load(alloc, table.file, piece)?;
     Ok(match receiver {
         Ok(receiver) => {
-            left == 0 && is_told(&receiver, table) && is_saved(alloc, &receiver, table.file)
+            left == 0 && is_told(&receiver, table) && saves(alloc, &receiver, table.file)
         }
         Err(_) => false,
     })

@@ -324,19 +324,3 @@ fn more_than_sixteen(rt: HostRuntime) -> Result<(), Fail> {
     }
     Ok(())
 }
-
-/// A capture of version 01, which has no text, and no record: the stream is of the text that is
-/// given.
-#[test]
-fn no_record(rt: HostRuntime) -> Result<(), Fail> {
-    let input = Input {
-        asked: asked(8, false),
-        sdp: Some(SDP),
-        ways: &[],
-        first: source(rt.alloc(), b"S20CAP01", 0)?,
-        second: None,
-    };
-    let run = run_on(rt.alloc(), rt.alloc(), input)?;
-    met(&rt, run.answered(NOTHING.told) == Some(true));
-    Ok(())
-}

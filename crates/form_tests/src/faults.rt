@@ -10,10 +10,7 @@ const OF_FORMS: [(FormFault, &str); 8] = [
         FormFault::BadMagic,
         "the first octets are those of another form",
     ),
-    (
-        FormFault::BadHeader,
-        "a header isn't in the form's grammar",
-    ),
+    (FormFault::BadHeader, "a header isn't in the form's grammar"),
     (
         FormFault::UnsupportedForm,
         "the pictures are of a kind that is not read",

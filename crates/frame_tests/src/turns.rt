@@ -4,7 +4,7 @@ ghost use Rattle.std.specs.Prelude.{◌≡◌};
 use crate::checks::{met, none_fails};
 use crate::two_paths::OTHER_VERSION;
 use frame_assembly::{Counts, Frame};
-use path_receiver::{OpenFault, ReceiveFault, Received, Receiver, receive};
+use path_receiver::{ReceiveFault, Received, Receiver, receive};
 use payload_header::{PayloadFault, read_payload};
 use refusing::Refusing;
 use st_format::memory::{MemoryTurn, MemoryTurns};
@@ -12,6 +12,7 @@ use st_format::{DatagramSource, Format, Path, SourceFault, Turn};
 use std::alloc::{AllocError, Allocator, Global};
 use std::process::Abort;
 use std::test::Fail;
+use test_kit::datagrams::opened;
 use test_kit::small_format::{ANOTHER, LOWER, UPPER, counted, counts, small};
 
 /// A source of these turns: datagrams, and `None` for a quiet turn.
@@ -145,11 +146,6 @@ fn frames_joined(rt: HostRuntime) -> Result<(), Fail> {
     Ok(())
 }
 
-/// A receiver of a format, payload type 96, any source and window [900].
-fn receiver(alloc: Global, format: Format) -> Result<Receiver, OpenFault> {
-    Receiver::open(alloc, format, 96, None, &[900])
-}
-
 /// At most `limit` turns of a source.
 fn taken(
     alloc: Global,
@@ -189,7 +185,7 @@ fn is_received(
     present: u64,
 ) -> bool {
     let frame = counted(present, 16u64.wrapping_sub(present), 0);
-    match receiver(alloc, format) {
+    match opened(alloc, format) {
         Ok(mut receiver) => {
             taken(alloc, source, &mut receiver, limit) == Ok(Ok(received))
                 && counts(&receiver, 900) == Some(frame)
@@ -254,7 +250,7 @@ fn goes_on(
 /// Whether a source that fails behind so many datagrams gives what came before, and then the rest.
 fn comes_in_two(alloc: Global, format: Format, source: &mut MemoryTurns, before: u64) -> bool {
     let present = if before == 0 { 0 } else { 8 };
-    match receiver(alloc, format) {
+    match opened(alloc, format) {
         Ok(mut receiver) => {
             ends_at_fault(alloc, source, &mut receiver, before, present)
                 && goes_on(alloc, source, &mut receiver, 3u64.saturating_sub(before))

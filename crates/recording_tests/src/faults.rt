@@ -13,10 +13,7 @@ const OF_RECORDINGS: [(RecordingFault, &str); 11] = [
         RecordingFault::BadMagic,
         "the octets begin no recording, or a section has no order",
     ),
-    (
-        RecordingFault::BadVersion,
-        "its version is not read",
-    ),
+    (RecordingFault::BadVersion, "its version is not read"),
     (
         RecordingFault::BadBlock,
         "the lengths of a block don't fit each other or what it holds, or are beyond all use",
@@ -48,10 +45,7 @@ const OF_RECORDINGS: [(RecordingFault, &str); 11] = [
 ];
 
 const OF_PACKETS: [(NoDatagram, &str); 6] = [
-    (
-        NoDatagram::CutShort,
-        "the recorder cut the packet short",
-    ),
+    (NoDatagram::CutShort, "the recorder cut the packet short"),
     (
         NoDatagram::NotIp,
         "the link layer says that it is no IP packet",
@@ -64,10 +58,7 @@ const OF_PACKETS: [(NoDatagram, &str); 6] = [
         NoDatagram::NotUdp,
         "the IP packet carries something else than UDP",
     ),
-    (
-        NoDatagram::Fragment,
-        "it is a fragment of an IP packet",
-    ),
+    (NoDatagram::Fragment, "it is a fragment of an IP packet"),
     (
         NoDatagram::BadUdpLength,
         "the length of UDP doesn't fit what is there",

@@ -40,8 +40,6 @@ mod pcap;
 #[cfg(test)]
 mod reading;
 #[cfg(test)]
-mod receiving;
-#[cfg(test)]
 mod recordings;
 #[cfg(test)]
 mod sources;
