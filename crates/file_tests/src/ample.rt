@@ -187,14 +187,12 @@ fn is_resampled(alloc: Global, picture: &Picture) -> bool {
         Sampling::Ycc422 => return true,
     };
     match made {
-        Ok(made) => is_other(made.format(), size),
+        Ok(made) => {
+            let format = made.format();
+            format.width() == size.width() && format.sampling() != size.sampling()
+        }
         Err(_) => false,
     }
-}
-
-/// Whether a format has another's width, and another sampling.
-fn is_other(made: Format, of: Format) -> bool {
-    made.width() == of.width() && made.sampling() != of.sampling()
 }
 
 /// Whether a job gives a picture.
@@ -295,16 +293,13 @@ fn picture_is_file(alloc: Global, picture: &Picture) -> bool {
 fn is_loaded(alloc: Global, file: &[u8], receiver: &Receiver) -> bool {
     match source(alloc, file) {
         Ok(mut source) => match load_receiver(alloc, &mut source) {
-            Ok(loaded) => is_alike(&loaded, receiver),
+            Ok(loaded) => {
+                loaded.format() == receiver.format() && loaded.window() == receiver.window()
+            }
             Err(_) => false,
         },
         Err(_) => false,
     }
-}
-
-/// Whether two receivers have one format and window.
-fn is_alike(loaded: &Receiver, receiver: &Receiver) -> bool {
-    loaded.format() == receiver.format() && loaded.window() == receiver.window()
 }
 
 /// Whether a receiver is saved and read again.

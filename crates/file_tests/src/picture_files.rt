@@ -42,15 +42,10 @@ pub fn is_first<A: Allocator>(picture: &Picture<A>) -> bool {
     }
 }
 
-/// Whether a picture is P0, and written as the file in such pieces.
-fn is_written_again(alloc: Global, picture: &Picture, piece: usize) -> bool {
-    is_first(picture) && is_written(alloc, picture, piece) == Ok(true)
-}
-
-/// Whether a source's picture is.
+/// Whether a source's picture is P0, and written as the file in such pieces.
 fn is_read(alloc: Global, source: &mut MemorySource, piece: usize) -> bool {
     match read_picture(alloc, source) {
-        Ok(picture) => is_written_again(alloc, &picture, piece),
+        Ok(picture) => is_first(&picture) && is_written(alloc, &picture, piece) == Ok(true),
         Err(_) => false,
     }
 }

@@ -3,18 +3,13 @@
 use crate::checks::met;
 use bt709_fixed::{ColourFault, RangeKind, gain, limit, to_ycc422, to_ycc444};
 use key_mix::{Axis, Job, JobFault, WipeShape, key, run_job, wipe};
-use st_format::{Depth, Format, FormatFault, Picture, Sampling};
+use st_format::{Depth, Format, Picture, Sampling};
 use std::alloc::{Allocator, Global};
 use test_kit::picture_values::has_values;
 
-/// 8 by 2, 60 frames a second.
-fn wide(sampling: Sampling, depth: Depth) -> Result<Format, FormatFault> {
-    Format::new(sampling, depth, 8, 2, 60, 1)
-}
-
-/// A picture of 8 by 2 of one colour, where there is one.
+/// A picture of 8 by 2 of one colour, 60 frames a second, where there is one.
 pub fn plain(alloc: Global, sampling: Sampling, depth: Depth, fill: [u16; 3]) -> Option<Picture> {
-    let format = wide(sampling, depth).ok()?;
+    let format = Format::new(sampling, depth, 8, 2, 60, 1).ok()?;
     Picture::new(alloc, format, fill).ok()
 }
 
