@@ -13,8 +13,6 @@ mod held;
 #[cfg(test)]
 mod kernels;
 #[cfg(test)]
-mod last_samples;
-#[cfg(test)]
 mod listed;
 #[cfg(test)]
 mod packed_marks;

@@ -2,7 +2,7 @@
 //! refusals that are kept, as tables of steps.
 ghost use Rattle.std.specs.Prelude.{◌≡◌, ◌↔◌, IsTrue};
 
-use crate::checks::{met, none_fails};
+use crate::checks::met;
 use frame_assembly::{Counts, Frame};
 use path_receiver::{OpenFault, Receiver, Refusal, SlideFault, Taken};
 use refusing::Refusing;
@@ -10,7 +10,6 @@ use rtp_header::RtpFault;
 use st_format::{Depth, Format, Path, Sampling};
 use std::alloc::{Allocator, Global};
 use std::mem;
-use std::process::Abort;
 use std::test::Fail;
 use test_kit::small_format::{ANOTHER, LOWER, UPPER, counts, small};
 
@@ -146,19 +145,12 @@ impl<A: Allocator> Pair<A> {
 
     /// Whether each step does what it says.
     fn follows_all(&mut self, steps: &[Step]) -> bool {
-        self.fails_at(steps).is_none()
-    }
-
-    /// The place of the first step that isn't followed.
-    fn fails_at(&mut self, steps: &[Step]) -> Option<u64> {
-        let mut place = 0u64;
         for step in steps {
             if !self.follows(step) {
-                return Some(place);
+                return false;
             }
-            place = place.wrapping_add(1);
         }
-        None
+        true
     }
 }
 
@@ -169,13 +161,6 @@ fn refusal<A: Allocator>(receiver: &Receiver<A>, place: usize) -> Option<(Path, 
     } else {
         None
     }
-}
-
-/// Two receivers of a window follow each of these steps.
-fn follow(rt: &(impl Abort + AllocGlobal), window: &[u32], steps: &[Step]) -> Result<(), Fail> {
-    let mut pair = Pair::open(rt.alloc(), window)?;
-    none_fails(rt, pair.fails_at(steps));
-    Ok(())
 }
 
 /// *merge-two-halves*: the second one's refusal stays its own.
@@ -218,25 +203,6 @@ pub fn is_slid<A: Allocator + Copy>(alloc: A) -> Result<Option<bool>, Fail> {
         Err(OpenFault::NoMemory) => Ok(None),
         Err(_) => Ok(Some(false)),
     }
-}
-
-/// *slide*: the other frames of a window stay when it slides.
-const SLIDE_OF_THREE: [Step; 8] = [
-    Step::Take(Path::A, UPPER, FIRST),
-    Step::Slide(3900, Ok(1)),
-    Step::Window(&[900, 2400, 3900]),
-    Step::Out(NONE),
-    Step::Has(900, Some(HALF)),
-    Step::Slide(5400, Ok(900)),
-    Step::Out(HALF),
-    Step::Has(5400, Some(NONE)),
-];
-
-#[test]
-fn merged_and_slid(rt: HostRuntime) -> Result<(), Fail> {
-    follow(&rt, &[900], &MERGE)?;
-    follow(&rt, &[900], &SLIDE)?;
-    follow(&rt, &[1, 900, 2400], &SLIDE_OF_THREE)
 }
 
 /// A merge of what differs, a slide, and a datagram that disagrees with itself.
@@ -373,40 +339,4 @@ fn last_refusals(rt: HostRuntime) -> Result<(), Fail> {
     let mut pair = Pair::open(rt.alloc(), &[900])?;
     met(&rt, keeps_refusals(&mut pair));
     Ok(())
-}
-
-/// *bad-windows*: none, 17 timestamps, and one that stands twice.
-const BAD_WINDOWS: [(&[u32], OpenFault); 4] = [
-    (&[], OpenFault::BadWindow),
-    (
-        &[1, 2, 3, 4, 5, 6, 7, 8, 9, 10, 11, 12, 13, 14, 15, 16, 17],
-        OpenFault::BadWindow,
-    ),
-    (&[900, 900], OpenFault::DoubleTimestamp),
-    (&[1, 2, 3, 1], OpenFault::DoubleTimestamp),
-];
-
-/// Whether a receiver is opened with none of these windows.
-fn opens_none(alloc: Global) -> Result<bool, Fail> {
-    for (window, fault) in &BAD_WINDOWS {
-        if Receiver::open(alloc, small()?, 96, None, *window).err() != Some(*fault) {
-            return Ok(false);
-        }
-    }
-    Ok(true)
-}
-
-/// 16 timestamps are taken.
-const SIXTEEN: [u32; 16] = [1, 2, 3, 4, 5, 6, 7, 8, 9, 10, 11, 12, 13, 14, 15, 16];
-
-const OPENED: [Step; 3] = [
-    Step::Window(&SIXTEEN),
-    Step::Has(16, Some(NONE)),
-    Step::Has(17, None),
-];
-
-#[test]
-fn bad_windows(rt: HostRuntime) -> Result<(), Fail> {
-    met(&rt, opens_none(rt.alloc())?);
-    follow(&rt, &SIXTEEN, &OPENED)
 }

@@ -1,6 +1,6 @@
 //! *number-map*, and what else a map of packet numbers answers that no script prints.
 use crate::checks::met;
-use path_receiver::{MAX_COUNT, Noted, OpenedUnlike, SeqMap, SeqMapFault};
+use path_receiver::{Noted, OpenedUnlike, SeqMap, SeqMapFault};
 use refusing::Refusing;
 use std::alloc::{Allocator, Global};
 use std::process::Abort;
@@ -51,40 +51,9 @@ pub fn is_mapped<A: Allocator + Copy>(alloc: A) -> Option<bool> {
     }
 }
 
-#[test]
-fn number_map(rt: HostRuntime) {
-    met(&rt, is_mapped(rt.alloc()) == Some(true));
-}
-
 /// Why a map is not opened, or `None` where it is.
 fn fault_of<A: Allocator>(alloc: A, count: u32) -> Option<SeqMapFault> {
     SeqMap::open(alloc, 5, count).err()
-}
-
-/// Counts of maps of 5 and on, numbers before the first and behind the last, and the last: of one
-/// number and of the most.
-const COUNTS: [(u32, u32, Noted); 5] = [
-    (1, 4, Noted::Beyond),
-    (1, 5, Noted::New),
-    (1, 6, Noted::Beyond),
-    (1_048_576, 1_048_580, Noted::New),
-    (1_048_576, 1_048_581, Noted::Beyond),
-];
-
-/// Whether a map of 5 and on answers so to a number.
-fn is_noted(alloc: Global, count: u32, number: u32, wanted: Noted) -> bool {
-    match SeqMap::open(alloc, 5, count) {
-        Ok(mut map) => map.note(number) == wanted,
-        Err(_) => false,
-    }
-}
-
-#[test]
-fn counts(rt: HostRuntime) {
-    for (count, number, wanted) in COUNTS {
-        met(&rt, is_noted(rt.alloc(), count, number, wanted));
-    }
-    met(&rt, MAX_COUNT == 1_048_576);
 }
 
 /// The numbers of two paths.

@@ -1,4 +1,5 @@
-//! *rehearsal*, and what else a schedule does: through the library.
+//! *rehearsal*, for a run in which memory is wanted, and what else a schedule does: through the
+//! library.
 use crate::checks::met;
 use crate::sending::p0;
 use frame_assembly::Counts;
@@ -101,7 +102,7 @@ fn comes_to<A: Allocator>(
 }
 
 /// The events of *rehearsal*.
-pub const SHOW: [Event; 7] = [
+const SHOW: [Event; 7] = [
     Event::Send,
     Event::Send,
     Event::Arrive(0, Path::A, 0),
@@ -114,13 +115,6 @@ pub const SHOW: [Event; 7] = [
 /// Whether *rehearsal* hands out a whole frame, and leaves none of the next and most of the first.
 fn is_rehearsal<A: Allocator>(played: &Played<A>) -> bool {
     comes_to(played, 2, &[(0, 0, 16)], &[(0, 1500, 0), (1, 0, 12)])
-}
-
-#[test]
-fn rehearsal(rt: HostRuntime) -> Result<(), Fail> {
-    let played = rehearse(rt.alloc(), 2, &[0], 2, &SHOW)??;
-    met(&rt, is_rehearsal(&played));
-    Ok(())
 }
 
 /// A chain of Merges takes what arrived before them through eight receivers; one against its order
