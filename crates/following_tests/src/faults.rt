@@ -1,4 +1,4 @@
-//! The words of each fault of following, and what was wanted where an opening is refused.
+//! The words of each fault of following, its number and its name.
 use crate::checks::met;
 use following::{FollowFault, FrameFault, FrameSinkFault, StreamFault};
 use path_receiver::ReceiveFault;
@@ -15,6 +15,26 @@ const OF_OPENINGS: [(FollowFault, &str); 2] = [
         "it is to have no frame, or more than 16",
     ),
 ];
+
+/// Faults of an opening, with number, name and what was wanted.
+const NAMED: [(FollowFault, u8, &str, &str); 2] = [
+    (
+        FollowFault::NoMemory,
+        1,
+        "NoMemory",
+        "more memory than there is",
+    ),
+    (FollowFault::BadSize, 2, "BadSize", "1 to 16 frames"),
+];
+
+#[test]
+fn of_openings(rt: HostRuntime) {
+    met(&rt, all_say(rt.alloc(), &OF_OPENINGS));
+    for (fault, number, name, wanted) in NAMED {
+        let is_named = fault.number() == number && fault.name() == name;
+        met(&rt, is_named && fault.wanted() == wanted);
+    }
+}
 
 /// A source that failed behind two datagrams, and a sink that failed behind three.
 const OF_STREAMS: [(StreamFault, &str); 2] = [
@@ -35,13 +55,7 @@ const OF_STREAMS: [(StreamFault, &str); 2] = [
 ];
 
 #[test]
-fn of_openings_and_streams(rt: HostRuntime) {
-    met(&rt, all_say(rt.alloc(), &OF_OPENINGS));
-    met(
-        &rt,
-        FollowFault::NoMemory.wanted() == "more memory than there is",
-    );
-    met(&rt, FollowFault::BadSize.wanted() == "1 to 16 frames");
+fn of_streams(rt: HostRuntime) {
     met(&rt, all_say(rt.alloc(), &OF_STREAMS));
     met(
         &rt,
