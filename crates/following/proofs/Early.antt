@@ -101,7 +101,7 @@ past_or_over size u us gone win (Some g) next e h room ends =
     at (inl lt) near = inl (lt, near)
     at (inr le) near = inr (le, near)
 
-gone_older : (u : ℕ) (gone win : List ℕ) (last : Option ℕ) → Rises (gone ++ win)
+pub gone_older : (u : ℕ) (gone win : List ℕ) (last : Option ℕ) → Rises (gone ++ win)
     → Ends gone last → IsPast last u → (x : ℕ) → IsMember x gone → x < u
 gone_older u gone win None h ends past x m =
     absurd (subst (λ (xs : List ℕ). IsMember x xs) ends m)

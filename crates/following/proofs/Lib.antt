@@ -30,3 +30,4 @@ pub mod Needed
 pub mod Repeats
 pub mod Prompt
 pub mod PromptPictures
+pub mod PromptPremises

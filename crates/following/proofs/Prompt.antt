@@ -15,20 +15,22 @@ use Rattle.following.specs.Serial.{wrapped}
 use Rattle.following.specs.Follower.{Following, opened, read_in, reading_of, standing_of, state_after}
 use Rattle.following.specs.Follower.{taken_in}
 use Rattle.following.specs.Following.{Handed, frames_in, is_due, is_waiting}
-use Rattle.following.specs.Prompt.{AreAgreed, IsPrompt}
+use Rattle.following.specs.Prompt.{AreAgreed, IsAwaited, IsPrompt}
 use Rattle.following.specs.Stream.{ShowsAll}
 use Rattle.following.specs.Times.{AreTimed, IsGreatest, Timed, handed_at, in_order, newer_than}
 use Rattle.following.specs.Times.{octets_of, times_of, with_time}
 use Rattle.following.specs.Turned.{first_complete, goes_early, handed_all, handed_early, handed_in}
 use Rattle.following.specs.Turned.{handed_while, is_complete, state_behind, state_early, turned}
-use Rattle.following.proofs.Early.{IsNext, IsOver, IsStage, kept_whole, near_end, near_in, one_more}
-use Rattle.following.proofs.Early.{standing-over}
+use Rattle.following.proofs.Early.{IsNext, IsOver, IsStage, gone_older, kept_whole, near_end, near_in}
+use Rattle.following.proofs.Early.{one_more, standing-over}
 use Rattle.following.proofs.FrameLemmas.{frame_kept}
 use Rattle.following.proofs.Insertions.{AllNear, IsInReach, IsPast}
-use Rattle.following.proofs.Ordered.{Rises, in_order-more, later, length-with_time, many_newer}
+use Rattle.following.proofs.Ordered.{Rises, few_newer, in_order-more, later, length-with_time, many_newer}
 use Rattle.following.proofs.Ordered.{order_keeps, parts_rise, rises_behind, rises_last, with_time-there}
-use Rattle.following.proofs.Repeats.{completed, repeated}
-use Rattle.following.proofs.Streams.{Ends, all_newer_than, below_end, came, end_in, in_parts, in_reach}
+use Rattle.following.proofs.Repeats.{completed, repeated, still_complete, still_newer}
+use Rattle.following.proofs.Rising.{all_member}
+use Rattle.following.proofs.Streams.{Ends, EndsIn, all_newer_than, below_end, came, cases_member}
+use Rattle.following.proofs.Streams.{end_in, in_parts, in_reach}
 use Rattle.following.proofs.Streams.{order_more, rises, times_at, times_refused}
 use Rattle.following.proofs.Turning.{handed-due, handed-on, turned-due, turned-on, with_rest}
 use Rattle.following.proofs.WholeList.{map_members}
@@ -46,7 +48,8 @@ record Settles (eager : Bool) (o : Opening) (size : ℕ) (zs : List Timed) : Typ
       → is_complete (frame_at_time o xs v) ≡ true → handed_at o xs v ≡ handed_at o zs v
 
 settles : (eager : Bool) (o : Opening) (size ahead : ℕ) (zs : List Timed)
-    → IsPrompt o size ahead zs → (eager ≡ true → AreAgreed o zs) → Settles eager o size zs
+    → IsPrompt eager o size ahead zs → (eager ≡ true → AreAgreed o zs)
+    → Settles eager o size zs
 settles eager o size ahead zs prompt agreed = record {
   due = λ xs ys v e many.
       repeated o size v ys xs
@@ -56,6 +59,20 @@ settles eager o size ahead zs prompt agreed = record {
       completed o v xs ys (subst (AreAgreed o) e (agreed is)) full
       ∙ ap (λ (l : List Timed). handed_at o l v) (sym e);
 }
+
+-- why the one that went last did: so many newer ones have come, or it went early, complete
+abbrev HasWent : Bool → Opening → ℕ → List Timed → Option ℕ → Type 0
+HasWent eager o size xs None = Unit {0}
+HasWent eager o size xs (Some g) =
+    (size ≤ length (newer_than g (times_of o xs)))
+    ⊎ ((eager ≡ true) × (is_complete (frame_at_time o xs g) ≡ true))
+
+still_went : (eager : Bool) (o : Opening) (size : ℕ) (xs : List Timed) (y : Timed)
+    (last : Option ℕ) → HasWent eager o size xs last → HasWent eager o size (xs ++ y ∷ []) last
+still_went eager o size xs y None went = tt
+still_went eager o size xs y (Some g) (inl many) = inl (still_newer o size g xs y many)
+still_went eager o size xs y (Some g) (inr early) =
+    inr (early.0, still_complete o g xs (y ∷ []) early.1)
 
 -- a time that comes on, after those that came
 record ComesOn (size ahead : ℕ) (us : List ℕ) (u : ℕ) : Type 0 where
@@ -98,7 +115,7 @@ module _ (eager : Bool) (o : Opening) (size ahead : ℕ) (zs : List Timed) where
   abbrev Goes : List Timed → List Timed → Type 0
   Goes xs ys =
       (gone win : List ℕ) (last : Option ℕ) → IsStage o size ahead xs gone last win
-      → Out xs ys gone last win
+      → HasWent eager o size xs last → Out xs ys gone last win
 
   -- nothing was due, and nothing goes early
   stays : (xs ys : List Timed) (y : Timed) (gone : List ℕ) (last : Option ℕ) (win new : List ℕ)
@@ -181,12 +198,13 @@ module _ (eager : Bool) (o : Opening) (size ahead : ℕ) (zs : List Timed) where
       ≡ shaped o size ahead (xs ++ y ∷ []) last new
       → goes_early eager (shaped o size ahead (xs ++ y ∷ []) last new) ≡ b
       → Goes (xs ++ y ∷ []) ys → IsStage o size ahead (xs ++ y ∷ []) gone last new
-      → Out xs (y ∷ ys) gone last win
-  go_on settled xs ys y e gone last win new false due after goes go stage =
-      stays xs ys y gone last win new due after goes (go gone new last stage)
-  go_on settled xs ys y e gone last win [] true due after goes go stage =
+      → HasWent eager o size xs last → Out xs (y ∷ ys) gone last win
+  go_on settled xs ys y e gone last win new false due after goes go stage went =
+      stays xs ys y gone last win new due after goes
+      (go gone new last stage (still_went eager o size xs y last went))
+  go_on settled xs ys y e gone last win [] true due after goes go stage went =
       absurd (none_first (and_parts eager (first_complete []) goes).1)
-  go_on settled xs ys y e gone last win (v ∷ new) true due after goes go stage =
+  go_on settled xs ys y e gone last win (v ∷ new) true due after goes go stage went =
       let k = and_parts eager (first_complete (map (frame_at_time o (xs ++ y ∷ [])) (v ∷ new))) goes in
       let full : is_complete (frame_at_time o (xs ++ y ∷ []) v) ≡ true =
       one_first (frame_at_time o (xs ++ y ∷ []) v) (map (frame_at_time o (xs ++ y ∷ [])) new) k.1 in
@@ -197,7 +215,8 @@ module _ (eager : Bool) (o : Opening) (size ahead : ℕ) (zs : List Timed) where
         times = stage.times ∙ sym (append_assoc gone (v ∷ []) new);
         room = omega (arith, stage.room);
         ends = record { front = gone; is = refl };
-      }))
+      })
+      (inr (k.0, full)))
 
 -- ---- a time that has come before
 
@@ -251,34 +270,80 @@ is_over size u us gone win None next e h room ends m =
 is_over size u us gone win (Some g) next e h room ends m =
     (below_end gone win g h ends u m, near_end size u us gone win g next e h room ends)
 
--- ---- a time that is greater than all
+-- ---- a time that comes first
 
-abbrev IsAbove : ℕ → List ℕ → Type 0
-IsAbove u us = (v : ℕ) → IsMember v us → v < u
+less_of : (u v : ℕ) → (u ≡ v → ⊥) → u ≤ v → u < v
+less_of u v ne le = omega arith
 
-not_above : (u : ℕ) (us : List ℕ) → IsAbove u us → IsMember u us → ⊥
-not_above u us all m = let lt : u < u = all u m in absurd (omega (arith, lt))
+-- so many that are newer than what went would be newer than one before it
+not_before : (size u g : ℕ) (us gone win : List ℕ) → in_order us ≡ gone ++ win
+    → Rises (gone ++ win) → EndsIn gone g → u < g → size ≤ length (newer_than g us)
+    → length (newer_than u us) < size → ⊥
+not_before size u g us gone win e h ends lt many few =
+    let here : size ≤ length (filter (later g) (gone ++ win)) =
+    subst (λ (vs : List ℕ). size ≤ length (filter (later g) vs)) e many in
+    let less : length (filter (later u) (gone ++ win)) < size =
+    subst (λ (vs : List ℕ). length (filter (later u) vs) < size) e few in
+    let most : length (filter (later g) (gone ++ win)) ≤ length win =
+    few_newer g gone win (below_end gone win g h ends) in
+    let all : length win ≤ length (filter (later u) (gone ++ win)) =
+    many_newer u gone win (λ x m. above x (parts_rise g x gone win h (end_in gone g ends) m)) in
+    absurd (omega (arith, here, less, most, all))
+  where
+    above : (x : ℕ) → g < x → u < x
+    above x gt = omega (arith, lt, gt)
 
-is_past : (size u : ℕ) (us gone win : List ℕ) (last : Option ℕ) → IsNext size us u
-    → in_order us ≡ gone ++ win → Rises (gone ++ win) → length win ≤ size → Ends gone last
-    → IsAbove u us → IsPast last u
-is_past size u us gone win None next e h room ends all = tt
-is_past size u us gone win (Some g) next e h room ends all = (
-  all g (came g us (gone ++ win) e (member_left g gone win (end_in gone g ends))),
-  near_end size u us gone win g next e h room ends,
-)
+-- one that is awaited is newer than what went last
+is_past : (eager : Bool) (o : Opening) (size : ℕ) (xs : List Timed) (u : ℕ) (gone win : List ℕ)
+    (last : Option ℕ) → IsNext size (times_of o xs) u → in_order (times_of o xs) ≡ gone ++ win
+    → Rises (gone ++ win) → length win ≤ size → Ends gone last → HasWent eager o size xs last
+    → (IsMember u (times_of o xs) → ⊥) → IsAwaited eager o size xs u → IsPast last u
+is_past eager o size xs u gone win None next e h room ends went fresh awaited = tt
+is_past eager o size xs u gone win (Some g) next e h room ends went fresh awaited =
+    (newer (cases_lt g u), near_end size u us gone win g next e h room ends)
+  where
+    us : List ℕ
+    us = times_of o xs
 
-gone_above : (u : ℕ) (us gone win : List ℕ) → in_order us ≡ gone ++ win → IsAbove u us
-    → IsAbove u gone
-gone_above u us gone win e all x m =
-    all x (came x us (gone ++ win) e (member_left x gone win m))
+    inside : IsMember g (times_of o xs)
+    inside =
+        came g (times_of o xs) (gone ++ win) e (member_left g gone win (end_in gone g ends))
 
-win_above : (u : ℕ) (us gone win : List ℕ) → in_order us ≡ gone ++ win → IsAbove u us
-    → IsAbove u win
-win_above u us gone win e all x m =
-    all x (came x us (gone ++ win) e (member_right x gone win m))
+    apart : u ≡ g → ⊥
+    apart same = fresh (subst (λ (x : ℕ). IsMember x (times_of o xs)) (sym same) inside)
 
-older_all : (u v : ℕ) (gone : List ℕ) → IsAbove u gone → v < u → IsAbove u (gone ++ v ∷ [])
+    passed : u < g → HasWent eager o size xs (Some g) → ⊥
+    passed lt (inl many) =
+        not_before size u g (times_of o xs) gone win e h ends lt many awaited.few
+    passed lt (inr early) = awaited.lacking early.0 g inside lt early.1
+
+    newer : (g < u) ⊎ (u ≤ g) → g < u
+    newer (inl lt) = lt
+    newer (inr le) = absurd (passed (less_of u g apart le) went)
+
+-- where there is no room it is newer than the oldest
+not_oldest : (size u v : ℕ) (us gone win : List ℕ) → in_order us ≡ gone ++ v ∷ win
+    → Rises (v ∷ win) → (u ≡ v → ⊥) → size ≤ length (v ∷ win)
+    → length (newer_than u us) < size → v < u
+not_oldest size u v us gone win e up ne full few = at (cases_lt v u)
+  where
+    less : length (filter (later u) (gone ++ v ∷ win)) < size
+    less = subst (λ (vs : List ℕ). length (filter (later u) vs) < size) e few
+
+    above : u < v → (x : ℕ) → IsMember x (v ∷ win) → u < x
+    above lt x (inl same) = omega (arith, lt, same)
+    above lt x (inr m) =
+        let gt : v < x = all_member (λ y. v < y) x win up.0 m in omega (arith, lt, gt)
+
+    at : (v < u) ⊎ (u ≤ v) → v < u
+    at (inl lt) = lt
+    at (inr le) =
+        let all : length (v ∷ win) ≤ length (filter (later u) (gone ++ v ∷ win)) =
+        many_newer u gone (v ∷ win) (above (less_of u v ne le)) in
+        absurd (omega (arith, all, less, full))
+
+older_all : (u v : ℕ) (gone : List ℕ) → ((x : ℕ) → IsMember x gone → x < u) → v < u → (x : ℕ)
+    → IsMember x (gone ++ v ∷ []) → x < u
 older_all u v gone less lt x m = at (member_cases x gone (v ∷ []) m)
   where
     at : IsMember x gone ⊎ IsMember x (v ∷ []) → x < u
@@ -302,9 +367,10 @@ module _ (eager : Bool) (o : Opening) (size ahead : ℕ) (zs : List Timed)
       → reading_of o y.octets ≡ Ok d → d.timestamp ≡ wrapped y.time
       → ComesOn size ahead (times_of o xs) y.time → Goes eager o size ahead zs (xs ++ y ∷ []) ys
       → (gone win : List ℕ) (last : Option ℕ) → IsStage o size ahead xs gone last win
-      → IsInReach ahead last win y.time → IsMember y.time (times_of o xs) → IsMember y.time win
+      → HasWent eager o size xs last → IsInReach ahead last win y.time
+      → IsMember y.time (times_of o xs) → IsMember y.time win
       → Out eager o size ahead zs xs (y ∷ ys) gone last win
-  step_inside xs ys y e d read stamp on go gone win last stage within came_in m =
+  step_inside xs ys y e d read stamp on go gone win last stage went within came_in m =
       let us : List ℕ = times_of o xs in
       let h : Rises (gone ++ win) = rises o xs gone win stage.times in
       let near : AllNear y.time win =
@@ -319,15 +385,17 @@ module _ (eager : Bool) (o : Opening) (size ahead : ℕ) (zs : List Timed)
         room = stage.room;
         ends = stage.ends;
       })
+      went
 
   -- one of a time that has gone
   step_over : (xs ys : List Timed) (y : Timed) → zs ≡ (xs ++ y ∷ []) ++ ys → (d : Datagram)
       → reading_of o y.octets ≡ Ok d → d.timestamp ≡ wrapped y.time
       → ComesOn size ahead (times_of o xs) y.time → Goes eager o size ahead zs (xs ++ y ∷ []) ys
       → (gone win : List ℕ) (last : Option ℕ) → IsStage o size ahead xs gone last win
-      → IsInReach ahead last win y.time → IsMember y.time (times_of o xs)
-      → IsMember y.time gone → Out eager o size ahead zs xs (y ∷ ys) gone last win
-  step_over xs ys y e d read stamp on go gone win last stage within came_in m =
+      → HasWent eager o size xs last → IsInReach ahead last win y.time
+      → IsMember y.time (times_of o xs) → IsMember y.time gone
+      → Out eager o size ahead zs xs (y ∷ ys) gone last win
+  step_over xs ys y e d read stamp on go gone win last stage went within came_in m =
       let us : List ℕ = times_of o xs in
       let h : Rises (gone ++ win) = rises o xs gone win stage.times in
       let near : AllNear y.time win =
@@ -346,49 +414,47 @@ module _ (eager : Bool) (o : Opening) (size ahead : ℕ) (zs : List Timed)
         room = stage.room;
         ends = stage.ends;
       })
+      went
 
   -- one of a new time, where there is room
   step_room : (xs ys : List Timed) (y : Timed) → zs ≡ (xs ++ y ∷ []) ++ ys → (d : Datagram)
       → reading_of o y.octets ≡ Ok d → d.timestamp ≡ wrapped y.time
       → ComesOn size ahead (times_of o xs) y.time → Goes eager o size ahead zs (xs ++ y ∷ []) ys
       → (gone win : List ℕ) (last : Option ℕ) → IsStage o size ahead xs gone last win
-      → IsInReach ahead last win y.time → IsAbove y.time (times_of o xs) → length win < size
+      → HasWent eager o size xs last → IsInReach ahead last win y.time
+      → (IsMember y.time (times_of o xs) → ⊥) → IsPast last y.time → length win < size
       → Out eager o size ahead zs xs (y ∷ ys) gone last win
-  step_room xs ys y e d read stamp on go gone win last stage within all room =
+  step_room xs ys y e d read stamp on go gone win last stage went within fresh past room =
       let u : ℕ = y.time in
       let us : List ℕ = times_of o xs in
       let h : Rises (gone ++ win) = rises o xs gone win stage.times in
       let near : AllNear u win = near_in size u us gone win on.next stage.times h stage.room in
       let up : Rises win = rises_last gone win h in
       let out : IsMember u win → ⊥ =
-      not_above u win (win_above u us gone win stage.times all) in
-      let past : IsPast last u =
-      is_past size u us gone win last on.next stage.times h stage.room stage.ends all in
+      λ m. fresh (came u us (gone ++ win) stage.times (member_right u gone win m)) in
       let new : List ℕ = with_time u win in
       go_on eager o size ahead zs settled xs ys y e gone last win new
       (goes_early eager (shaped o size ahead (xs ++ y ∷ []) last new))
       (due-new o size ahead xs y d last win read stamp within near up out past room)
-      (after-new o size ahead xs y d last win read stamp within near up out
-      (not_above u us all) past room)
+      (after-new o size ahead xs y d last win read stamp within near up out fresh past room)
       refl go
       (record {
         times =
             order_more o xs y d gone win read stage.times
-            (gone_above u us gone win stage.times all);
+            (gone_older u gone win last h stage.ends past);
         room = omega (arith, length-with_time u win out, room);
         ends = stage.ends;
       })
+      went
 
   -- what came of the oldest is all, where so many newer ones come on
-  all_came : (xs ys : List Timed) (y : Timed) → zs ≡ (xs ++ y ∷ []) ++ ys
-      → (v : ℕ) (front new : List ℕ) → (v ≡ y.time → ⊥)
-      → in_order (times_of o (xs ++ y ∷ [])) ≡ front ++ new → size ≤ length new
-      → ((x : ℕ) → IsMember x new → v < x) → handed_at o xs v ≡ handed_at o zs v
-  all_came xs ys y e v front new ne times full newer =
+  all_came : (xs ys : List Timed) (y : Timed) → zs ≡ (xs ++ y ∷ []) ++ ys → (v : ℕ)
+      → (v ≡ y.time → ⊥) → size ≤ length (newer_than v (times_of o (xs ++ y ∷ [])))
+      → handed_at o xs v ≡ handed_at o zs v
+  all_came xs ys y e v ne many =
       kept_whole o v xs (y ∷ [])
       (λ m. one_more v y.time (reading_of o y.octets) [] ne (λ n. n) m)
-      ∙ settled.due (xs ++ y ∷ []) ys v e
-      (many_come size v (times_of o (xs ++ y ∷ [])) front new times full newer)
+      ∙ settled.due (xs ++ y ∷ []) ys v e many
 
   not_same : (v u : ℕ) → v < u → v ≡ u → ⊥
   not_same v u lt same = absurd (omega (arith, lt, same))
@@ -399,86 +465,97 @@ module _ (eager : Bool) (o : Opening) (size ahead : ℕ) (zs : List Timed)
       → ComesOn size ahead (times_of o xs) y.time → Goes eager o size ahead zs (xs ++ y ∷ []) ys
       → (gone : List ℕ) (v : ℕ) (win : List ℕ) (last : Option ℕ)
       → IsStage o size ahead xs gone last (v ∷ win)
-      → IsInReach ahead last (v ∷ win) y.time → IsAbove y.time (times_of o xs)
+      → IsInReach ahead last (v ∷ win) y.time → (IsMember y.time (times_of o xs) → ⊥)
+      → IsPast last y.time → length (newer_than y.time (times_of o xs)) < size
       → size ≤ length (v ∷ win) → Out eager o size ahead zs xs (y ∷ ys) gone last (v ∷ win)
-  step_full xs ys y e d read stamp on go gone v win last stage within all full =
+  step_full xs ys y e d read stamp on go gone v win last stage within fresh past few full =
       let u : ℕ = y.time in
       let us : List ℕ = times_of o xs in
       let h : Rises (gone ++ v ∷ win) = rises o xs gone (v ∷ win) stage.times in
       let near : AllNear u (v ∷ win) =
       near_in size u us gone (v ∷ win) on.next stage.times h stage.room in
       let up : Rises (v ∷ win) = rises_last gone (v ∷ win) h in
-      let above : IsAbove u (v ∷ win) = win_above u us gone (v ∷ win) stage.times all in
-      let out : IsMember u (v ∷ win) → ⊥ = not_above u (v ∷ win) above in
+      let out : IsMember u (v ∷ win) → ⊥ =
+      λ m. fresh (came u us (gone ++ v ∷ win) stage.times (member_right u gone (v ∷ win) m)) in
       let out_rest : IsMember u win → ⊥ = λ m. out (inr m) in
-      let newer : v < u = above v (inl refl) in
-      let past : IsPast last u =
-      is_past size u us gone (v ∷ win) last on.next stage.times h stage.room stage.ends all in
+      let newer : v < u =
+      not_oldest size u v us gone win stage.times up (λ same. out (inl same)) full few in
       let new : List ℕ = with_time u win in
       let count : length new ≡ suc (length win) = length-with_time u win out_rest in
       let times : in_order (times_of o (xs ++ y ∷ [])) ≡ (gone ++ v ∷ []) ++ new =
       order_more o xs y d (gone ++ v ∷ []) win read
       (stage.times ∙ sym (append_assoc gone (v ∷ []) win))
-      (older_all u v gone (gone_above u us gone (v ∷ win) stage.times all) newer) in
+      (older_all u v gone (gone_older u gone (v ∷ win) last h stage.ends past) newer) in
+      let many : size ≤ length (newer_than v (times_of o (xs ++ y ∷ []))) =
+      many_come size v (times_of o (xs ++ y ∷ [])) (gone ++ v ∷ []) new times
+      (omega (arith, count, full)) (all_newer_than u v win newer up.0) in
       hand_on eager o size ahead zs xs ys y gone last v win new
       (due-full o size ahead xs y d last v win read stamp within near up out past full newer)
       (after-new o size ahead xs y d (Some v) win read stamp within (λ x m. near x (inr m)) up.1
-      out_rest (not_above u us all) (newer, near v (inl refl)) (omega (arith, stage.room)))
-      (all_came xs ys y e v (gone ++ v ∷ []) new (not_same v u newer) times
-      (omega (arith, count, full)) (all_newer_than u v win newer up.0))
+      out_rest fresh (newer, near v (inl refl)) (omega (arith, stage.room)))
+      (all_came xs ys y e v (not_same v u newer) many)
       (go (gone ++ v ∷ []) new (Some v)
       (record {
         times = times;
         room = omega (arith, count, stage.room);
         ends = record { front = gone; is = refl };
-      }))
+      })
+      (inl many))
 
   step_new : 0 < size → (xs ys : List Timed) (y : Timed) → zs ≡ (xs ++ y ∷ []) ++ ys
       → (d : Datagram) → reading_of o y.octets ≡ Ok d → d.timestamp ≡ wrapped y.time
       → ComesOn size ahead (times_of o xs) y.time → Goes eager o size ahead zs (xs ++ y ∷ []) ys
       → (gone win : List ℕ) (last : Option ℕ) → IsStage o size ahead xs gone last win
-      → IsInReach ahead last win y.time → IsAbove y.time (times_of o xs)
+      → HasWent eager o size xs last → IsInReach ahead last win y.time
+      → (IsMember y.time (times_of o xs) → ⊥) → IsPast last y.time
+      → length (newer_than y.time (times_of o xs)) < size
       → (length win < size) ⊎ (size ≤ length win)
       → Out eager o size ahead zs xs (y ∷ ys) gone last win
-  step_new some xs ys y e d read stamp on go gone win last stage within all (inl room) =
-      step_room xs ys y e d read stamp on go gone win last stage within all room
-  step_new some xs ys y e d read stamp on go gone [] last stage within all (inr full) =
+  step_new some xs ys y e d read stamp on go gone win last stage went within fresh past few (inl room) =
+      step_room xs ys y e d read stamp on go gone win last stage went within fresh past room
+  step_new some xs ys y e d read stamp on go gone [] last stage went within fresh past few (inr full) =
       absurd (omega (arith, some, full))
-  step_new some xs ys y e d read stamp on go gone (v ∷ win) last stage within all (inr full) =
-      step_full xs ys y e d read stamp on go gone v win last stage within all full
+  step_new some xs ys y e d read stamp on go gone (v ∷ win) last stage went within fresh past few
+      (inr full) =
+      step_full xs ys y e d read stamp on go gone v win last stage within fresh past few full
 
   step_came : (xs ys : List Timed) (y : Timed) → zs ≡ (xs ++ y ∷ []) ++ ys
       → (d : Datagram) → reading_of o y.octets ≡ Ok d → d.timestamp ≡ wrapped y.time
       → ComesOn size ahead (times_of o xs) y.time → Goes eager o size ahead zs (xs ++ y ∷ []) ys
       → (gone win : List ℕ) (last : Option ℕ) → IsStage o size ahead xs gone last win
-      → IsInReach ahead last win y.time → IsMember y.time (times_of o xs)
-      → IsMember y.time gone ⊎ IsMember y.time win
+      → HasWent eager o size xs last → IsInReach ahead last win y.time
+      → IsMember y.time (times_of o xs) → IsMember y.time gone ⊎ IsMember y.time win
       → Out eager o size ahead zs xs (y ∷ ys) gone last win
-  step_came xs ys y e d read stamp on go gone win last stage within came_in (inl m) =
-      step_over xs ys y e d read stamp on go gone win last stage within came_in m
-  step_came xs ys y e d read stamp on go gone win last stage within came_in (inr m) =
-      step_inside xs ys y e d read stamp on go gone win last stage within came_in m
+  step_came xs ys y e d read stamp on go gone win last stage went within came_in (inl m) =
+      step_over xs ys y e d read stamp on go gone win last stage went within came_in m
+  step_came xs ys y e d read stamp on go gone win last stage went within came_in (inr m) =
+      step_inside xs ys y e d read stamp on go gone win last stage went within came_in m
 
   step_read : 0 < size → (xs ys : List Timed) (y : Timed) → zs ≡ (xs ++ y ∷ []) ++ ys
       → (d : Datagram) → reading_of o y.octets ≡ Ok d → d.timestamp ≡ wrapped y.time
       → ComesOn size ahead (times_of o xs) y.time → Goes eager o size ahead zs (xs ++ y ∷ []) ys
       → (gone win : List ℕ) (last : Option ℕ) → IsStage o size ahead xs gone last win
-      → IsInReach ahead last win y.time
-      → IsMember y.time (times_of o xs) ⊎ IsAbove y.time (times_of o xs)
+      → HasWent eager o size xs last → IsInReach ahead last win y.time
+      → IsMember y.time (times_of o xs) ⊎ (IsMember y.time (times_of o xs) → ⊥)
+      → IsMember y.time (times_of o xs) ⊎ IsAwaited eager o size xs y.time
       → Out eager o size ahead zs xs (y ∷ ys) gone last win
-  step_read some xs ys y e d read stamp on go gone win last stage within (inl m) =
-      step_came xs ys y e d read stamp on go gone win last stage within m
+  step_read some xs ys y e d read stamp on go gone win last stage went within (inl m) first =
+      step_came xs ys y e d read stamp on go gone win last stage went within m
       (in_parts (times_of o xs) gone win y.time stage.times m)
-  step_read some xs ys y e d read stamp on go gone win last stage within (inr all) =
-      step_new some xs ys y e d read stamp on go gone win last stage within all
-      (cases_lt (length win) size)
+  step_read some xs ys y e d read stamp on go gone win last stage went within (inr fresh) (inl m) =
+      absurd (fresh m)
+  step_read some xs ys y e d read stamp on go gone win last stage went within (inr fresh) (inr awaited) =
+      step_new some xs ys y e d read stamp on go gone win last stage went within fresh
+      (is_past eager o size xs y.time gone win last on.next stage.times
+      (rises o xs gone win stage.times) stage.room stage.ends went fresh awaited)
+      awaited.few (cases_lt (length win) size)
 
   -- octets that are refused
   step_refused : (xs ys : List Timed) (y : Timed) → zs ≡ (xs ++ y ∷ []) ++ ys → (f : Refusal)
       → reading_of o y.octets ≡ Err f → Goes eager o size ahead zs (xs ++ y ∷ []) ys
       → (gone win : List ℕ) (last : Option ℕ) → IsStage o size ahead xs gone last win
-      → Out eager o size ahead zs xs (y ∷ ys) gone last win
-  step_refused xs ys y e f read go gone win last stage =
+      → HasWent eager o size xs last → Out eager o size ahead zs xs (y ∷ ys) gone last win
+  step_refused xs ys y e f read go gone win last stage went =
       go_on eager o size ahead zs settled xs ys y e gone last win win
       (goes_early eager (shaped o size ahead (xs ++ y ∷ []) last win))
       (due-refused o size ahead xs y f last win read)
@@ -488,19 +565,20 @@ module _ (eager : Bool) (o : Opening) (size ahead : ℕ) (zs : List Timed)
         room = stage.room;
         ends = stage.ends;
       })
+      went
 
 -- ---- whole lists
 
 module _ (eager : Bool) (o : Opening) (size ahead : ℕ) (zs : List Timed) (some : 0 < size)
     (timed : AreTimed o zs) (nearby : AreNearby size (times_of o zs))
-    (prompt : IsPrompt o size ahead zs) (settled : Settles eager o size zs) where
+    (prompt : IsPrompt eager o size ahead zs) (settled : Settles eager o size zs) where
   step : (xs ys : List Timed) (y : Timed) → zs ≡ xs ++ y ∷ ys
       → (r : Result Datagram Refusal) → reading_of o y.octets ≡ r
       → Goes eager o size ahead zs (xs ++ y ∷ []) ys → Goes eager o size ahead zs xs (y ∷ ys)
-  step xs ys y e (Err f) read go gone win last stage =
+  step xs ys y e (Err f) read go gone win last stage went =
       step_refused eager o size ahead zs settled xs ys y
-      (e ∙ sym (append_assoc xs (y ∷ []) ys)) f read go gone win last stage
-  step xs ys y e (Ok d) read go gone win last stage =
+      (e ∙ sym (append_assoc xs (y ∷ []) ys)) f read go gone win last stage went
+  step xs ys y e (Ok d) read go gone win last stage went =
       let us : List ℕ = times_of o xs in
       let h : Rises (gone ++ win) = rises o xs gone win stage.times in
       let split : times_of o zs ≡ us ++ y.time ∷ times_of o ys =
@@ -514,12 +592,12 @@ module _ (eager : Bool) (o : Opening) (size ahead : ℕ) (zs : List Timed) (some
       (timed y d
       (subst (λ (l : List Timed). IsMember y l) (sym e) (member_right y xs (y ∷ ys) (inl refl)))
       read)
-      on go gone win last stage
+      on go gone win last stage went
       (in_reach size ahead y.time us gone win last on.next.near on.within stage.times h stage.ends)
-      (prompt.firsts us (times_of o ys) y.time split)
+      (cases_member y.time us) (prompt.firsts xs ys y d e read)
 
   goes : (ys xs : List Timed) → zs ≡ xs ++ ys → Goes eager o size ahead zs xs ys
-  goes [] xs e = λ gone win last stage. record {
+  goes [] xs e = λ gone win last stage went. record {
     rest = win;
     order = ap (λ (l : List Timed). in_order (times_of o l)) (e ∙ append-nil xs) ∙ stage.times;
     handed =
@@ -533,7 +611,7 @@ module _ (eager : Bool) (o : Opening) (size ahead : ℕ) (zs : List Timed) (some
 -- What is handed out of a prompt stream, early or as it is due, is the frame of each of its times,
 -- in rising order, of all datagrams of that time.
 pub prompt_stream : (eager : Bool) (o : Opening) (size ahead : ℕ) (zs : List Timed) → 0 < size
-    → AreTimed o zs → AreNearby size (times_of o zs) → IsPrompt o size ahead zs
+    → AreTimed o zs → AreNearby size (times_of o zs) → IsPrompt eager o size ahead zs
     → (eager ≡ true → AreAgreed o zs)
     → handed_all eager (opened o size ahead) (octets_of zs)
     ≡ map (handed_at o zs) (in_order (times_of o zs))
@@ -542,7 +620,7 @@ prompt_stream eager o size ahead zs some timed nearby prompt agreed =
     goes eager o size ahead zs some timed nearby prompt
     (settles eager o size ahead zs prompt agreed)
     zs [] refl [] [] None
-    (record { times = refl; room = omega arith; ends = refl }) in
+    (record { times = refl; room = omega arith; ends = refl }) tt in
     h.handed ∙ ap (λ (us : List ℕ). map (handed_at o zs) us) (sym h.order)
 
 -- So a sink is shown that, and what is in.
@@ -550,7 +628,7 @@ pub prompt_turned : (eager : Bool) (s t : Following) (o : Opening) (xs : List Ti
     (ds : List (List ℕ)) (old new missed : List Handed) → 0 < s.size
     → ShowsAll old new missed (handed_while eager s ds) → t ≡ state_behind eager s ds
     → s ≡ opened o s.size s.most_ahead → octets_of xs ≡ ds → AreTimed o xs
-    → AreNearby s.size (times_of o xs) → IsPrompt o s.size s.most_ahead xs → (eager ≡ true → AreAgreed o xs)
+    → AreNearby s.size (times_of o xs) → IsPrompt eager o s.size s.most_ahead xs → (eager ≡ true → AreAgreed o xs)
     → ShowsAll old new (missed ++ frames_in t) (map (handed_at o xs) (in_order (times_of o xs)))
 prompt_turned eager s t o xs ds old new missed some shown state same octets timed nearby prompt agreed =
     with_rest old new missed (handed_while eager s ds) (frames_in t)

@@ -38,7 +38,7 @@ brought_some o s ps ds all = record {
 -- missing.
 pub prompt_pictures : (eager : Bool) (o : Opening) (size ahead : ℕ) (s : Sender) (ps : List Values)
     (ds : List (List ℕ)) → 0 < size → BroughtAll o s ps ds
-    → IsPrompt o size ahead (map (timed_from o s.base) ds)
+    → IsPrompt eager o size ahead (map (timed_from o s.base) ds)
     → handed_all eager (opened o size ahead) ds ≡ pictures_from s 0 ps
 prompt_pictures eager o size ahead s ps ds some all prompt =
     let xs : List Timed = map (timed_from o s.base) ds in

@@ -1,16 +1,20 @@
 -- What comes of a time whose frame went adds nothing to it.
-use Rattle.std.proofs.Common.{◌≡◌, ℕ, ◌≤◌, ◌⊎◌, inl, inr, true, List, [], ◌∷◌, ◌++◌, length}
+use Rattle.std.proofs.Common.{◌≡◌, ℕ, ◌≤◌, ◌⊎◌, inl, inr, Bool, true, false, cond, eqb}
+use Rattle.std.proofs.Common.{List, [], ◌∷◌, ◌++◌, length}
 use Rattle.std.proofs.Common.{Result, Ok, Err, refl, sym, ap, ◌∙◌, subst, arith, append_assoc}
 use Rattle.std.proofs.Common.{append-nil}
+use Rattle.std.specs.Prelude.{count_by}
 use Rattle.std.specs.List.{filter, flat_map}
-use Rattle.std.proofs.lemmas.Bool.{cases_eq}
+use Rattle.std.proofs.lemmas.Bool.{cases_eq, eq-eqb, eqb-true, false≢true}
+use Rattle.std.proofs.lemmas.List.Sums.{length-filter}
 use Rattle.std.proofs.lemmas.List.Concat.{flat_map-append}
 use Rattle.st_format.specs.declared.cell.Cell.{Cell}
-use Rattle.st_format.specs.declared.cell.Cell.TheVariants.{Contested}
+use Rattle.st_format.specs.declared.cell.Cell.TheVariants.{Missing, Value, Contested}
+use Rattle.st_format.specs.Cell.{is_missing, join}
 use Rattle.st_format.specs.Member.{IsMember, SameMembers}
 use Rattle.st_format.specs.Offer.{cell_of}
 use Rattle.st_format.specs.Position.{IsPosition, Position, places}
-use Rattle.st_format.specs.Raster.{cell_at}
+use Rattle.st_format.specs.Raster.{Raster, cell_at, joined_cells}
 use Rattle.st_format.proofs.Members.{member_cases, member_left}
 use Rattle.st_format.proofs.Places.{member-places}
 use Rattle.st_format.proofs.Rasters.{cell_at-raster_of}
@@ -27,7 +31,7 @@ use Rattle.following.specs.Times.{in_order_behind, newer_than, time_of, times_of
 use Rattle.following.specs.Turned.{is_complete}
 use Rattle.following.proofs.Complete.{no_more}
 use Rattle.following.proofs.Early.{after_refused, kept_whole, one_more}
-use Rattle.following.proofs.FrameLemmas.{datagrams_at-append}
+use Rattle.following.proofs.FrameLemmas.{datagrams_at-append, frame_both}
 use Rattle.following.proofs.Ordered.{grown, in_order-append, later}
 use Rattle.following.proofs.Orders.{handed_at-same}
 use Rattle.following.proofs.WholeList.{map_members}
@@ -46,7 +50,7 @@ there_twice y xs m = record {
     at x (inr (inr k)) = absurd k
 
 -- No fewer are newer after one more has come.
-still_newer : (o : Opening) (size v : ℕ) (xs : List Timed) (y : Timed)
+pub still_newer : (o : Opening) (size v : ℕ) (xs : List Timed) (y : Timed)
     → size ≤ length (newer_than v (times_of o xs))
     → size ≤ length (newer_than v (times_of o (xs ++ y ∷ [])))
 still_newer o size v xs y many =
@@ -90,6 +94,51 @@ repeated o size v (y ∷ ys) xs repeats many =
     ∙ ap (λ (zs : List Timed). handed_at o zs v) whole
 
 -- ---- after a frame is complete
+
+-- a cell of which something is known stays known
+join_known : (c d : Cell) → is_missing c ≡ false → is_missing (join c d) ≡ false
+join_known Missing d known = absurd (false≢true (sym known))
+join_known (Value v) Missing known = refl
+join_known (Value v) (Value w) known = at (eqb v w)
+  where
+    at : (b : Bool) → is_missing (cond b (Value v) Contested) ≡ false
+    at true = refl
+    at false = refl
+join_known (Value v) Contested known = refl
+join_known Contested d known = refl
+
+one_fewer : (c : Cell) (cs : List Cell) → length (filter is_missing (c ∷ cs)) ≡ 0
+    → (is_missing c ≡ false) × (length (filter is_missing cs) ≡ 0)
+one_fewer Missing cs none = absurd (omega (arith, none))
+one_fewer (Value v) cs none = (refl, none)
+one_fewer Contested cs none = (refl, none)
+
+still_none : (cs ds : List Cell) → length (filter is_missing cs) ≡ 0
+    → length (filter is_missing (joined_cells cs ds)) ≡ 0
+still_none [] ds none = refl
+still_none (c ∷ cs) [] none = refl
+still_none (c ∷ cs) (d ∷ ds) none =
+    let k = one_fewer c cs none in
+    ap (λ (b : Bool). length (cond b (join c d ∷ filter is_missing (joined_cells cs ds))
+    (filter is_missing (joined_cells cs ds)))) (join_known c d k.0)
+    ∙ still_none cs ds k.1
+
+-- A complete frame is complete after more has come.
+pub still_complete : (o : Opening) (v : ℕ) (xs ys : List Timed)
+    → is_complete (frame_of o (datagrams_at v xs) (wrapped v)) ≡ true
+    → is_complete (frame_of o (datagrams_at v (xs ++ ys)) (wrapped v)) ≡ true
+still_complete o v xs ys full =
+    let r : Raster = frame_of o (datagrams_at v xs) (wrapped v) in
+    let q : Raster = frame_of o (datagrams_at v ys) (wrapped v) in
+    let cells : List Cell = joined_cells r.cells q.cells in
+    let none : count_by is_missing cells ≡ 0 =
+    sym (length-filter is_missing cells)
+    ∙ still_none r.cells q.cells
+    (length-filter is_missing r.cells ∙ eqb-true (count_by is_missing r.cells) 0 full) in
+    ap is_complete
+    (ap (λ (ds : List (List ℕ)). frame_of o ds (wrapped v)) (datagrams_at-append v xs ys)
+    ∙ frame_both o (datagrams_at v xs) (datagrams_at v ys) (wrapped v))
+    ∙ eq-eqb (count_by is_missing cells) 0 none
 
 abbrev handed : Opening → ℕ → List Cell → Handed
 handed o u cells =

@@ -1,5 +1,5 @@
--- Streams of which what comes late is a repeat, so that complete frames may go early.
-use Rattle.std.specs.Prelude.{◌≡◌, ◌⊎◌, ℕ, ◌<◌, ◌≤◌, List, ◌∷◌, ◌++◌, length, Ok}
+-- Streams of which what comes late is a repeat, also where complete frames go early.
+use Rattle.std.specs.Prelude.{◌≡◌, ◌⊎◌, ℕ, ◌<◌, ◌≤◌, Bool, IsTrue, List, ◌∷◌, ◌++◌, length, Ok}
 use Rattle.st_format.specs.declared.cell.Cell.TheVariants.{Contested}
 use Rattle.st_format.specs.Member.{IsMember}
 use Rattle.st_format.specs.Position.{IsPosition, Position}
@@ -9,11 +9,21 @@ use Rattle.path_receiver.specs.Opening.{Opening}
 use Rattle.following.specs.Serial.{wrapped}
 use Rattle.following.specs.Follower.{reading_of}
 use Rattle.following.specs.Times.{AreWithin, Timed, datagrams_at, frame_of, newer_than, times_of}
+use Rattle.following.specs.Turned.{is_complete}
 
--- The times rise as they first come: each is one of those before it, or greater than all of them.
-abbrev pub FirstsRise : List ℕ → Type 0
-FirstsRise us = (before after : List ℕ) (u : ℕ) → us ≡ before ++ u ∷ after
-    → IsMember u before ⊎ ((v : ℕ) → IsMember v before → v < u)
+-- A time may still come first behind these: fewer newer ones than there are frames have come, and
+-- where frames may go early nothing makes the frame of a newer one complete.
+pub record IsAwaited (eager : Bool) (o : Opening) (size : ℕ) (before : List Timed) (u : ℕ)
+    : Type 0 where
+  pub few : length (newer_than u (times_of o before)) < size
+  pub lacking : IsTrue eager → (v : ℕ) → IsMember v (times_of o before) → u < v
+      → IsTrue (is_complete (frame_of o (datagrams_at v before) (wrapped v))) → ⊥
+
+-- Each time that comes first is still awaited.
+abbrev pub FirstsAwaited : Bool → Opening → ℕ → List Timed → Type 0
+FirstsAwaited eager o size xs = (before after : List Timed) (x : Timed) (d : Datagram)
+    → xs ≡ before ++ x ∷ after → reading_of o x.octets ≡ Ok d
+    → IsMember x.time (times_of o before) ⊎ IsAwaited eager o size before x.time
 
 -- Each datagram for the receiver that comes after so many newer times is a repeat: the same came
 -- before (SMPTE ST 2022-7: by the other path).
@@ -22,11 +32,11 @@ AreRepeats o size xs = (before after : List Timed) (x : Timed) (d : Datagram)
     → xs ≡ before ++ x ∷ after → reading_of o x.octets ≡ Ok d
     → size ≤ length (newer_than x.time (times_of o before)) → IsMember x before
 
--- A stream is prompt for a follower of so many frames: its times rise as they first come, none more
--- ticks ahead of the greatest than it may be; and all that comes of a time has come before that
--- many newer ones have, but for repeats.
-pub record IsPrompt (o : Opening) (size ahead : ℕ) (xs : List Timed) : Type 0 where
-  pub firsts : FirstsRise (times_of o xs)
+-- A stream is prompt for a follower of so many frames, of which complete ones may go early or not:
+-- each time first comes while it is awaited, not more ticks ahead of the greatest than it may be;
+-- and all that comes of it has come before that many newer ones have, but for repeats.
+pub record IsPrompt (eager : Bool) (o : Opening) (size ahead : ℕ) (xs : List Timed) : Type 0 where
+  pub firsts : FirstsAwaited eager o size xs
   pub within : AreWithin ahead (times_of o xs)
   pub repeats : AreRepeats o size xs
 
@@ -34,3 +44,8 @@ pub record IsPrompt (o : Opening) (size ahead : ℕ) (xs : List Timed) : Type 0 
 abbrev pub AreAgreed : Opening → List Timed → Type 0
 AreAgreed o xs = (u : ℕ) (at : Position) → IsPosition at o.format
     → cell_at (frame_of o (datagrams_at u xs) (wrapped u)) at ≡ Contested → ⊥
+
+-- The times rise as they first come: each is one of those before it, or greater than all of them.
+abbrev pub FirstsRise : List ℕ → Type 0
+FirstsRise us = (before after : List ℕ) (u : ℕ) → us ≡ before ++ u ∷ after
+    → IsMember u before ⊎ ((v : ℕ) → IsMember v before → v < u)

@@ -10,7 +10,8 @@
 //! - Where none was late or too far ahead, nothing was lost, also where frames went early:
 //!   `none_lost`.
 //! - The headline of two paths, early or as frames are due: where all that comes late is a repeat,
-//!   `prompt_stream`, and all of a sender's pictures, `prompt_pictures`.
+//!   `prompt_stream`, and all of a sender's pictures, `prompt_pictures`; which lists are so,
+//!   `prompt_premises`.
 //! - Whatever comes, strays and late ones too: what is handed out is of those that were neither
 //!   late nor too far ahead, `kept_alone`, and each frame is of some datagrams, `each_frame`.
 //! - A frame that goes early is complete: `early`.
@@ -40,7 +41,7 @@ ghost use Rattle.following.specs.Times.{AreInHalf, AreInRound, AreInTime, AreOfT
 ghost use Rattle.following.specs.Times.{AreTimed, AreWithin, HasTime, IsOrderly, Timed, handed_at};
 ghost use Rattle.following.specs.Times.{frame_of, handed_of, in_order, octets_of, times_of};
 ghost use Rattle.following.specs.Need.{none_noted, noted_behind};
-ghost use Rattle.following.specs.Prompt.{AreAgreed, IsPrompt};
+ghost use Rattle.following.specs.Prompt.{AreAgreed, FirstsAwaited, FirstsRise, IsPrompt};
 ghost use Rattle.following.specs.Restarts.{AreLostSince, Reply, lost_behind};
 ghost use Rattle.following.specs.Turned.{answers_in, goes_early, handed_all, handed_early};
 ghost use Rattle.following.specs.Turned.{handed_while, is_complete, kept_of, state_behind};
@@ -108,16 +109,16 @@ pub fn none_lost()
         ≡ map (handed_at o (taken_of acts)) (in_order (times_of o (taken_of acts))) }
 {}
 
-/// Where the times of a list rise as they first come, none too far ahead, all are near what is in
-/// and what went last, and each datagram that comes after as many newer times as the follower has
-/// frames came before too, as by the other path (SMPTE ST 2022-7): what is handed out, and in at
+/// Where each time of a list first comes while it is awaited, none too far ahead, all are near what
+/// is in and what went last, and each datagram that comes after as many newer times as the follower
+/// has frames came before too, as by the other path (SMPTE ST 2022-7): what is handed out, and in at
 /// the end, is for each time, in rising order, its timestamp and the Frames at it of all the list's
 /// datagrams of that time. So it is also where frames go early, if no two datagrams of a time give
 /// a sample different values: what comes of a frame that went is late, and adds nothing.
 pub fn prompt_stream()
     ensures { (eager : Bool) (o : Opening) (size ahead : ℕ) (datagrams : List Timed) →
         IsWindowSize size → AreTimed o datagrams → AreNearby size (times_of o datagrams) →
-        IsPrompt o size ahead datagrams → (IsTrue eager → AreAgreed o datagrams) →
+        IsPrompt eager o size ahead datagrams → (IsTrue eager → AreAgreed o datagrams) →
         handed_all eager (opened o size ahead) (octets_of datagrams)
         ≡ map (handed_at o datagrams) (in_order (times_of o datagrams)) }
 {}
@@ -129,8 +130,19 @@ pub fn prompt_pictures()
     ensures { (eager : Bool) (o : Opening) (size ahead : ℕ) (s : Sender) (pictures : List Values)
         (datagrams : List (List ℕ)) →
         IsWindowSize size → BroughtAll o s pictures datagrams →
-        IsPrompt o size ahead (map (timed_from o s.base) datagrams) →
+        IsPrompt eager o size ahead (map (timed_from o s.base) datagrams) →
         handed_all eager (opened o size ahead) datagrams ≡ pictures_from s 0 pictures }
+{}
+
+/// Which streams are prompt. Each time first comes while it is awaited where the times rise as they
+/// first come (`rising`). Where no frame goes early each orderly list is (`orderly`): so
+/// `whole_stream` is of the prompt ones to which nothing comes late.
+pub fn prompt_premises()
+    ensures rising { (eager : Bool) (o : Opening) (size : ℕ) (datagrams : List Timed) →
+        IsWindowSize size → FirstsRise (times_of o datagrams) →
+        FirstsAwaited eager o size datagrams }
+    ensures orderly { (o : Opening) (size ahead : ℕ) (datagrams : List Timed) →
+        IsOrderly size ahead (times_of o datagrams) → IsPrompt false o size ahead datagrams }
 {}
 
 /// Whatever comes, strays, late ones and repeats among it, and whether frames go early or not: what
