@@ -34,8 +34,9 @@ use Rattle.following.specs.Follower.{opened, reading_of}
 use Rattle.following.specs.Following.{Handed, handed_out}
 use Rattle.following.specs.Pictures.{BroughtAll, picture_time, pictures_from, time_behind}
 use Rattle.following.specs.Pictures.{timed_from, times_from}
-use Rattle.following.specs.Times.{AreInHalf, AreInRound, AreTimed, IsInHalf, IsOrderly, Timed, frame_of}
-use Rattle.following.specs.Times.{handed_at, handed_of, in_order, octets_of, time_if, time_of, times_of}
+use Rattle.following.specs.Times.{AreInHalf, AreInRound, AreTimed, IsInHalf, IsOrderly, Timed}
+use Rattle.following.specs.Times.{frame_of, handed_at, handed_of, in_order, octets_of, time_if, time_of}
+use Rattle.following.specs.Times.{times_of}
 use Rattle.following.proofs.Ordered.{Rises, rises_behind}
 use Rattle.following.proofs.Orders.{order_members, same_rising}
 use Rattle.following.proofs.Streams.{whole_stream}

@@ -12,28 +12,29 @@ use Rattle.path_receiver.specs.Grammar.{Datagram}
 use Rattle.path_receiver.specs.Opening.{Opening}
 use Rattle.following.specs.Acts.{AreNearby}
 use Rattle.following.specs.Serial.{wrapped}
-use Rattle.following.specs.Follower.{Following, opened, read_in, reading_of, standing_of, state_after}
-use Rattle.following.specs.Follower.{taken_in}
+use Rattle.following.specs.Follower.{Following, opened, read_in, reading_of, standing_of}
+use Rattle.following.specs.Follower.{state_after, taken_in}
 use Rattle.following.specs.Following.{Handed, frames_in, is_due, is_waiting}
-use Rattle.following.specs.Prompt.{AreAgreed, IsAwaited, IsPrompt}
+use Rattle.following.specs.Prompt.{AreAgreed, IsPrompt}
 use Rattle.following.specs.Stream.{ShowsAll}
 use Rattle.following.specs.Times.{AreTimed, IsGreatest, Timed, handed_at, in_order, newer_than}
 use Rattle.following.specs.Times.{octets_of, times_of, with_time}
 use Rattle.following.specs.Turned.{first_complete, goes_early, handed_all, handed_early, handed_in}
 use Rattle.following.specs.Turned.{handed_while, is_complete, state_behind, state_early, turned}
-use Rattle.following.proofs.Early.{IsNext, IsOver, IsStage, gone_older, kept_whole, near_end, near_in}
-use Rattle.following.proofs.Early.{one_more, standing-over}
+use Rattle.following.proofs.Early.{IsNext, IsOver, IsStage, gone_older, kept_whole, near_end}
+use Rattle.following.proofs.Early.{near_in, one_more, standing-over}
 use Rattle.following.proofs.FrameLemmas.{frame_kept}
 use Rattle.following.proofs.Insertions.{AllNear, IsInReach, IsPast}
-use Rattle.following.proofs.Ordered.{Rises, few_newer, in_order-more, later, length-with_time, many_newer}
-use Rattle.following.proofs.Ordered.{order_keeps, parts_rise, rises_behind, rises_last, with_time-there}
+use Rattle.following.proofs.Ordered.{Rises, few_newer, in_order-more, later, length-with_time}
+use Rattle.following.proofs.Ordered.{many_newer, order_keeps, parts_rise, rises_behind, rises_last}
+use Rattle.following.proofs.Ordered.{with_time-there}
 use Rattle.following.proofs.Repeats.{completed, repeated, still_complete, still_newer}
 use Rattle.following.proofs.Rising.{all_member}
 use Rattle.following.proofs.Streams.{Ends, EndsIn, all_newer_than, below_end, came, cases_member}
 use Rattle.following.proofs.Streams.{end_in, in_parts, in_reach}
 use Rattle.following.proofs.Streams.{order_more, rises, times_at, times_refused}
 use Rattle.following.proofs.Turning.{handed-due, handed-on, turned-due, turned-on, with_rest}
-use Rattle.following.proofs.WholeList.{map_members}
+use Rattle.following.proofs.WholeList.{map_members, times_has}
 use Rattle.following.proofs.Windows.{after-inside, after-new, after-refused, due-full, due-inside}
 use Rattle.following.proofs.Windows.{due-new, due-refused, frame_at_time, frames_in-shaped, shaped}
 use Rattle.following.proofs.Windows.{stands-shaped, waiting_at}
@@ -73,6 +74,30 @@ still_went eager o size xs y None went = tt
 still_went eager o size xs y (Some g) (inl many) = inl (still_newer o size g xs y many)
 still_went eager o size xs y (Some g) (inr early) =
     inr (early.0, still_complete o g xs (y ∷ []) early.1)
+
+-- A time may still come first: fewer newer ones than there are frames have come, and where frames
+-- may go early no newer one's frame is complete.
+record IsAwaited (eager : Bool) (o : Opening) (size : ℕ) (xs : List Timed) (u : ℕ) : Type 0 where
+  few : length (newer_than u (times_of o xs)) < size
+  lacking : eager ≡ true → (v : ℕ) → IsMember v (times_of o xs) → u < v
+      → is_complete (frame_at_time o xs v) ≡ true → ⊥
+
+-- one that hasn't come is awaited
+first_awaited : (eager : Bool) (o : Opening) (size ahead : ℕ) (zs xs ys : List Timed) (y : Timed)
+    (d : Datagram) → IsPrompt eager o size ahead zs → zs ≡ xs ++ y ∷ ys
+    → reading_of o y.octets ≡ Ok d → (IsMember y.time (times_of o xs) → ⊥)
+    → IsAwaited eager o size xs y.time
+first_awaited eager o size ahead zs xs ys y d prompt e read fresh = record {
+  few = few (cases_lt (length (newer_than y.time (times_of o xs))) size);
+  lacking = λ is v m lt full. fresh (prompt.firsts is xs ys y d v e read m lt full);
+}
+  where
+    few : (length (newer_than y.time (times_of o xs)) < size)
+        ⊎ (size ≤ length (newer_than y.time (times_of o xs)))
+        → length (newer_than y.time (times_of o xs)) < size
+    few (inl lt) = lt
+    few (inr many) =
+        absurd (fresh (times_has o y d xs (prompt.repeats xs ys y d e read many) read))
 
 -- a time that comes on, after those that came
 record ComesOn (size ahead : ℕ) (us : List ℕ) (u : ℕ) : Type 0 where
@@ -205,7 +230,8 @@ module _ (eager : Bool) (o : Opening) (size ahead : ℕ) (zs : List Timed) where
   go_on settled xs ys y e gone last win [] true due after goes go stage went =
       absurd (none_first (and_parts eager (first_complete []) goes).1)
   go_on settled xs ys y e gone last win (v ∷ new) true due after goes go stage went =
-      let k = and_parts eager (first_complete (map (frame_at_time o (xs ++ y ∷ [])) (v ∷ new))) goes in
+      let k =
+      and_parts eager (first_complete (map (frame_at_time o (xs ++ y ∷ [])) (v ∷ new))) goes in
       let full : is_complete (frame_at_time o (xs ++ y ∷ []) v) ≡ true =
       one_first (frame_at_time o (xs ++ y ∷ []) v) (map (frame_at_time o (xs ++ y ∷ [])) new) k.1 in
       leaves xs ys y gone last win v new due after goes
@@ -511,9 +537,11 @@ module _ (eager : Bool) (o : Opening) (size ahead : ℕ) (zs : List Timed)
       → length (newer_than y.time (times_of o xs)) < size
       → (length win < size) ⊎ (size ≤ length win)
       → Out eager o size ahead zs xs (y ∷ ys) gone last win
-  step_new some xs ys y e d read stamp on go gone win last stage went within fresh past few (inl room) =
+  step_new some xs ys y e d read stamp on go gone win last stage went within fresh past few
+      (inl room) =
       step_room xs ys y e d read stamp on go gone win last stage went within fresh past room
-  step_new some xs ys y e d read stamp on go gone [] last stage went within fresh past few (inr full) =
+  step_new some xs ys y e d read stamp on go gone [] last stage went within fresh past few
+      (inr full) =
       absurd (omega (arith, some, full))
   step_new some xs ys y e d read stamp on go gone (v ∷ win) last stage went within fresh past few
       (inr full) =
@@ -537,14 +565,13 @@ module _ (eager : Bool) (o : Opening) (size ahead : ℕ) (zs : List Timed)
       → (gone win : List ℕ) (last : Option ℕ) → IsStage o size ahead xs gone last win
       → HasWent eager o size xs last → IsInReach ahead last win y.time
       → IsMember y.time (times_of o xs) ⊎ (IsMember y.time (times_of o xs) → ⊥)
-      → IsMember y.time (times_of o xs) ⊎ IsAwaited eager o size xs y.time
+      → ((IsMember y.time (times_of o xs) → ⊥) → IsAwaited eager o size xs y.time)
       → Out eager o size ahead zs xs (y ∷ ys) gone last win
   step_read some xs ys y e d read stamp on go gone win last stage went within (inl m) first =
       step_came xs ys y e d read stamp on go gone win last stage went within m
       (in_parts (times_of o xs) gone win y.time stage.times m)
-  step_read some xs ys y e d read stamp on go gone win last stage went within (inr fresh) (inl m) =
-      absurd (fresh m)
-  step_read some xs ys y e d read stamp on go gone win last stage went within (inr fresh) (inr awaited) =
+  step_read some xs ys y e d read stamp on go gone win last stage went within (inr fresh) first =
+      let awaited : IsAwaited eager o size xs y.time = first fresh in
       step_new some xs ys y e d read stamp on go gone win last stage went within fresh
       (is_past eager o size xs y.time gone win last on.next stage.times
       (rises o xs gone win stage.times) stage.room stage.ends went fresh awaited)
@@ -594,7 +621,7 @@ module _ (eager : Bool) (o : Opening) (size ahead : ℕ) (zs : List Timed) (some
       read)
       on go gone win last stage went
       (in_reach size ahead y.time us gone win last on.next.near on.within stage.times h stage.ends)
-      (cases_member y.time us) (prompt.firsts xs ys y d e read)
+      (cases_member y.time us) (first_awaited eager o size ahead zs xs ys y d prompt e read)
 
   goes : (ys xs : List Timed) → zs ≡ xs ++ ys → Goes eager o size ahead zs xs ys
   goes [] xs e = λ gone win last stage went. record {
@@ -628,9 +655,11 @@ pub prompt_turned : (eager : Bool) (s t : Following) (o : Opening) (xs : List Ti
     (ds : List (List ℕ)) (old new missed : List Handed) → 0 < s.size
     → ShowsAll old new missed (handed_while eager s ds) → t ≡ state_behind eager s ds
     → s ≡ opened o s.size s.most_ahead → octets_of xs ≡ ds → AreTimed o xs
-    → AreNearby s.size (times_of o xs) → IsPrompt eager o s.size s.most_ahead xs → (eager ≡ true → AreAgreed o xs)
+    → AreNearby s.size (times_of o xs) → IsPrompt eager o s.size s.most_ahead xs
+    → (eager ≡ true → AreAgreed o xs)
     → ShowsAll old new (missed ++ frames_in t) (map (handed_at o xs) (in_order (times_of o xs)))
-prompt_turned eager s t o xs ds old new missed some shown state same octets timed nearby prompt agreed =
+prompt_turned eager s t o xs ds old new missed some shown state same octets timed nearby prompt
+    agreed =
     with_rest old new missed (handed_while eager s ds) (frames_in t)
     (map (handed_at o xs) (in_order (times_of o xs))) shown
     (ap (λ (u : Following). handed_while eager s ds ++ frames_in u) state

@@ -11,19 +11,13 @@ use Rattle.following.specs.Follower.{reading_of}
 use Rattle.following.specs.Times.{AreWithin, Timed, datagrams_at, frame_of, newer_than, times_of}
 use Rattle.following.specs.Turned.{is_complete}
 
--- A time may still come first behind these: fewer newer ones than there are frames have come, and
--- where frames may go early nothing makes the frame of a newer one complete.
-pub record IsAwaited (eager : Bool) (o : Opening) (size : ℕ) (before : List Timed) (u : ℕ)
-    : Type 0 where
-  pub few : length (newer_than u (times_of o before)) < size
-  pub lacking : IsTrue eager → (v : ℕ) → IsMember v (times_of o before) → u < v
-      → IsTrue (is_complete (frame_of o (datagrams_at v before) (wrapped v))) → ⊥
-
--- Each time that comes first is still awaited.
-abbrev pub FirstsAwaited : Bool → Opening → ℕ → List Timed → Type 0
-FirstsAwaited eager o size xs = (before after : List Timed) (x : Timed) (d : Datagram)
-    → xs ≡ before ++ x ∷ after → reading_of o x.octets ≡ Ok d
-    → IsMember x.time (times_of o before) ⊎ IsAwaited eager o size before x.time
+-- Each time first comes before a newer one's frame is complete: what comes of it behind that isn't
+-- the first.
+abbrev pub FirstsInTime : Opening → List Timed → Type 0
+FirstsInTime o xs = (before after : List Timed) (x : Timed) (d : Datagram) (v : ℕ)
+    → xs ≡ before ++ x ∷ after → reading_of o x.octets ≡ Ok d → IsMember v (times_of o before)
+    → x.time < v → IsTrue (is_complete (frame_of o (datagrams_at v before) (wrapped v)))
+    → IsMember x.time (times_of o before)
 
 -- Each datagram for the receiver that comes after so many newer times is a repeat: the same came
 -- before (SMPTE ST 2022-7: by the other path).
@@ -33,12 +27,13 @@ AreRepeats o size xs = (before after : List Timed) (x : Timed) (d : Datagram)
     → size ≤ length (newer_than x.time (times_of o before)) → IsMember x before
 
 -- A stream is prompt for a follower of so many frames, of which complete ones may go early or not:
--- each time first comes while it is awaited, not more ticks ahead of the greatest than it may be;
--- and all that comes of it has come before that many newer ones have, but for repeats.
+-- all that comes of a time has come before that many newer ones have, but for repeats; none is more
+-- ticks ahead of the greatest before it than it may be; and where frames may go early, each time
+-- first comes before a newer one's frame is complete.
 pub record IsPrompt (eager : Bool) (o : Opening) (size ahead : ℕ) (xs : List Timed) : Type 0 where
-  pub firsts : FirstsAwaited eager o size xs
-  pub within : AreWithin ahead (times_of o xs)
   pub repeats : AreRepeats o size xs
+  pub within : AreWithin ahead (times_of o xs)
+  pub firsts : IsTrue eager → FirstsInTime o xs
 
 -- No two datagrams of a time give a sample different values.
 abbrev pub AreAgreed : Opening → List Timed → Type 0

@@ -41,7 +41,7 @@ ghost use Rattle.following.specs.Times.{AreInHalf, AreInRound, AreInTime, AreOfT
 ghost use Rattle.following.specs.Times.{AreTimed, AreWithin, HasTime, IsOrderly, Timed, handed_at};
 ghost use Rattle.following.specs.Times.{frame_of, handed_of, in_order, octets_of, times_of};
 ghost use Rattle.following.specs.Need.{none_noted, noted_behind};
-ghost use Rattle.following.specs.Prompt.{AreAgreed, FirstsAwaited, FirstsRise, IsPrompt};
+ghost use Rattle.following.specs.Prompt.{AreAgreed, FirstsInTime, FirstsRise, IsPrompt};
 ghost use Rattle.following.specs.Restarts.{AreLostSince, Reply, lost_behind};
 ghost use Rattle.following.specs.Turned.{answers_in, goes_early, handed_all, handed_early};
 ghost use Rattle.following.specs.Turned.{handed_while, is_complete, kept_of, state_behind};
@@ -109,12 +109,13 @@ pub fn none_lost()
         ≡ map (handed_at o (taken_of acts)) (in_order (times_of o (taken_of acts))) }
 {}
 
-/// Where each time of a list first comes while it is awaited, none too far ahead, all are near what
-/// is in and what went last, and each datagram that comes after as many newer times as the follower
-/// has frames came before too, as by the other path (SMPTE ST 2022-7): what is handed out, and in at
-/// the end, is for each time, in rising order, its timestamp and the Frames at it of all the list's
-/// datagrams of that time. So it is also where frames go early, if no two datagrams of a time give
-/// a sample different values: what comes of a frame that went is late, and adds nothing.
+/// Where each datagram that comes after as many newer times as the follower has frames came before
+/// too, as by the other path (SMPTE ST 2022-7), none is too far ahead, and all are near what is in
+/// and what went last: what is handed out, and in at the end, is for each time, in rising order,
+/// its timestamp and the Frames at it of all the list's datagrams of that time. So it is also where
+/// complete frames go early, if each time first comes before a newer one's frame is complete, and
+/// no two datagrams of a time give a sample different values: what comes of a frame that went is
+/// late, and adds nothing.
 pub fn prompt_stream()
     ensures { (eager : Bool) (o : Opening) (size ahead : ℕ) (datagrams : List Timed) →
         IsWindowSize size → AreTimed o datagrams → AreNearby size (times_of o datagrams) →
@@ -134,13 +135,12 @@ pub fn prompt_pictures()
         handed_all eager (opened o size ahead) datagrams ≡ pictures_from s 0 pictures }
 {}
 
-/// Which streams are prompt. Each time first comes while it is awaited where the times rise as they
-/// first come (`rising`). Where no frame goes early each orderly list is (`orderly`): so
-/// `whole_stream` is of the prompt ones to which nothing comes late.
+/// Which streams are prompt. Each time first comes before a newer one's frame is complete where the
+/// times rise as they first come (`rising`). Where no frame goes early each orderly list is
+/// (`orderly`): so `whole_stream` is of those of which nothing comes late.
 pub fn prompt_premises()
-    ensures rising { (eager : Bool) (o : Opening) (size : ℕ) (datagrams : List Timed) →
-        IsWindowSize size → FirstsRise (times_of o datagrams) →
-        FirstsAwaited eager o size datagrams }
+    ensures rising { (o : Opening) (datagrams : List Timed) →
+        FirstsRise (times_of o datagrams) → FirstsInTime o datagrams }
     ensures orderly { (o : Opening) (size ahead : ℕ) (datagrams : List Timed) →
         IsOrderly size ahead (times_of o datagrams) → IsPrompt false o size ahead datagrams }
 {}

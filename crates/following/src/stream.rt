@@ -138,9 +138,9 @@ pub fn follow_eagerly<S: DatagramSource, A: Allocator, K: FrameSink, O: FollowOb
         (not_shown result frame.new ++ frames_in follower.new)
         (map (handed_at o timed) (in_order (times_of o timed))) }
 
-    // The headline of two paths: so it is, whatever was Late, where each time first comes while it
-    // is awaited, what comes after as many newer ones as it has frames is a repeat, and no two
-    // datagrams of a time give a sample different values.
+    // The headline of two paths: so it is, whatever was Late, where each time first comes before a
+    // newer one's frame is complete, what comes after as many newer ones as it has frames is a
+    // repeat, and no two datagrams of a time give a sample different values.
     ensures prompt { (o : Opening) (timed : List Timed) →
         follower.old ≡ opened o follower.old.size follower.old.most_ahead →
         octets_of timed ≡ datagrams_since (S.came source.old) (S.came source.new) →
