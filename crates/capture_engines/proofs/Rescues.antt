@@ -3,14 +3,16 @@ use Rattle.std.proofs.Common.{◌≡◌, ℕ, zero, suc, inl, inr, List, [], ◌
 use Rattle.std.proofs.Common.{None, Some, refl, sym, ap, subst, ◌∙◌, append-nil, drop, length}
 use Rattle.std.proofs.Common.{take, Bool, false}
 use Rattle.std.specs.List.{zip}
-use Rattle.std.specs.Prelude.{IfErr, IsTrue, MatchOption, OnErr, OnOk, Result, Ok, Err, ⊤}
+use Rattle.std.specs.Prelude.{IfErr, IsFalse, IsTrue, MatchOption, OnErr, OnOk, Result, Ok, Err, ⊤}
 use Rattle.flow.specs.declared.flows.Flows.{Flows}
 use Rattle.media_file.specs.StateFile.{state_text}
+use Rattle.path_receiver.specs.Frames.{State}
 use Rattle.receiver_file.specs.Saved.{kept_of}
 use Rattle.run_outcome.specs.Fault.{IfRefused}
 use Rattle.run_outcome.specs.Moments.{WasRead}
 use Rattle.run_outcome.specs.Refusing.{OfRefusal}
 use Rattle.run_outcome.specs.Sources.{IsSourceText}
+use Rattle.run_outcome.specs.States.{SavesPart}
 use Rattle.run_outcome.specs.Timestamps.{AreTimestamps}
 use Rattle.run_outcome.specs.declared.fault.Fault.{Fault}
 use Rattle.run_outcome.specs.declared.fault.Fault.TheVariants.{Refused, Device, Memory}
@@ -18,10 +20,12 @@ use Rattle.run_outcome.specs.declared.refusal.Refusal.{Refusal}
 use Rattle.capture_engines.specs.Counted.{CountsHolding, CountsReceived}
 use Rattle.capture_engines.specs.Files.{files_datagrams, way_at}
 use Rattle.capture_engines.specs.Printed.{received_text, tally_text}
-use Rattle.capture_engines.specs.Rescued.{Front, IsFrontOf, MayTake, Rescues, TakesFilesUpTo}
+use Rattle.capture_engines.specs.Rescued.{Front, IsFrontOf, IsReceiverOfPart, MayTake, Rescues}
+use Rattle.capture_engines.specs.Rescued.{TakesFilesUpTo}
 use Rattle.capture_engines.specs.Rescued.{datagrams_if, said_if}
 use Rattle.capture_engines.specs.Sent.{FirstIs}
-use Rattle.capture_engines.specs.Taking.{AnnouncesStream, AreRead, Stands, TakesFiles}
+use Rattle.capture_engines.specs.Taking.{AnnouncesStream, AreRead, IsOpenedHolding}
+use Rattle.capture_engines.specs.Taking.{IsReceiverOfFiles, Stands, TakesFiles}
 use Rattle.capture_engines.specs.declared.way.Way.{Way}
 use Rattle.capture_engines.specs.Taking.{said_behind}
 use Rattle.capture_engines.specs.declared.intake.Intake.{Intake}
@@ -79,20 +83,35 @@ pub failed_part : {V E X : Type 0} (r : Result V E) (new old : Option X) (P : Ty
 failed_part (Ok v) new old P same none p = tt
 failed_part (Err e) new old P same none p = none_part new old P same none p
 
-pub whenever : {V E : Type 0} (r : Result V E) (P : Type 0) → P → OnErr r P
-whenever (Ok v) P p = tt
-whenever (Err e) P p = p
+-- a receiver that is so is the one of which a first part was written
+pub part_of : (P : State → Type 0) (receiver : State) (old new : List ℕ) → P receiver
+    → SavesPart (λ s. s ≡ receiver) old new → SavesPart P old new
+part_of P receiver old new is (inl same) = inl same
+part_of P receiver old new is (inr (s, same, part)) = inr (s, subst P (sym same) is, part)
 
-never : IsTrue false → ⊥
+pub part_map : (P Q : State → Type 0) (old new : List ℕ) → ((s : State) → P s → Q s)
+    → SavesPart P old new → SavesPart Q old new
+part_map P Q old new then (inl same) = inl same
+part_map P Q old new then (inr (s, is, part)) = inr (s, then s is, part)
+
+pub whole_part : {V E : Type 0} (r : Result V E) (P : State → Type 0) (receiver : State)
+    (old new : List ℕ) → P receiver → OnErr r (SavesPart (λ s. s ≡ receiver) old new)
+    → OnErr r (SavesPart P old new)
+whole_part (Ok v) P receiver old new is part = tt
+whole_part (Err e) P receiver old new is part = part_of P receiver old new is part
+
+pub maybe_part : {X : Type 0} (o : Option X) (P : State → Type 0) (receiver : State)
+    (old new : List ℕ) → P receiver
+    → MatchOption o (SavesPart (λ s. s ≡ receiver) old new) (λ _. ⊤)
+    → MatchOption o (SavesPart P old new) (λ _. ⊤)
+maybe_part None P receiver old new is part = part_of P receiver old new is part
+maybe_part (Some x) P receiver old new is part = tt
+
+pub never : IsTrue false → ⊥
 never e = absurd cc
 
--- where only a whole file is saved, nothing is answered
-pub unsound_part : {V E X : Type 0} (r : Result V E) (o : Option X) (P : Type 0)
-    (Is : E → X → Type 0) → OnErr r (MatchOption o P (λ _. ⊤))
-    → IfErr r (λ f. MatchOption o ⊤ (λ x. IsTrue false × Is f x)) → OnErr r P
-unsound_part (Ok v) o P Is p q = tt
-unsound_part (Err e) None P Is p q = p
-unsound_part (Err e) (Some x) P Is p q = absurd (never q.0)
+pub sound_not : (b : Bool) → IsTrue b → IsFalse b → ⊥
+sound_not b sound unsound = never (sym unsound ∙ sound)
 
 -- a fault that came behind others, where it is a refusal the first
 pub part_refused : {V : Type 0} (r : Result V Fault) (fault : Fault) (P : Refusal → Type 0)
@@ -267,4 +286,60 @@ rescues o window source sdp ways gave ended f files begun s wanted shown shown' 
           (said_if (said_behind sdp octets) x.part) s
           (files_datagrams ways octets ++ datagrams_if x.part) r is_window is_source
           (x.stands octets tell) (λ text is. is) is;
+    }
+
+-- ---- a first part of the receiver that took them is written
+
+holding : {A : Type 0} (o : Asked A) (window source : List ℕ) (Is : List ℕ → Type 0)
+    (said : Option (List ℕ)) (s : Intake A) (ds : List (List ℕ))
+    → AreTimestamps window o.window.items → IsSourceText source o.ssrc → Stands o (Some s) said ds
+    → ((text : List ℕ) → Is text → said ≡ Some text)
+    → IsOpenedHolding window source Is ds s.receiver
+holding o window source Is None s ds is_window is_source stands opens = absurd stands
+holding o window source Is (Some said) s ds is_window is_source stands opens = record {
+  window_is = subst (λ (w : List ℕ). AreTimestamps window w) (sym stands.window) is_window;
+  source_is = subst (λ (p : Option ℕ). IsSourceText source p) (sym stands.ssrc) is_source;
+  announced = λ text is.
+      subst (λ (t : List ℕ). AnnouncesStream t s.receiver.opening)
+      (some_is said text (opens text is)) stands.announced;
+  holds = stands.holds;
+}
+
+pub of_files : {S A : Type 0} (o : Asked A) (window source : List ℕ) (sdp : Option (List ℕ))
+    (ways : List (Result Flows Refusal)) (f : S → List ℕ → Type 0) (files : List S)
+    (begun : Option (Intake A)) (s : Intake A)
+    → AreTimestamps window o.window.items → IsSourceText source o.ssrc
+    → Stands o begun sdp [] → TakesFiles o ways f files begun (Some s)
+    → IsReceiverOfFiles window source sdp ways f files s.receiver
+of_files o window source sdp ways f files begun s is_window is_source begins taken =
+    λ octets tell.
+    holding o window source (λ text. said_behind sdp octets ≡ Some text)
+    (said_behind sdp octets) s (files_datagrams ways octets) is_window is_source
+    (taken.0.stands octets sdp [] tell begins) (λ text is. is)
+
+pub of_part : {S A : Type 0} (o : Asked A) (window source : List ℕ) (sdp : Option (List ℕ))
+    (ways : List (Result Flows Refusal)) (gave : S → List ℕ) (ended : S → Type 0) (f : Fault)
+    (files : List (S × S)) (begun : Option (Intake A)) (s : Intake A)
+    → AreTimestamps window o.window.items → IsSourceText source o.ssrc
+    → Stands o begun sdp [] → TakesFilesUpTo o ways gave ended f files begun (Some s)
+    → IsReceiverOfPart window source sdp ways gave ended files s.receiver
+of_part o window source sdp ways gave ended f files begun s is_window is_source begins up =
+    let w : Way = way_at ways (length up.front) in
+    let x : PartStands o ways w gave ended f up.front up.at sdp s =
+    part_stands o ways w gave ended f up.front up.at sdp begun up.between s begins up.whole up.part
+    in
+    record {
+      front = up.front;
+      at = up.at;
+      behind = up.behind;
+      parts = up.parts;
+      fault = f;
+      part = x.part;
+      part_is = x.part_is;
+      held = λ octets tell.
+          holding o window source
+          (λ text. said_if (said_behind sdp octets) x.part ≡ Some text)
+          (said_if (said_behind sdp octets) x.part) s
+          (files_datagrams ways octets ++ datagrams_if x.part) is_window is_source
+          (x.stands octets tell) (λ text is. is);
     }

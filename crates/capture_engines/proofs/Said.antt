@@ -1,18 +1,25 @@
 -- What is received of captures, by an SDP text that was read of a source.
 use Rattle.std.proofs.Common.{◌≡◌, ◌∙◌, ℕ, inl, inr, List, [], ◌∷◌, ◌++◌, Bool}
-use Rattle.std.proofs.Common.{Option, None, Some, refl, sym, ap, subst}
-use Rattle.std.specs.Prelude.{MatchOption, ⊤}
+use Rattle.std.proofs.Common.{Option, None, Some, false, refl, sym, ap, subst}
+use Rattle.std.specs.Prelude.{Err, IfErr, IsTrue, MatchOption, Ok, OnErr, Result, ⊤}
 use Rattle.std.specs.List.{flat_map}
 use Rattle.media_file.specs.Records.{Entry}
+use Rattle.path_receiver.specs.Frames.{State}
+use Rattle.run_outcome.specs.Moments.{WasRead, pair}
+use Rattle.run_outcome.specs.States.{SavesPart}
+use Rattle.run_outcome.specs.Text.{GivesFew}
 use Rattle.run_outcome.specs.TextRefusals.{GivesAbove}
 use Rattle.run_outcome.specs.declared.refusal.Refusal.{Refusal}
 use Rattle.run_outcome.specs.declared.refusal.Refusal.TheVariants as why
 use Rattle.capture_engines.specs.Files.{capture_datagrams, files_datagrams, octets_of}
 use Rattle.capture_engines.specs.Received.{AskFor, GivenOpens, IsGivenRefusal, IsOpeningRefusal}
 use Rattle.capture_engines.specs.Received.{IsReceiveRefusal, IsReceivingRefusal, Opens}
-use Rattle.capture_engines.specs.Taking.{IsOpeningText, IsSaidText, IsShortText, Receives}
+use Rattle.capture_engines.specs.Rescued.{IsReceiverOfAny}
+use Rattle.capture_engines.specs.Taking.{IsOpenedHolding, IsOpeningText, IsReceiverOfRun, IsSaidText}
+use Rattle.capture_engines.specs.Taking.{IsShortText, Receives}
 use Rattle.capture_engines.specs.Taking.{ReceivesFiles, SavesHolding, said_behind}
 use Rattle.capture_engines.proofs.FirstRefused.{first_given}
+use Rattle.capture_engines.proofs.Rescues.{never, part_map}
 use Rattle.capture_engines.proofs.Untaken.{records_alone}
 
 -- a receiver is opened by the text that was read of the source
@@ -73,6 +80,50 @@ said_receives window source sdp said told captures wanted shown shown' old new i
       short = short_said told sdp said is;
       whole = by_text.whole;
     }
+
+-- a receiver of which a first part was written
+said_holding : {S : Type 0} (window source : List ℕ) (sdp : Option (S × S))
+    (said : Option (List ℕ)) (gave : S → List ℕ) (ended : S → Type 0) (captures : List (S × S))
+    → IsSaidText (WasRead gave ended) sdp said → (s : State)
+    → IsReceiverOfAny false window source said [] gave ended captures s
+    → IsReceiverOfRun window source sdp (WasRead gave ended) captures s
+said_holding window source sdp said gave ended captures is s (inl held) = λ octets tell.
+    subst (λ (ds : List (List ℕ)). IsOpenedHolding window source
+    (IsOpeningText (WasRead gave ended) sdp octets) ds s) (captures_are octets)
+    (let h = held octets tell in
+    record {
+      window_is = h.window_is;
+      source_is = h.source_is;
+      announced = λ text opening.
+          h.announced text (opens (WasRead gave ended) sdp said octets text is opening);
+      holds = h.holds;
+    })
+said_holding window source sdp said gave ended captures is s (inr sound) =
+    absurd (never sound.0)
+
+pub said_part : {V E S X : Type 0} (r : Result V E) (o : Option X) (window source : List ℕ)
+    (sdp : Option (S × S)) (said : Option (List ℕ)) (gave : S → List ℕ) (ended : S → Type 0)
+    (captures : List (S × S)) (old new : List ℕ) (Is : E → X → Type 0)
+    → IsSaidText (WasRead gave ended) sdp said
+    → OnErr r (MatchOption o (SavesPart (IsReceiverOfAny false window source said [] gave ended
+    captures) old new) (λ _. ⊤))
+    → IfErr r (λ f. MatchOption o ⊤ (λ x. IsTrue false × Is f x))
+    → OnErr r (SavesPart (IsReceiverOfRun window source sdp (WasRead gave ended) captures) old new)
+said_part (Ok v) o window source sdp said gave ended captures old new Is is part rescued = tt
+said_part (Err e) None window source sdp said gave ended captures old new Is is part rescued =
+    part_map (IsReceiverOfAny false window source said [] gave ended captures)
+    (IsReceiverOfRun window source sdp (WasRead gave ended) captures) old new
+    (said_holding window source sdp said gave ended captures is) part
+said_part (Err e) (Some x) window source sdp said gave ended captures old new Is is part rescued =
+    absurd (never rescued.0)
+
+-- memory was wanted for a text that was read of a source
+pub wants_given : {S : Type 0} (gave : S → List ℕ) (sdp : Option S) (source now : S)
+    → sdp ≡ Some source → GivesFew 16777216 (gave source) (gave now)
+    → MatchOption (pair sdp (Some now)) ⊥ (λ s. GivesFew 16777216 (gave s.0) (gave s.1))
+wants_given {S} gave sdp source now some few =
+    subst (λ (x : Option S). MatchOption (pair x (Some now)) ⊥
+    (λ s. GivesFew 16777216 (gave s.0) (gave s.1))) (sym some) few
 
 -- ---- refusals
 

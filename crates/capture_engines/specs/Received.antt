@@ -16,10 +16,11 @@ use Rattle.recording_reader.specs.Files.{AreFirst, IsFileFault, IsFrontFault, re
 use Rattle.recording_reader.specs.Kinds.{is_recording}
 use Rattle.recording_reader.specs.declared.fault.ReadingFault.TheVariants.{Recording}
 use Rattle.sdp_format.specs.Bytes.{lines}
-use Rattle.sdp_format.specs.Grammar.{IsDescribed, IsTextFault}
-use Rattle.sdp_format.specs.Sections.{Description, video_sections}
+use Rattle.sdp_format.specs.Grammar.{IsTextFault}
+use Rattle.sdp_format.specs.Reading.{WantsMemory}
+use Rattle.sdp_format.specs.Sections.{video_sections}
 use Rattle.run_outcome.specs.Timestamps.{AreTimestamps}
-use Rattle.run_outcome.specs.TextRefusals.{GivesAbove}
+use Rattle.run_outcome.specs.TextRefusals.{GivesAbove, IsSdp}
 use Rattle.capture_engines.specs.Files.{AreReadWhole, HasFileText, first_way, flows_in, other_ways}
 use Rattle.capture_engines.specs.Files.{way_at}
 use Rattle.capture_engines.specs.Taking.{IsShortText}
@@ -53,10 +54,6 @@ AskFor window ssrc ts = AreTimestamps window ts × ((pin : Option ℕ) × IsSour
 
 -- ---- opening a receiver
 
--- a text describes a video
-abbrev pub IsSdp : List ℕ → Type 0
-IsSdp text = (d : Description) × IsDescribed (video_sections (lines text)) d
-
 -- a receiver is opened by an SDP text: it describes a video, and the window is one
 pub record Opens (window text : List ℕ) : Type 0 where
   pub sdp : IsSdp text
@@ -74,6 +71,12 @@ abbrev pub IsOpeningRefusal : List ℕ → List ℕ → Refusal → Type 0
 IsOpeningRefusal window text (refusal.Sdp at) = IsTextFault (video_sections (lines text)) at.fault
 IsOpeningRefusal window text (refusal.Open e) = IsSdp text × IsWindowFault window e
 IsOpeningRefusal window text r = ⊥
+
+-- Memory is wanted to open a receiver by an SDP text: for what the text says; or for the receiver,
+-- where the text describes a video and the window has no fault.
+abbrev pub WantsOpening : List ℕ → List ℕ → Type 0
+WantsOpening window text = WantsMemory (video_sections (lines text))
+    ⊎ (IsSdp text × ((e : OpenFault) → IsWindowFault window e → ⊥))
 
 -- The refusals of an SDP text that was read: that it is too long; else of opening by it.
 abbrev pub IsGivenRefusal : List ℕ → (List ℕ → Type 0) → Refusal → Type 0

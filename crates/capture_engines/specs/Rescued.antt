@@ -1,7 +1,8 @@
 -- What `receive` saves of files of which one is at fault (own).
 use Rattle.std.specs.Prelude.{◌≡◌, ◌⊎◌, ◌∷◌, ◌++◌, ℕ, Bool, List, [], Option, None, Some, Result}
-use Rattle.std.specs.Prelude.{length, false, MatchOption, ⊤}
+use Rattle.std.specs.Prelude.{length, false, IsTrue, MatchOption, ⊤}
 use Rattle.flow.specs.declared.flows.Flows.{Flows}
+use Rattle.path_receiver.specs.Frames.{State}
 use Rattle.run_outcome.specs.Fault.{Blames, Failures, NoneFailed}
 use Rattle.run_outcome.specs.Moments.{WasRead}
 use Rattle.run_outcome.specs.Refusing.{OfRefusal}
@@ -13,7 +14,8 @@ use Rattle.st_format.specs.History.{since}
 use Rattle.capture_engines.specs.Counted.{CountsHolding}
 use Rattle.capture_engines.specs.Files.{file_datagrams, files_datagrams, way_at}
 use Rattle.capture_engines.specs.Received.{IsFirstFilesRefusal}
-use Rattle.capture_engines.specs.Taking.{AreRead, SavesHolding, TakesFiles, TakesRecords}
+use Rattle.capture_engines.specs.Taking.{AreRead, IsOpenedHolding, IsReceiverOfFiles, SavesHolding}
+use Rattle.capture_engines.specs.Taking.{TakesFiles, TakesRecords}
 use Rattle.capture_engines.specs.Taking.{said_behind, said_by}
 use Rattle.capture_engines.specs.declared.intake.Intake.{Intake}
 use Rattle.capture_engines.specs.declared.receiving.Asked.{Asked}
@@ -107,3 +109,28 @@ pub record Rescues {S : Type 0} (window source : List ℕ) (sdp : Option (List �
   pub counted : (octets : List (List ℕ)) → AreRead (WasRead gave ended) front octets
       → CountsHolding window source (λ text. said_if (said_behind sdp octets) part ≡ Some text)
       (files_datagrams ways octets ++ datagrams_if part) r
+
+-- ---- a receiver of which a first part was written
+
+-- a receiver is that of files of which one came to a fault, by what was read before the fault
+pub record IsReceiverOfPart {S : Type 0} (window source : List ℕ) (sdp : Option (List ℕ))
+    (ways : List (Result Flows Refusal)) (gave : S → List ℕ) (ended : S → Type 0)
+    (files : List (S × S)) (receiver : State) : Type 0 where
+  pub front : List (S × S)
+  pub at : S × S
+  pub behind : List (S × S)
+  pub parts : files ≡ front ++ at ∷ behind
+  pub fault : Fault
+  pub part : Option Front
+  pub part_is : MatchOption part ⊤
+      (IsFrontOf (way_at ways (length front)) gave ended fault at)
+  pub held : (octets : List (List ℕ)) → AreRead (WasRead gave ended) front octets
+      → IsOpenedHolding window source (λ text. said_if (said_behind sdp octets) part ≡ Some text)
+      (files_datagrams ways octets ++ datagrams_if part) receiver
+
+-- a receiver is that of all files; or, where what is before a fault is saved too, of those
+abbrev pub IsReceiverOfAny : {S : Type 0} → Bool → List ℕ → List ℕ → Option (List ℕ)
+    → List (Result Flows Refusal) → (S → List ℕ) → (S → Type 0) → List (S × S) → State → Type 0
+IsReceiverOfAny is_sound window source sdp ways gave ended files receiver =
+    IsReceiverOfFiles window source sdp ways (WasRead gave ended) files receiver
+    ⊎ (IsTrue is_sound × IsReceiverOfPart window source sdp ways gave ended files receiver)

@@ -188,3 +188,28 @@ pub record ReceivesFiles {S : Type 0} (window source : List ℕ) (sdp : Option (
       (files_datagrams ways octets) wanted shown shown' old new
   pub opened : sdp ≡ None → files ≡ [] → ⊥
   pub whole : AreReadWhole ways told files
+
+-- ---- a receiver of which a first part was written
+
+-- A receiver was opened with this window and source, and by the SDP text that is so, and was given
+-- these datagrams, of which it holds the Frames.
+pub record IsOpenedHolding (window source : List ℕ) (IsText : List ℕ → Type 0)
+    (datagrams : List (List ℕ)) (receiver : State) : Type 0 where
+  pub window_is : AreTimestamps window receiver.opening.window
+  pub source_is : IsSourceText source receiver.opening.ssrc
+  pub announced : (text : List ℕ) → IsText text → AnnouncesStream text receiver.opening
+  pub holds : Holds receiver datagrams
+
+-- a receiver is that of a run, by what was read of the captures
+abbrev pub IsReceiverOfRun : {S : Type 0} → List ℕ → List ℕ → Option S → (S → List ℕ → Type 0)
+    → List S → State → Type 0
+IsReceiverOfRun window source sdp told captures receiver = (octets : List (List ℕ))
+    → AreRead told captures octets → IsOpenedHolding window source (IsOpeningText told sdp octets)
+    (flat_map capture_datagrams octets) receiver
+
+-- the same of files, each taken so, where the SDP text is given itself
+abbrev pub IsReceiverOfFiles : {S : Type 0} → List ℕ → List ℕ → Option (List ℕ)
+    → List (Result Flows Refusal) → (S → List ℕ → Type 0) → List S → State → Type 0
+IsReceiverOfFiles window source sdp ways told files receiver = (octets : List (List ℕ))
+    → AreRead told files octets → IsOpenedHolding window source
+    (λ text. said_behind sdp octets ≡ Some text) (files_datagrams ways octets) receiver

@@ -1,7 +1,7 @@
 //! Taking the datagrams of files into one receiver.
 ghost use Rattle.std.specs.Prelude.{◌≡◌, ◌<◌, ◌∷◌, [], length, option_to_list, IfErr, IfOk, OnOk};
 ghost use Rattle.capture_engines.specs.Files.{octets_of};
-ghost use Rattle.capture_engines.specs.Received.{IsOpeningRefusal, Opens};
+ghost use Rattle.capture_engines.specs.Received.{IsOpeningRefusal, Opens, WantsOpening};
 ghost use Rattle.capture_engines.specs.Stopping.{IsReadingStop, IsWithinTaken};
 ghost use Rattle.capture_engines.specs.Taking.{AnnouncesStream, TakesDatagrams};
 ghost use Rattle.path_receiver.specs.Tallied.{Tallies};
@@ -41,6 +41,7 @@ impl<A: Allocator + Copy> Intake<A> {
         ensures opens { OnOk result (Opens window.now sdp.now) }
         ensures refusal { IfErr result (λ f. OfRefusal f
             (IsOpeningRefusal window.now sdp.now)) }
+        ensures memory { IfErr result (λ f. f ≡ Fault.Memory → WantsOpening window.now sdp.now) }
         ensures failures { Accounts result [] }
     {
         let said = read_located(alloc, sdp)?;

@@ -17,6 +17,7 @@ pub(crate) fn print_tally<O: ByteSink>(tally: &Tally, output: &mut O) -> Result<
         (O.took output.new ≡ O.took output.old ++ tally_text tally.now) }
     ensures cut { OnErr result
         (GrowsPart (O.took output.old) (O.took output.new) (tally_text tally.now)) }
+    ensures device { IfErr result (λ f. f ≡ Fault.Device) }
     ensures unrefused { IfErr result (λ f. IfRefused f ⊥) }
     ensures failures { Accounts result (counts (O.failures output.old) (O.failures output.new)
         ∷ []) }
@@ -31,6 +32,7 @@ fn print_refusals<O: ByteSink>(refused: &[u64; REFUSAL_COUNT], output: &mut O) -
         ++ flat_map (refusal_line refused.now) all_refusals) }
     ensures cut { OnErr result (GrowsPart (O.took output.old) (O.took output.new)
         (flat_map (refusal_line refused.now) all_refusals)) }
+    ensures device { IfErr result (λ f. f ≡ Fault.Device) }
     ensures unrefused { IfErr result (λ f. IfRefused f ⊥) }
     ensures failures { Accounts result (counts (O.failures output.old) (O.failures output.new)
         ∷ []) }
@@ -48,6 +50,7 @@ fn print_counted<O: ByteSink>(line: Line, count: u64, output: &mut O) -> Result<
         (O.took output.new ≡ O.took output.old ++ counted_line count line) }
     ensures cut { OnErr result
         (GrowsPart (O.took output.old) (O.took output.new) (counted_line count line)) }
+    ensures device { IfErr result (λ f. f ≡ Fault.Device) }
     ensures unrefused { IfErr result (λ f. IfRefused f ⊥) }
     ensures failures { Accounts result (counts (O.failures output.old) (O.failures output.new)
         ∷ []) }

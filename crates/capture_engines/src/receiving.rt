@@ -14,14 +14,16 @@ ghost use Rattle.run_outcome.specs.Fault.{Accounts, IfRefused, counts, failures_
 ghost use Rattle.capture_engines.specs.Received.{FileOpens, IsBehindWindow, IsFirstFilesRefusal};
 ghost use Rattle.capture_engines.specs.Received.{IsFirstWordRefusal, IsFrontRefusal};
 ghost use Rattle.capture_engines.specs.Received.{IsOpeningRefusal, IsReceiveRefusal, IsTurnRefusal};
-ghost use Rattle.capture_engines.specs.Received.{IsWordRefusal, Opens};
+ghost use Rattle.capture_engines.specs.Received.{IsWordRefusal, Opens, WantsOpening};
 ghost use Rattle.capture_engines.specs.Receiving.{SavesShown};
 ghost use Rattle.run_outcome.specs.Refusing.{OfRefusal};
 ghost use Rattle.capture_engines.specs.Sent.{FirstIs};
-ghost use Rattle.capture_engines.specs.Taking.{HoldsBy, IsSaidText, IsShortText, Receives};
+ghost use Rattle.capture_engines.specs.Taking.{HoldsBy, IsReceiverOfRun, IsSaidText};
+ghost use Rattle.capture_engines.specs.Taking.{IsShortText, Receives};
 ghost use Rattle.capture_engines.specs.Taking.{Stands, TakesFile, TakesFiles, TakesRecords};
 ghost use Rattle.run_outcome.specs.Sources.{IsSourceText};
 ghost use Rattle.run_outcome.specs.States.{SavesPart};
+ghost use Rattle.run_outcome.specs.Text.{GivesFew};
 ghost use Rattle.run_outcome.specs.TextRefusals.{GivesAbove};
 ghost use Rattle.run_outcome.specs.Timestamps.{AreTimestamps};
 ghost use Rattle.run_outcome.specs.declared.refusal.Refusal.TheVariants.{ReceiveSdp};
@@ -111,10 +113,15 @@ where
         wanted.entry.tells_refusals
         (O.took output.old) (O.took output.new) (K.took state.old) (K.took state.new)) }
     // Where it fails, the receiver isn't all written.
-    ensures part { OnErr result (SavesPart (K.took state.old) (K.took state.new)) }
+    ensures part { OnErr result (SavesPart (IsReceiverOfRun wanted.entry.window.now
+        wanted.entry.ssrc.now (pair sdp.old sdp.new) (WasRead S.gave S.ended)
+        (zip captures.old captures.new)) (K.took state.old) (K.took state.new)) }
     ensures refused { IfErr result (λ f. IfRefused f (state.new ≡ state.old)) }
     // A refusal comes before anything is printed.
     ensures quiet { IfErr result (λ f. IfRefused f (output.new ≡ output.old)) }
+    // So memory is wanted.
+    ensures memory { IfErr result (λ f. f ≡ Fault.Memory
+        → (state.new ≡ state.old) × (output.new ≡ output.old)) }
     ensures refusal { IfErr result (λ f. OfRefusal f (IsReceiveRefusal wanted.entry.window.now
         wanted.entry.ssrc.now (pair sdp.old sdp.new) (WasRead S.gave S.ended)
         (zip captures.old captures.new))) }
@@ -150,6 +157,9 @@ fn read_said<A: Allocator, S: ByteSource>(
     ensures refusal { IfErr result (λ f. OfRefusal f (λ r. (r ≡ ReceiveSdp)
         × MatchOption (pair sdp.old sdp.new) ⊥
         (λ s. GivesAbove 16777216 (WasRead S.gave S.ended s)))) }
+    // Without a source, and for a text that is too long, no memory is wanted.
+    ensures memory { IfErr result (λ f. f ≡ Fault.Memory → MatchOption (pair sdp.old sdp.new) ⊥
+        (λ s. GivesFew 16777216 (S.gave s.0) (S.gave s.1))) }
     ensures failures { Accounts result (counts (failures_in S.failures sdp.old)
         (failures_in S.failures sdp.new) ∷ []) }
 {
@@ -169,6 +179,8 @@ fn read_given<A: Allocator, S: ByteSource>(alloc: A, source: &mut S) -> Result<V
         × IsShortText (IsRead (S.gave source.old) (S.gave source.new) (S.ended source.new))) }
     ensures refusal { IfErr result (λ f. OfRefusal f (λ r. (r ≡ ReceiveSdp) × GivesAbove 16777216
         (IsRead (S.gave source.old) (S.gave source.new) (S.ended source.new)))) }
+    ensures memory { IfErr result (λ f. f ≡ Fault.Memory
+        → GivesFew 16777216 (S.gave source.old) (S.gave source.new)) }
     ensures failures { Accounts result (counts (S.failures source.old) (S.failures source.new)
         ∷ []) }
 {
@@ -218,6 +230,8 @@ pub(crate) fn begin<A: Allocator + Copy>(
         (λ text. Opens opening.now.window.items text)) }
     ensures refusal { IfErr result (λ f. OfRefusal f (λ r. MatchOption (option_copied sdp.entry) ⊥
         (λ text. IsOpeningRefusal opening.now.window.items text r))) }
+    ensures memory { IfErr result (λ f. f ≡ Fault.Memory → MatchOption (option_copied sdp.entry) ⊥
+        (λ text. WantsOpening opening.now.window.items text)) }
     ensures failures { Accounts result [] }
 {
     match sdp {
@@ -238,6 +252,8 @@ fn open_by<A: Allocator + Copy>(
     ensures opens { OnOk result (Opens opening.now.window.items said.now) }
     ensures refusal { IfErr result (λ f. OfRefusal f
         (IsOpeningRefusal opening.now.window.items said.now)) }
+    ensures memory { IfErr result (λ f. f ≡ Fault.Memory
+        → WantsOpening opening.now.window.items said.now) }
     ensures failures { Accounts result [] }
 {
     Intake::open(alloc, said, opening.ssrc, &opening.window)
@@ -382,6 +398,10 @@ fn take_opened<A: Allocator + Copy, S: ByteSource>(
     ensures opens { OnOk result (begun.old ≡ None → Opens opening.now.window.items text.now) }
     ensures refusal { IfErr result (StopsOpened opening.now.window.items text.now
         (begun.old ≡ None) reader.new.standing (length reader.new.records)) }
+    // Where a receiver is open, memory is wanted only if the reader says so.
+    ensures memory { IfErr result (λ f. f ≡ Fault.Memory
+        → IsReadingStop reader.new.standing (length reader.new.records) f
+        ⊎ ((begun.old ≡ None) × WantsOpening opening.now.window.items text.now)) }
     ensures same { IsSameFile reader.old reader.new }
     ensures failures { Accounts result (counts (S.failures reader.old.source)
         (S.failures reader.new.source) ∷ []) }
@@ -405,6 +425,9 @@ fn open_by_text<A: Allocator + Copy>(
     ensures opens { OnOk result (Opens opening.now.window.items said.now) }
     ensures refusal { IfErr result (λ f. OfRefusal f
         (IsFrontRefusal opening.now.window.items said.now)) }
+    // Where there is no text no memory is wanted: none is wanted to open by that.
+    ensures memory { IfErr result (λ f. f ≡ Fault.Memory
+        → WantsOpening opening.now.window.items said.now) }
     ensures failures { Accounts result [] }
 {
     if said.is_empty() {

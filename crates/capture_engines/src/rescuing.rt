@@ -8,7 +8,7 @@ ghost use Rattle.capture_engines.specs.Counted.{CountsReceived};
 ghost use Rattle.capture_engines.specs.Printed.{if_wanted, received_text, tally_text};
 ghost use Rattle.capture_engines.specs.Received.{IsFirstFilesRefusal, IsReceivingRefusal};
 ghost use Rattle.capture_engines.specs.Receiving.{SavesShown};
-ghost use Rattle.capture_engines.specs.Rescued.{IsRescue, RescueAccounts, Rescues};
+ghost use Rattle.capture_engines.specs.Rescued.{IsReceiverOfAny, IsRescue, RescueAccounts, Rescues};
 ghost use Rattle.capture_engines.specs.Taking.{ReceivesFiles};
 ghost use Rattle.media_file.specs.StateFile.{state_text};
 ghost use Rattle.receiver_file.specs.Saved.{IsWritable, kept_of};
@@ -86,13 +86,18 @@ where
         (option_copied sdp.entry) ways.now S.gave S.ended f (zip files.old files.new)
         wanted.entry.tells_refusals
         (O.took output.old) (O.took output.new) (K.took state.old) (K.took state.new) r)) }
-    // Where nothing is answered and it fails, a receiver isn't all written.
-    ensures part { OnErr result (MatchOption reception.new
-        (SavesPart (K.took state.old) (K.took state.new)) (λ _. ⊤)) }
+    // Where nothing is answered and it fails, the receiver isn't all written.
+    ensures part { OnErr result (MatchOption reception.new (SavesPart (IsReceiverOfAny is_sound
+        wanted.entry.window.now wanted.entry.ssrc.now (option_copied sdp.entry) ways.now
+        S.gave S.ended (zip files.old files.new)) (K.took state.old) (K.took state.new))
+        (λ _. ⊤)) }
     ensures refused { IfErr result (λ f. IfRefused f (IsFalse is_sound
         → state.new ≡ state.old)) }
     ensures quiet { IfErr result (λ f. IfRefused f (IsFalse is_sound
         → output.new ≡ output.old)) }
+    // Else memory is wanted before anything is printed or written too.
+    ensures memory { IfErr result (λ f. f ≡ Fault.Memory → IsFalse is_sound
+        → (state.new ≡ state.old) × (output.new ≡ output.old)) }
     ensures refusal { IfErr result (λ f. OfRefusal f (IsReceivingRefusal wanted.entry.window.now
         wanted.entry.ssrc.now (option_copied sdp.entry) ways.now (WasRead S.gave S.ended)
         (zip files.old files.new))) }
@@ -130,10 +135,13 @@ fn put_out<A: Allocator, K: ByteSink, O: ByteSink>(
     ensures counted { OnOk result (reception.new
         ≡ Some (record { delivered = intake.delivered; tally = intake.tally })) }
     ensures none { OnErr result (reception.new ≡ reception.old) }
-    ensures part { OnErr result (SavesPart (K.took state.old) (K.took state.new)) }
+    ensures part { OnErr result (SavesPart (λ r. r ≡ intake.receiver)
+        (K.took state.old) (K.took state.new)) }
     ensures refused { IfErr result (λ f. IfRefused f (state.new ≡ state.old)) }
     ensures quiet { IfErr result (λ f. IfRefused f (output.new ≡ output.old)) }
     ensures unrefused { IfErr result (λ f. IfRefused f ⊥) }
+    // No memory is asked for.
+    ensures device { IfErr result (λ f. f ≡ Device) }
     ensures failures { Accounts result (counts (K.failures state.old) (K.failures state.new)
         ∷ counts (O.failures output.old) (O.failures output.new) ∷ []) }
 {
@@ -165,8 +173,8 @@ fn put_part<A: Allocator, K: ByteSink, O: ByteSink>(
         intake.receiver) }
     ensures whole { MatchOption reception.new ⊤
         (λ _. K.took state.new ≡ K.took state.old ++ state_text (kept_of intake.receiver)) }
-    ensures part { MatchOption reception.new
-        (SavesPart (K.took state.old) (K.took state.new)) (λ _. ⊤) }
+    ensures part { MatchOption reception.new (SavesPart (λ r. r ≡ intake.receiver)
+        (K.took state.old) (K.took state.new)) (λ _. ⊤) }
     ensures counted { MatchOption reception.new ⊤
         (λ r. r ≡ record { delivered = intake.delivered; tally = intake.tally }) }
     ensures refused { IfErr result (λ f. IfRefused f (f ≡ fault)) }
@@ -233,6 +241,7 @@ fn print_intake<A: Allocator, O: ByteSink>(
         ++ received_text tells_refusals intake.now.delivered (tally_text intake.now.tally)
         intake.now.receiver) }
     ensures unrefused { IfErr result (λ f. IfRefused f ⊥) }
+    ensures device { IfErr result (λ f. f ≡ Device) }
     ensures failures { Accounts result (counts (O.failures output.old) (O.failures output.new)
         ∷ []) }
 {
@@ -246,6 +255,7 @@ fn print_wanted<O: ByteSink>(tally: &Tally, is_wanted: bool, output: &mut O) -> 
     ensures printed { OnOk result
         (O.took output.new ≡ O.took output.old ++ if_wanted is_wanted (tally_text tally.now)) }
     ensures unrefused { IfErr result (λ f. IfRefused f ⊥) }
+    ensures device { IfErr result (λ f. f ≡ Device) }
     ensures failures { Accounts result (counts (O.failures output.old) (O.failures output.new)
         ∷ []) }
 {

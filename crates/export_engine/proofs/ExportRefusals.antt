@@ -1,5 +1,5 @@
 -- Which refusal ends a run of `export`, and what it leaves.
-use Rattle.std.proofs.Common.{ℕ, List, Option, inl, inr, Result, Ok, Err}
+use Rattle.std.proofs.Common.{◌≡◌, ℕ, List, Option, inl, inr, Result, Ok, Err, subst}
 use Rattle.std.specs.Prelude.{IfErr}
 use Rattle.st_format.specs.Device.{AreOctets}
 use Rattle.st_format.specs.History.{IsRead}
@@ -19,7 +19,7 @@ use Rattle.run_outcome.specs.declared.fault.Fault.TheVariants as fault
 use Rattle.run_outcome.specs.declared.refusal.Refusal.{Refusal}
 use Rattle.run_outcome.specs.declared.refusal.Refusal.TheVariants as why
 use Rattle.export_engine.specs.ExportRefused.{IsExportRefusal, IsReadRefusal}
-use Rattle.export_engine.specs.Exported.{Exports, LeavesExport, LeavesRecording}
+use Rattle.export_engine.specs.Exported.{Exports, IsUntouched, LeavesExport, LeavesRecording}
 use Rattle.export_engine.specs.Exported.{StopsExport}
 use Rattle.export_engine.specs.Packets.{AreEnvelopes}
 use Rattle.export_engine.specs.declared.packets.ExportCounts.{ExportCounts}
@@ -106,3 +106,12 @@ unsaid_left (Err fault.Device) a b counts before now ended took took' all none =
     inr (counts, all)
 unsaid_left (Err fault.Memory) a b counts before now ended took took' all none =
     inr (counts, all)
+
+-- ---- want of memory
+
+-- where it is wanted, nothing was read or written
+pub untouched_by : (f : Fault) (es : Envelopes) (before now : List ℕ) (ended : Type 0)
+    (took took' : List ℕ) → LeavesRecording f es before now ended took took' → f ≡ fault.Memory
+    → IsUntouched before now took took'
+untouched_by f es before now ended took took' left memory =
+    subst (λ (x : Fault). LeavesRecording x es before now ended took took') memory left

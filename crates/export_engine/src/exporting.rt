@@ -9,8 +9,8 @@ ghost use Rattle.run_outcome.specs.declared.refusal.Refusal.TheVariants.{ExportF
 ghost use Rattle.export_engine.specs.Packets.{AreEnvelopes};
 ghost use Rattle.export_engine.specs.declared.places.Envelopes.{Envelopes};
 ghost use Rattle.export_engine.specs.ExportRefused.{IsExportRefusal, IsReadRefusal};
-ghost use Rattle.export_engine.specs.Exported.{ExportsCapture, LeavesExport, LeavesRecording};
-ghost use Rattle.export_engine.specs.Exported.{PrintsExported};
+ghost use Rattle.export_engine.specs.Exported.{ExportsCapture, IsUntouched, LeavesExport};
+ghost use Rattle.export_engine.specs.Exported.{LeavesRecording, PrintsExported};
 
 use crate::packets::{ExportCounts, PACKET, write_recording};
 use crate::places::Envelopes;
@@ -67,6 +67,11 @@ where
         (S.gave capture.old) (S.gave capture.new) (S.ended capture.new)
         (K.took sink.old) (K.took sink.new)) }
     ensures quiet { IfErr result (λ f. IfRefused f (output.new ≡ output.old)) }
+    // Memory is wanted where the words are flows, before anything is read, written or printed.
+    ensures memory { IfErr result (λ f. f ≡ Fault.Memory
+        → ((es : Envelopes) × AreEnvelopes wanted.entry.a.now (option_copied wanted.entry.b) es)
+        × IsUntouched (S.gave capture.old) (S.gave capture.new) (K.took sink.old) (K.took sink.new)
+        × (output.new ≡ output.old)) }
     ensures failures { Accounts result (counts (S.failures capture.old) (S.failures capture.new)
         ∷ counts (K.failures sink.old) (K.failures sink.new)
         ∷ counts (O.failures output.old) (O.failures output.new) ∷ []) }

@@ -1,7 +1,7 @@
 -- Which refusal ends a run of `export --paced`, and what it leaves.
-use Rattle.std.proofs.Common.{◌≡◌, ℕ, List, Option, inl, inr, Result, Ok, Err, sym, ap, ◌++◌, ◌∙◌}
+use Rattle.std.proofs.Common.{◌≡◌, ℕ, List, Option, inl, inr, Ok, Err, sym, ap, ◌++◌, ◌∙◌}
 use Rattle.std.proofs.Common.{append_assoc, append-nil, refl, subst}
-use Rattle.std.specs.Prelude.{◌⊎◌, OnErr, unwrap_or}
+use Rattle.std.specs.Prelude.{◌⊎◌, unwrap_or}
 use Rattle.st_format.specs.History.{IsRead, since}
 use Rattle.st_format.specs.Given.{GaveValue, IfOfContent, OfContent, OfDevice, OfMemory, Origin}
 use Rattle.media_file.specs.Capture.{capture_walk}
@@ -15,7 +15,7 @@ use Rattle.pcap_file.specs.Writing.{file_text}
 use Rattle.st_format.proofs.Histories.{since_is}
 use Rattle.run_outcome.specs.LowerFaults.{capture_fault}
 use Rattle.run_outcome.specs.Refusing.{OfRefusal}
-use Rattle.run_outcome.specs.TextRefusals.{IsDescriptionRefusal}
+use Rattle.run_outcome.specs.TextRefusals.{IsDescriptionRefusal, IsSdp}
 use Rattle.run_outcome.specs.declared.fault.Fault.{Fault}
 use Rattle.run_outcome.specs.declared.fault.Fault.TheVariants as fault
 use Rattle.run_outcome.specs.declared.refusal.Refusal.{Refusal}
@@ -26,7 +26,7 @@ use Rattle.export_engine.specs.Packets.{AreEnvelopes, packets_text, pcap_text}
 use Rattle.export_engine.specs.declared.packets.ExportCounts.{ExportCounts}
 use Rattle.export_engine.specs.declared.places.Envelopes.{Envelopes}
 use Rattle.paced_export.specs.PacedRefused.{HasFrontFault, HasRate, IsAheadRefusal}
-use Rattle.paced_export.specs.PacedRefused.{IsPacedRefusal, IsReadAhead, SaysRate}
+use Rattle.paced_export.specs.PacedRefused.{IsPacedRefusal, IsReadAhead}
 use Rattle.paced_export.specs.Counts.{Counts, counted}
 use Rattle.paced_export.specs.Paced.{count_in_all}
 use Rattle.paced_export.specs.PacedExported.{IsPaceOf, LeavesPacing, PacesCapture, ReadsAhead}
@@ -109,7 +109,7 @@ has_rate a b c text part ended active g more said = λ octets q.
     let x = front_behind a b c text part ended g more octets q in (
       x.0,
       x.1,
-      subst (λ (t : List ℕ). SaysRate t) (sym x.2) (said.sdp, said.described),
+      subst (λ (t : List ℕ). IsSdp t) (sym x.2) (said.sdp, said.described),
     )
 
 -- all of it was read
@@ -243,8 +243,3 @@ pub leaves_all : {Al : Type 0} (es : Envelopes) (p : Pace) (t : FrameCounts Al)
 leaves_all es p t whole before now ended took took' are (Unwritten same) = Unwritten same
 leaves_all es p t whole before now ended took took' are (Stopped f is) =
     Stopped f (stops_all es p t whole f before now ended took took' are is)
-
--- all was written, and printing failed
-pub unsaid_left : {V : Type 0} (r : Result V Fault) (P : Type 0) → P → OnErr r P
-unsaid_left (Ok v) P p = tt
-unsaid_left (Err f) P p = p

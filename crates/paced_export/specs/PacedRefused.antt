@@ -5,10 +5,7 @@ use Rattle.std.specs.Prelude.{◌≡◌, ◌⊎◌, ℕ, List, [], Option, Ok, E
 use Rattle.media_file.specs.Capture.{Content, capture_walk}
 use Rattle.media_file.specs.Fronts.{front_at}
 use Rattle.media_file.specs.declared.fault.FileFault.{FileFault}
-use Rattle.sdp_format.specs.Bytes.{lines}
-use Rattle.sdp_format.specs.Grammar.{IsDescribed}
-use Rattle.sdp_format.specs.Sections.{Description, video_sections}
-use Rattle.run_outcome.specs.TextRefusals.{IsDescriptionRefusal}
+use Rattle.run_outcome.specs.TextRefusals.{IsDescriptionRefusal, IsSdp}
 use Rattle.run_outcome.specs.declared.refusal.Refusal.{Refusal}
 use Rattle.run_outcome.specs.declared.refusal.Refusal.TheVariants as refusal
 use Rattle.export_engine.specs.ExportRefused.{IsReadRefusal}
@@ -25,20 +22,16 @@ IsPacedFrontRefusal told r = (octets : List ℕ) → told octets
 abbrev pub HasFrontFault : (List ℕ → Type 0) → FileFault → Type 0
 HasFrontFault told f = (octets : List ℕ) → told octets → front_at octets ≡ Err f
 
--- a text describes video, and so it says the rate
-abbrev pub SaysRate : List ℕ → Type 0
-SaysRate text = (sdp : Description) × IsDescribed (video_sections (lines text)) sdp
-
--- the text at the front of a capture that was read does
+-- the text at the front of a capture that was read describes a video, and so it says the rate
 abbrev pub HasRate : (List ℕ → Type 0) → Type 0
 HasRate told = (octets : List ℕ) → told octets
-    → (x : List ℕ × List ℕ) × (front_at octets ≡ Ok x) × SaysRate x.0
+    → (x : List ℕ × List ℕ) × (front_at octets ≡ Ok x) × IsSdp x.0
 
 -- all of a capture was read, and its text says the rate
 pub record IsReadAhead (told : List ℕ → Type 0) : Type 0 where
   pub content : Content
   pub read : (octets : List ℕ) → told octets → capture_walk 16777216 octets ≡ Ok (content, [])
-  pub rate : SaysRate content.text
+  pub rate : IsSdp content.text
 
 -- The first refusal of the first reading: of the capture's front; of its text; of what is behind
 -- them, where that says the rate.

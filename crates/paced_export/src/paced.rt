@@ -6,6 +6,7 @@ ghost use Rattle.st_format.specs.History.{IsRead};
 ghost use Rattle.run_outcome.specs.Fault.{Accounts, IfRefused, counts};
 ghost use Rattle.run_outcome.specs.Refusing.{OfRefusal};
 ghost use Rattle.export_engine.specs.ExportRefused.{IsReadRefusal};
+ghost use Rattle.export_engine.specs.Packets.{AreEnvelopes};
 ghost use Rattle.paced_export.specs.Counts.{counted};
 ghost use Rattle.paced_export.specs.PacedExported.{LeavesPaced, LeavesPacing, PacesCapture};
 ghost use Rattle.paced_export.specs.PacedExported.{PrintsPaced};
@@ -79,6 +80,10 @@ where
         (S.gave capture.old) (S.gave capture.new) (S.ended capture.new)
         (K.took sink.old) (K.took sink.new)) }
     ensures quiet { IfErr result (λ f. IfRefused f (output.new ≡ output.old)) }
+    // Memory is wanted where the words are flows, before anything is printed.
+    ensures memory { IfErr result (λ f. f ≡ Fault.Memory → ((es : Envelopes)
+        × AreEnvelopes wanted.entry.flows.a.now (option_copied wanted.entry.flows.b) es)
+        × (output.new ≡ output.old)) }
     ensures failures { Accounts result (counts (S.failures ahead.old) (S.failures ahead.new)
         ∷ counts (S.failures capture.old) (S.failures capture.new)
         ∷ counts (K.failures sink.old) (K.failures sink.new)

@@ -1,6 +1,6 @@
 -- What a capture that is begun at its first datagram writes over a run.
 use Rattle.std.proofs.Common.{◌≡◌, ℕ, Bool, true, false, List, [], ◌∷◌, ◌++◌, append-nil, refl, sym}
-use Rattle.std.proofs.Common.{append_assoc, subst, ◌∙◌, ap, take, Ok, Err, Result, OnErr}
+use Rattle.std.proofs.Common.{append_assoc, subst, ◌∙◌, ap, take, Ok, Err, Result}
 use Rattle.std.specs.Borrow.{GName}
 use Rattle.media_file.specs.Fronts.{front_text}
 use Rattle.media_file.specs.Records.{record_text, records_text}
@@ -18,10 +18,6 @@ use Rattle.st_format.specs.declared.path.Path.TheVariants.{A}
 use Rattle.receiver_engines.specs.Late.{FailsLate, Late, TakesLate, late_octets, late_text}
 use Rattle.receiver_engines.specs.Processing.{WritesJob}
 use Rattle.st_format.proofs.Gave.{grew_twice}
-
-pub on_err : {V E : Type 0} {P : Type 0} (r : Result V E) → P → OnErr r P
-on_err (Ok v) p = tt
-on_err (Err e) p = p
 
 -- what datagrams leave as it was
 pub record Stays {M : Type 0} (failures : M → ℕ) (names : M → List GName)

@@ -1,14 +1,18 @@
 -- Which refusal ends a run of `merge`, of two files and of any number.
 use Rattle.std.proofs.Common.{◌≡◌, ℕ, ◌+◌, ◌<◌, List, inl, inr, drop, get_or, length, take, subst}
-use Rattle.std.proofs.Common.{◌∙◌}
+use Rattle.std.proofs.Common.{◌∙◌, sym}
+use Rattle.std.specs.Prelude.{Err, IfErr, Ok, OnOk, Result}
 use Rattle.path_receiver.specs.Frames.{State}
 use Rattle.receiver_engines.specs.MergeAllRefused.{IsJoinRefusal, IsMergeAllRefusal, IsUnlike}
 use Rattle.receiver_engines.specs.MergeAllRefused.{StopsMerge}
 use Rattle.receiver_engines.specs.MergeRefused.{AreUnlike, IsMergeRefusal}
-use Rattle.receiver_engines.specs.MergedAll.{JoinsEach}
-use Rattle.receiver_engines.specs.Merging.{GivesReceiver, IsAgain, SaysReceiver}
+use Rattle.receiver_engines.specs.MergedAll.{JoinsEach, JoinsOne}
+use Rattle.receiver_engines.specs.Merging.{GivesReceiver, IsAgain, SaysReceiver, merged_state}
 use Rattle.receiver_engines.specs.States.{IsStateRefusal}
 use Rattle.receiver_engines.proofs.JoinedAll.{IsItem, item_at, said_so_far, same_opening}
+use Rattle.run_outcome.specs.Refusing.{OfRefusal}
+use Rattle.run_outcome.specs.declared.fault.Fault.{Fault}
+use Rattle.run_outcome.specs.declared.fault.Fault.TheVariants.{Refused}
 use Rattle.run_outcome.specs.declared.refusal.Refusal.{Refusal}
 use Rattle.run_outcome.specs.declared.refusal.Refusal.TheVariants as why
 
@@ -17,6 +21,33 @@ pub file_refused : (s : State) (told : List ℕ → Type 0) (r : Refusal) → Is
     → IsJoinRefusal s told r
 file_refused s told (why.State f) is = is
 file_refused s told r is = absurd is
+
+-- one that was read was merged, or is opened unlike
+pub joins_read : {V E : Type 0} (r : Result V E) (other before after : State)
+    (told : List ℕ → Type 0) → SaysReceiver told other
+    → ((s : State) → GivesReceiver told s → IsAgain s other)
+    → OnOk r (before.opening ≡ other.opening)
+    → OnOk r (IsAgain (merged_state before other) after) → OnOk r (JoinsOne told before after)
+joins_read (Ok v) other before after told says same alike joined = record {
+  other = other;
+  other_is = record { says = says; same = same };
+  alike = alike;
+  joined = joined;
+}
+joins_read (Err e) other before after told says same alike joined = tt
+
+pub unlike_refused : {V : Type 0} (r : Result V Fault) (other before : State)
+    (told : List ℕ → Type 0) → SaysReceiver told other
+    → ((s : State) → GivesReceiver told s → IsAgain s other)
+    → IfErr r (λ f. (f ≡ Refused why.MergeUnlike) × (before.opening ≡ other.opening → ⊥))
+    → IfErr r (λ f. OfRefusal f (IsJoinRefusal before told))
+unlike_refused (Ok v) other before told says same only = tt
+unlike_refused (Err e) other before told says same only =
+    subst (λ (f : Fault). OfRefusal f (IsJoinRefusal before told)) (sym only.0) (record {
+      other = other;
+      other_is = says;
+      unlike = λ t gives alike. only.1 (alike ∙ sym (same t gives).opening);
+    })
 
 -- what is opened unlike a receiver is so unlike one that is opened as that
 unlike_again : (s m : State) (told : List ℕ → Type 0) → m.opening ≡ s.opening → IsUnlike m told

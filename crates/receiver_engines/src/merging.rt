@@ -47,11 +47,17 @@ where
         (IsRead (R.gave right.old) (R.gave right.new) (R.ended right.new))
         (O.took output.old) (O.took output.new)) }
     // Where it fails, the merged receiver isn't all written.
-    ensures part { OnErr result (SavesPart (K.took state.old) (K.took state.new)) }
+    ensures part { OnErr result (SavesPart
+        (JoinsFirst (IsRead (L.gave left.old) (L.gave left.new) (L.ended left.new))
+        (IsRead (R.gave right.old) (R.gave right.new) (R.ended right.new)))
+        (K.took state.old) (K.took state.new)) }
     // All of each file was read, up to its end.
     ensures ended { OnOk result (L.ended left.new × R.ended right.new) }
     ensures refused { IfErr result (λ f. IfRefused f (state.new ≡ state.old)) }
     ensures quiet { IfErr result (λ f. IfRefused f (output.new ≡ output.old)) }
+    // So memory is wanted.
+    ensures memory { IfErr result (λ f. f ≡ Fault.Memory
+        → (state.new ≡ state.old) × (output.new ≡ output.old)) }
     ensures refusal { IfErr result (λ f. OfRefusal f
         (IsMergeRefusal (IsRead (L.gave left.old) (L.gave left.new) (L.ended left.new))
         (IsRead (R.gave right.old) (R.gave right.new) (R.ended right.new)))) }

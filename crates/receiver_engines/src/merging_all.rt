@@ -10,8 +10,9 @@ ghost use Rattle.receiver_engines.specs.MergeAllRefused.{IsJoinRefusal, IsMergeA
 ghost use Rattle.receiver_engines.specs.MergeAllRefused.{StopsMerge};
 ghost use Rattle.receiver_engines.specs.MergedAll.{JoinsAll, JoinsEach, JoinsOne, MergesAll};
 ghost use Rattle.receiver_engines.specs.MergedAll.{PrintsAll};
-ghost use Rattle.receiver_engines.specs.Merging.{Saves};
+ghost use Rattle.receiver_engines.specs.Merging.{IsAgain, Saves, merged_state};
 ghost use Rattle.run_outcome.specs.States.{SavesPart};
+ghost use Rattle.run_outcome.specs.declared.refusal.Refusal.TheVariants.{MergeUnlike};
 
 use crate::states::read_receiver;
 use path_receiver::Receiver;
@@ -52,11 +53,17 @@ where
         (WasRead S.gave S.ended) (zip others.old others.new)
         (O.took output.old) (O.took output.new)) }
     // Where it fails, the merged receiver isn't all written.
-    ensures part { OnErr result (SavesPart (K.took state.old) (K.took state.new)) }
+    ensures part { OnErr result (SavesPart
+        (JoinsAll (IsRead (S.gave first.old) (S.gave first.new) (S.ended first.new))
+        (WasRead S.gave S.ended) (zip others.old others.new))
+        (K.took state.old) (K.took state.new)) }
     // All of each file was read, up to its end.
     ensures ended { OnOk result (S.ended first.new × All S.ended others.new) }
     ensures refused { IfErr result (λ f. IfRefused f (state.new ≡ state.old)) }
     ensures quiet { IfErr result (λ f. IfRefused f (output.new ≡ output.old)) }
+    // So memory is wanted.
+    ensures memory { IfErr result (λ f. f ≡ Fault.Memory
+        → (state.new ≡ state.old) × (output.new ≡ output.old)) }
     ensures refusal { IfErr result (λ f. OfRefusal f
         (IsMergeAllRefusal (IsRead (S.gave first.old) (S.gave first.new) (S.ended first.new))
         (WasRead S.gave S.ended) (zip others.old others.new))) }
@@ -157,7 +164,20 @@ pub(crate) fn join<A: Allocator + Copy, S: ByteSource>(
         ∷ []) }
 {
     let other = read_receiver(alloc, source)?;
-    match merged.merge(&other) {
+    join_read(merged, &other)
+}
+
+/// Merges a receiver that was read into one, which stays as it was where the two are opened unlike.
+fn join_read<A: Allocator>(merged: &mut Receiver<A>, other: &Receiver<A>) -> Result<(), Fault>
+    ensures alike { OnOk result (merged.old.opening ≡ other.now.opening) }
+    ensures joined { OnOk result (IsAgain (merged_state merged.old other.now) merged.new) }
+    ensures stays { OnErr result (merged.new ≡ merged.old) }
+    // No memory is asked for.
+    ensures only { IfErr result (λ f. (f ≡ Fault.Refused MergeUnlike)
+        × (merged.old.opening ≡ other.now.opening → ⊥)) }
+    ensures failures { Accounts result [] }
+{
+    match merged.merge(other) {
         Ok(()) => Ok(()),
         Err(_) => Err(Fault::Refused(Refusal::MergeUnlike)),
     }

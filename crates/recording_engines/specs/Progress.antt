@@ -6,7 +6,8 @@ use Rattle.media_file.specs.Records.{Entry, records_text}
 use Rattle.st_format.specs.Turns.{is_path}
 use Rattle.st_format.specs.declared.path.Path.{Path}
 use Rattle.st_format.specs.declared.path.Path.TheVariants.{A, B}
-use Rattle.run_outcome.specs.declared.fault.Fault.TheVariants.{Refused}
+use Rattle.run_outcome.specs.declared.fault.Fault.{Fault}
+use Rattle.run_outcome.specs.declared.fault.Fault.TheVariants.{Device, Refused}
 use Rattle.run_outcome.specs.declared.refusal.Refusal.{Refusal}
 use Rattle.run_outcome.specs.declared.refusal.Refusal.TheVariants.{ImportRecords}
 use Rattle.run_outcome.specs.LowerFaults.{reading_fault}
@@ -67,6 +68,11 @@ abbrev pub StopsBy : {X S : Type 0} → Refusal → List (ImportFile X S) → Li
     → List ℕ → List ℕ → Type 0
 StopsBy r files files' old new =
     (f : ReadingFault) × (reading_fault f ≡ Refused r) × StopsOne f files files' old new
+
+-- a fault is a device's, or that of one file, at which its reader stands
+abbrev pub IsDeviceOrFile : {X S : Type 0} → List (ImportFile X S) → Fault → Type 0
+IsDeviceOrFile files f =
+    (f ≡ Device) ⊎ ((g : ReadingFault) × (f ≡ reading_fault g) × OneFileAt g files)
 
 -- ---- all records
 

@@ -1,6 +1,6 @@
 //! The engine of `import`.
 ghost use Rattle.std.specs.Prelude.{◌≡◌, ◌∷◌, [], None, Some, length, map, slice_get, IfErr, IfOk};
-ghost use Rattle.std.specs.Prelude.{List};
+ghost use Rattle.std.specs.Prelude.{◌≢◌, ◌⊎◌, List};
 ghost use Rattle.std.specs.List.{AllByRecursion, sum_by, zip};
 ghost use Rattle.std.specs.Option.{option_copied};
 ghost use Rattle.recording_counts.specs.LeftOut.{left_out_of};
@@ -8,7 +8,8 @@ ghost use Rattle.recording_counts.specs.declared.omission.Omission.{Omission as 
 ghost use Rattle.run_outcome.specs.Fault.{Accounts, IfRefused, counts};
 ghost use Rattle.run_outcome.specs.Moments.{WasRead};
 ghost use Rattle.run_outcome.specs.Refusing.{OfRefusal};
-ghost use Rattle.run_outcome.specs.Text.{GivesText};
+ghost use Rattle.run_outcome.specs.Text.{GivesFew, GivesText};
+ghost use Rattle.run_outcome.specs.declared.refusal.Refusal.TheVariants.{ImportFlow, ImportRecords};
 ghost use Rattle.st_format.specs.History.{IsRead};
 ghost use Rattle.recording_engines.specs.Files.{AllClosed, AllReady, AreLeftOut, HasKnownOctets};
 ghost use Rattle.recording_engines.specs.Files.{IsReadByFlows, begun_of, ended_by, failures_by};
@@ -16,8 +17,9 @@ ghost use Rattle.recording_engines.specs.Files.{gave_by, standings};
 ghost use Rattle.recording_engines.specs.Imported.{AsksFlows, Imports, IsAsked};
 ghost use Rattle.recording_engines.specs.Imported.{IsImportFlowsRefusal};
 ghost use Rattle.recording_engines.specs.Imported.{IsImportRefusal, IsPlacesRefusal};
-ghost use Rattle.recording_engines.specs.Imported.{IsNoFlowRefusal, IsSdpFlowsRefusal, SaysFlows};
-ghost use Rattle.recording_engines.specs.Progress.{HasWrittenAll, StopsJoining};
+ghost use Rattle.recording_engines.specs.Imported.{IsSdpFlowsRefusal, IsNoFlowRefusal, SaysFlows};
+ghost use Rattle.recording_engines.specs.Progress.{HasWrittenAll, IsDeviceOrFile};
+ghost use Rattle.recording_engines.specs.Progress.{StopsJoining};
 ghost use Rattle.recording_engines.specs.Steps.{AllFresh};
 ghost use Rattle.recording_engines.specs.Strands.{TakesBy, TellsPaths, only_a, only_b};
 
@@ -91,6 +93,11 @@ where
         (K.took capture.old) (K.took capture.new))) }
     // A refusal comes before anything is printed.
     ensures quiet { IfErr result (λ f. IfRefused f (output.new ≡ output.old)) }
+    // So memory is wanted, for a text that isn't too long; and, unless a file's reader says so,
+    // before anything is written.
+    ensures memory { IfErr result (λ f. f ≡ Fault.Memory → (output.new ≡ output.old)
+        × GivesFew 65535 (D.gave sdp.old) (D.gave sdp.new)
+        × ((capture.new ≡ capture.old) ⊎ IsDeviceOrFile files.new f)) }
     ensures failures { Accounts result (counts (D.failures sdp.old) (D.failures sdp.new)
         ∷ counts (sum_by (failures_by S.failures) files.old)
         (sum_by (failures_by S.failures) files.new)
@@ -139,6 +146,9 @@ fn join_all<A: Allocator, S: ByteSource, K: ByteSink>(
         → r.left_out ≡ left_out_of omissions) }
     ensures stopped { IfErr result (λ f. OfRefusal f (λ r. StopsJoining r files.new
         (K.took capture.old) (K.took capture.new))) }
+    // No memory is asked for.
+    ensures only { IfErr result (λ f. IsDeviceOrFile files.new f
+        ⊎ (f ≡ Fault.Refused ImportRecords)) }
     ensures failures { Accounts result (counts (sum_by (failures_by S.failures) files.old)
         (sum_by (failures_by S.failures) files.new)
         ∷ counts (K.failures capture.old) (K.failures capture.new) ∷ []) }
@@ -157,6 +167,8 @@ fn join_all<A: Allocator, S: ByteSource, K: ByteSink>(
 fn flow_of(word: Option<&[u8]>) -> Result<Option<Flow>, Fault>
     ensures asked { IfOk result (λ f. IsAsked (option_copied word.entry) f) }
     ensures refusal { IfErr result (λ f. OfRefusal f (IsNoFlowRefusal (option_copied word.entry))) }
+    // No memory is asked for.
+    ensures only { IfErr result (λ f. f ≡ Fault.Refused ImportFlow) }
     ensures failures { Accounts result [] }
 {
     let Some(text) = word else {
@@ -178,6 +190,8 @@ pub fn flows_of(wanted: FlowWords<'_>, said: &[u8]) -> Result<Flows, Fault>
         (option_copied wanted.entry.b) said.now f) }
     ensures refusal { IfErr result (λ f. OfRefusal f (IsImportFlowsRefusal
         (option_copied wanted.entry.a) (option_copied wanted.entry.b) said.now)) }
+    // No memory is asked for.
+    ensures unwanted { IfErr result (λ f. f ≢ Fault.Memory) }
     ensures failures { Accounts result [] }
 {
     if wanted.a.is_none() && wanted.b.is_none() {
@@ -192,6 +206,8 @@ pub fn flows_of(wanted: FlowWords<'_>, said: &[u8]) -> Result<Flows, Fault>
 fn said_flows(said: &[u8]) -> Result<Flows, Fault>
     ensures said { IfOk result (λ f. SaysFlows said.now f) }
     ensures refusal { IfErr result (λ f. OfRefusal f (IsSdpFlowsRefusal said.now)) }
+    // No memory is asked for.
+    ensures unwanted { IfErr result (λ f. f ≢ Fault.Memory) }
     ensures failures { Accounts result [] }
 {
     let flows = read_flows(said)?;

@@ -1,12 +1,15 @@
 //! Writing the records of files to a capture, the earliest first.
-ghost use Rattle.std.specs.Prelude.{◌≡◌, ◌<◌, ◌≤◌, ◌+◌, ◌∷◌, [], length, map, IfErr, IfOk, OnOk};
+ghost use Rattle.std.specs.Prelude.{◌≡◌, ◌<◌, ◌≤◌, ◌+◌, ◌⊎◌, ◌∷◌, [], length, map, IfErr, IfOk};
+ghost use Rattle.std.specs.Prelude.{OnOk};
 ghost use Rattle.std.specs.List.{sum_by};
 ghost use Rattle.run_outcome.specs.Fault.{Accounts, IfRefused, counts};
 ghost use Rattle.run_outcome.specs.Refusing.{OfRefusal};
+ghost use Rattle.run_outcome.specs.declared.refusal.Refusal.TheVariants.{ImportRecords};
 ghost use Rattle.recording_engines.specs.Files.{AllReady, IsLed, begun_of, failures_by};
 ghost use Rattle.recording_engines.specs.Files.{standings};
-ghost use Rattle.recording_engines.specs.Progress.{CountsPath, HasWrittenAll, StopsBy};
-ghost use Rattle.recording_engines.specs.Progress.{StopsJoining, WritesEarliest, WritesNext};
+ghost use Rattle.recording_engines.specs.Progress.{CountsPath, HasWrittenAll, IsDeviceOrFile};
+ghost use Rattle.recording_engines.specs.Progress.{StopsBy, StopsJoining, WritesEarliest};
+ghost use Rattle.recording_engines.specs.Progress.{WritesNext};
 ghost use Rattle.recording_engines.specs.Steps.{AllFresh};
 
 use crate::file::ImportFile;
@@ -46,6 +49,8 @@ fn write_next<A: Allocator, S: ByteSource, K: ByteSink>(
     ensures one { OnOk result
         (written.new.a + written.new.b ≤ written.old.a + written.old.b + 1) }
     ensures unrefused { IfErr result (λ f. IfRefused f ⊥) }
+    // No memory is asked for.
+    ensures device { IfErr result (λ f. f ≡ Fault.Device) }
     ensures failures { Accounts result (counts (K.failures capture.old) (K.failures capture.new)
         ∷ []) }
 {
@@ -76,6 +81,8 @@ fn take_at<A: Allocator, S: ByteSource, K: ByteSink>(
         (written.new.a + written.new.b ≤ written.old.a + written.old.b + 1) }
     ensures stopped { IfErr result (λ f. OfRefusal f (λ r. StopsBy r
         files.old files.new (K.took capture.old) (K.took capture.new))) }
+    // No memory is asked for.
+    ensures only { IfErr result (IsDeviceOrFile files.new) }
     ensures failures { Accounts result (counts (sum_by (failures_by S.failures) files.old)
         (sum_by (failures_by S.failures) files.new)
         ∷ counts (K.failures capture.old) (K.failures capture.new) ∷ []) }
@@ -105,6 +112,9 @@ pub(crate) fn join<A: Allocator, S: ByteSource, K: ByteSink>(
         (K.took capture.new) w) }
     ensures stopped { IfErr result (λ f. OfRefusal f (λ r. StopsJoining r files.new
         (K.took capture.old) (K.took capture.new))) }
+    // No memory is asked for.
+    ensures only { IfErr result (λ f. IsDeviceOrFile files.new f
+        ⊎ (f ≡ Fault.Refused ImportRecords)) }
     ensures failures { Accounts result (counts (sum_by (failures_by S.failures) files.old)
         (sum_by (failures_by S.failures) files.new)
         ∷ counts (K.failures capture.old) (K.failures capture.new) ∷ []) }

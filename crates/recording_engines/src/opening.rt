@@ -1,10 +1,9 @@
 //! Opening files.
 ghost use Rattle.std.specs.Prelude.{◌≡◌, ◌≤◌, ◌∷◌, [], length, IfErr, OnOk};
 ghost use Rattle.std.specs.List.{sum_by, zip};
-ghost use Rattle.recording_engines.specs.Files.{AllClosed, AllOpened, IsClosed, IsNew};
-ghost use Rattle.recording_engines.specs.Files.{IsOpenedFile};
-ghost use Rattle.recording_engines.specs.Files.{IsReady, IsUnread, begun_of, ended_by};
-ghost use Rattle.recording_engines.specs.Files.{failures_by, gave_by, standing_of};
+ghost use Rattle.recording_engines.specs.Files.{AllClosed, AllOpened, IsClosed, IsNew, IsOpenedFile};
+ghost use Rattle.recording_engines.specs.Files.{IsReady, IsUnread, ReadsToFault, begun_of};
+ghost use Rattle.recording_engines.specs.Files.{ended_by, failures_by, gave_by, standing_of};
 ghost use Rattle.recording_engines.specs.Opened.{AllBegin, IsFirstStop, IsStopRefusal};
 ghost use Rattle.run_outcome.specs.Fault.{Accounts, counts};
 ghost use Rattle.run_outcome.specs.Moments.{WasRead};
@@ -91,6 +90,8 @@ fn read_first<A: Allocator, S: ByteSource>(file: &mut ImportFile<A, S>) -> Resul
     ensures refusal { IfErr result (λ f. OfRefusal f (IsStopRefusal (IsRead
         (begun_of file.new).1 (gave_by S.gave file.new) (ended_by S.ended file.new))
         (begun_of file.new).0)) }
+    // No memory is asked for.
+    ensures stopped { IfErr result (λ f. ReadsToFault f file.old file.new) }
     ensures failures { Accounts result (counts (failures_by S.failures file.old)
         (failures_by S.failures file.new) ∷ []) }
 {

@@ -93,3 +93,8 @@ on_ok (Err e) P Q then is = is
 pub on_err : {V E : Type 0} (r : Result V E) (P Q : Type 0) → (P → Q) → OnErr r P → OnErr r Q
 on_err (Ok v) P Q then is = is
 on_err (Err e) P Q then is = then is
+
+-- what holds whatever a run came to holds after a fault
+pub whenever : {V E : Type 0} (r : Result V E) (P : Type 0) → P → OnErr r P
+whenever (Ok v) P p = tt
+whenever (Err e) P p = p

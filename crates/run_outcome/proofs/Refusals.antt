@@ -65,6 +65,21 @@ any_refusal (fault.Refused r) = tt
 any_refusal fault.Device = tt
 any_refusal fault.Memory = tt
 
+-- ---- want of memory
+
+-- it is no refusal, and no device's fault
+pub refused_not : (r : Refusal) → fault.Refused r ≡ fault.Memory → ⊥
+refused_not r is = cc
+
+pub device_not : fault.Device ≡ fault.Memory → ⊥
+device_not is = cc
+
+-- what fails by the device alone wants none
+pub device_alone : {V : Type 0} (r : Result V Fault) (P : Type 0) → IfErr r (λ f. f ≡ fault.Device)
+    → IfErr r (λ f. f ≡ fault.Memory → P)
+device_alone (Ok v) P device = tt
+device_alone (Err f) P device = λ memory. absurd (device_not (sym device ∙ memory))
+
 -- ---- what is told
 
 -- at status 1 a line was told whole, which is that of the status

@@ -1,9 +1,10 @@
 -- The text of a capture, where one is given.
 use Rattle.std.proofs.Common.{◌≡◌, List, ℕ, [], Option, Some, None, sym, refl, ◌∙◌, subst}
 use Rattle.std.proofs.Common.{append-nil, ap, ◌++◌}
-use Rattle.run_outcome.specs.Text.{GivesText}
+use Rattle.run_outcome.specs.Text.{GivesFew, GivesText}
 use Rattle.run_outcome.specs.Moments.{WasRead}
 use Rattle.run_outcome.specs.TextRefusals.{IsCaptureText, SaysCaptureText, SaysText, SaysTextOfRun}
+use Rattle.run_outcome.specs.TextRefusals.{WantsText}
 use Rattle.st_format.specs.History.{IsRead, since}
 use Rattle.st_format.proofs.Histories.{since_is}
 
@@ -43,3 +44,16 @@ text_says {S} gave ended old new text says was now given later octets read =
     read.parts ∙ ap (λ (l : List ℕ). since (gave was) (gave now) ++ l) (read.all is.1)
     ∙ append-nil (since (gave was) (gave now)) ∙ since_is (gave was) (gave now) text is.0 in
     subst IsCaptureText (sym whole) is.2
+
+-- memory was wanted for one
+pub wants_some : {S : Type 0} (gave : S → List ℕ) (sdp : Option S) (source now : S)
+    → sdp ≡ Some source → GivesFew 65535 (gave source) (gave now)
+    → WantsText gave sdp (Some now)
+wants_some {S} gave sdp source now some few =
+    subst (λ (x : Option S). WantsText gave x (Some now)) (sym some) few
+
+-- a text that was read whole is as few octets
+pub few_of : (most : ℕ) (before now : List ℕ) (end : Type 0) (text : List ℕ)
+    → GivesText most before now end text → GivesFew most before now
+few_of most before now end text gives =
+    record { octets = text; few = gives.few; given = gives.given }

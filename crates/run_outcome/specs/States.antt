@@ -5,7 +5,7 @@ use Rattle.path_receiver.specs.Frames.{State}
 use Rattle.receiver_file.specs.Saved.{kept_of}
 use Rattle.st_format.specs.Device.{GrowsPart}
 
--- a sink took nothing, or a first part of the file of a receiver, and not all
-abbrev pub SavesPart : List ℕ → List ℕ → Type 0
-SavesPart old new =
-    (new ≡ old) ⊎ ((receiver : State) × GrowsPart old new (state_text (kept_of receiver)))
+-- a sink took nothing, or a first part of the file of a receiver that is so, and not all
+abbrev pub SavesPart : (State → Type 0) → List ℕ → List ℕ → Type 0
+SavesPart Is old new = (new ≡ old)
+    ⊎ ((receiver : State) × Is receiver × GrowsPart old new (state_text (kept_of receiver)))

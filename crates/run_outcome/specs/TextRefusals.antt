@@ -6,6 +6,7 @@ use Rattle.sdp_format.specs.Bytes.{lines}
 use Rattle.sdp_format.specs.Grammar.{IsDescribed, IsTextFault}
 use Rattle.sdp_format.specs.Sections.{Description, video_sections}
 use Rattle.sdp_format.specs.declared.fault.SdpFault.{SdpFault}
+use Rattle.run_outcome.specs.Text.{GivesFew}
 use Rattle.run_outcome.specs.declared.refusal.Refusal.{Refusal}
 use Rattle.run_outcome.specs.declared.refusal.Refusal.TheVariants as refusal
 
@@ -21,6 +22,10 @@ GivesAtMost most told = (octets : List ℕ) → told octets → length octets �
 abbrev pub HasTextFault : (List ℕ → Type 0) → SdpFault → Type 0
 HasTextFault told f =
     (octets : List ℕ) → told octets → IsTextFault (video_sections (lines octets)) f
+
+-- a text describes a video
+abbrev pub IsSdp : List ℕ → Type 0
+IsSdp text = (d : Description) × IsDescribed (video_sections (lines text)) d
 
 -- the refusal of a text that was read whole and opens something: its fault
 abbrev pub IsDescriptionRefusal : List ℕ → Refusal → Type 0
@@ -69,3 +74,10 @@ IsTextOfRun {S} told old new r = (was : S) × (now : S) × (old ≡ Some was) ×
 abbrev pub SaysTextOfRun : {S : Type 0} → (S × S → List ℕ → Type 0) → Option S → Option S → Type 0
 SaysTextOfRun {S} told old new =
     (was now : S) → old ≡ Some was → new ≡ Some now → SaysCaptureText (told (was, now))
+
+-- what the text's source gave where memory was wanted for the text: there is a source, and it gave
+-- at most as many octets as a capture's text may have
+abbrev pub WantsText : {S : Type 0} → (S → List ℕ) → Option S → Option S → Type 0
+WantsText gave None new = ⊥
+WantsText gave (Some was) None = ⊥
+WantsText gave (Some was) (Some now) = GivesFew 65535 (gave was) (gave now)

@@ -5,7 +5,7 @@ ghost use Rattle.run_outcome.specs.Fault.{EndsDone, EndsFailed, EndsRefused, End
 ghost use Rattle.run_outcome.specs.Fault.{IsLineOf, TellsFault};
 ghost use Rattle.run_outcome.specs.Refusing.{TellsOutcome};
 ghost use Rattle.run_outcome.specs.RefusalText.{refusal_text};
-ghost use Rattle.run_outcome.specs.Telling.{IsRefusalLine, TellsLine, memory_line};
+ghost use Rattle.run_outcome.specs.Telling.{IsRefusalLine, TellsLine, device_line, memory_line};
 
 use crate::fault::Fault;
 use crate::refusal::Refusal;
@@ -30,6 +30,8 @@ pub fn end<F: ByteSink>(outcome: Result<(), Fault>, faults: &mut F) -> u8
         → EndsFailed outcome ⊎ Failed (F.failures faults.old) (F.failures faults.new) }
     ensures worked { result ≢ 3 → EndsWorked outcome }
     ensures working { result ≢ 3 → F.failures faults.new ≡ F.failures faults.old }
+    ensures blamed { result ≡ 3 → Failed (F.failures faults.old) (F.failures faults.new)
+        ⊎ (F.took faults.new ≡ F.took faults.old ++ device_line) }
     ensures memory { result ≡ 4 → F.took faults.new ≡ F.took faults.old ++ memory_line }
     // A line of its own wants no memory.
     ensures wanted { result ≡ 4 → outcome ≡ Err Fault.Memory }

@@ -5,9 +5,9 @@ ghost use Rattle.st_format.specs.History.{GrewFrom, IsRead};
 ghost use Rattle.run_outcome.specs.Fault.{Accounts, IfRefused, counts, failures_in};
 ghost use Rattle.run_outcome.specs.Moments.{WasRead};
 ghost use Rattle.run_outcome.specs.TextRefusals.{IsTextOfRun, IsTextRefusal, SaysCaptureText};
-ghost use Rattle.run_outcome.specs.TextRefusals.{SaysText};
+ghost use Rattle.run_outcome.specs.TextRefusals.{SaysText, WantsText};
 ghost use Rattle.run_outcome.specs.Refusing.{OfRefusal};
-ghost use Rattle.run_outcome.specs.Text.{GivesMore, GivesText};
+ghost use Rattle.run_outcome.specs.Text.{GivesFew, GivesMore, GivesText};
 
 use crate::fault::Fault;
 use crate::refusal::Refusal;
@@ -31,6 +31,9 @@ pub fn read_checked<A: Allocator + Copy, S: ByteSource>(
         (IsRead (S.gave source.old) (S.gave source.new) (S.ended source.new))) }
     ensures refusal { IfErr result (λ f. OfRefusal f (IsTextRefusal too_long
         (IsRead (S.gave source.old) (S.gave source.new) (S.ended source.new)))) }
+    // A text that is too long wants no memory.
+    ensures memory { IfErr result (λ f. f ≡ Fault.Memory
+        → GivesFew 65535 (S.gave source.old) (S.gave source.new)) }
     ensures grown { GrewFrom (S.gave source.old) (S.gave source.new) }
     ensures failures { Accounts result (counts (S.failures source.old) (S.failures source.new)
         ∷ []) }
@@ -52,6 +55,8 @@ pub fn read_if_given<A: Allocator + Copy, S: ByteSource>(
     ensures says { IfOk result (λ said. SaysText S.gave S.ended sdp.old sdp.new said.items) }
     ensures refusal { IfErr result (λ f. OfRefusal f
         (IsTextOfRun (WasRead S.gave S.ended) sdp.old sdp.new)) }
+    // Without a source, and for a text that is too long, no memory is wanted.
+    ensures memory { IfErr result (λ f. f ≡ Fault.Memory → WantsText S.gave sdp.old sdp.new) }
     ensures failures { Accounts result (counts (failures_in S.failures sdp.old)
         (failures_in S.failures sdp.new) ∷ []) }
 {
@@ -78,6 +83,9 @@ pub fn read_text<A: Allocator, S: ByteSource>(
         text.items)) }
     ensures grown { GrewFrom (S.gave source.old) (S.gave source.new) }
     ensures unrefused { IfErr result (λ f. IfRefused f ⊥) }
+    // Behind more octets than so many no memory is wanted.
+    ensures memory { IfErr result (λ f. f ≡ Fault.Memory
+        → GivesFew most (S.gave source.old) (S.gave source.new)) }
     ensures failures { Accounts result (counts (S.failures source.old) (S.failures source.new)
         ∷ []) }
 {
@@ -100,12 +108,17 @@ pub fn read_past<A: Allocator, S: ByteSource>(
     ensures whole { IfOk result (λ octets. length octets.items ≤ most → S.ended source.new) }
     ensures grown { GrewFrom (S.gave source.old) (S.gave source.new) }
     ensures unrefused { IfErr result (λ f. IfRefused f ⊥) }
+    // Behind more octets than so many no memory is wanted.
+    ensures memory { IfErr result (λ f. f ≡ Fault.Memory
+        → GivesFew most (S.gave source.old) (S.gave source.new)) }
     ensures failures { Accounts result (counts (S.failures source.old) (S.failures source.new)
         ∷ []) }
 {
     let mut octets = Vec::new(alloc);
     let mut piece = [0u8; 4096];
-    while octets.len() <= most {
+    'pieces: while octets.len() <= most {
+        // (room comes first: once too much was read, no memory is wanted)
+        octets.reserve(piece.len())?;
         let n = read_whole(source, &mut piece)?;
         octets.extend_from_slice(&piece[..n])?;
         if n < piece.len() {

@@ -1,4 +1,5 @@
 use Rattle.std.proofs.Common.{◌≡◌, ◌∙◌, ℕ, List, ap, arith, length, rules}
+use Rattle.std.proofs.lemmas.Result.{err_from_is_err_and}
 use Rattle.run_outcome.specs.Text.{GivesText}
 use Rattle.st_format.proofs.Histories.{since_is}
 use Rattle.st_format.specs.History.{IsRead}
@@ -17,3 +18,8 @@ returns-in-Some-clause-said g c =
     λ octets read. read_all old new octets over read gives.ended
     ∙ since_is old new said gives.given in
     (is, λ octets read. omega (arith, ap length (is octets read), gives.few))
+
+pub returns-in_err-text-clause-memory : goal.returns-in_err-text-clause-memory
+returns-in_err-text-clause-memory g c =
+    let p = err_from_is_err_and c.from_residual.result c.from_residual.ensures.1 in
+    rw (p.1, p.2) c.in_err-text.ensures.memory

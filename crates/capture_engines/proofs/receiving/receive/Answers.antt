@@ -6,8 +6,8 @@ use Rattle.run_outcome.proofs.Printed.{on_ok}
 use Rattle.run_outcome.proofs.Refusals.{if_err_map, of_refusal_map}
 use Rattle.capture_engines.proofs.Accounting.{accounts_front}
 use Rattle.capture_engines.proofs.FirstRefused.{of_both}
-use Rattle.capture_engines.proofs.Rescues.{unsound_part}
-use Rattle.capture_engines.proofs.Said.{long_refused, said_receives, said_refused}
+use Rattle.capture_engines.proofs.Said.{long_refused, said_part, said_receives}
+use Rattle.capture_engines.proofs.Said.{said_refused}
 use Rattle.capture_engines.proofs.receiving.receive.Goals as goal
 
 pub returns-in_err-check_words-clause-refusal : goal.returns-in_err-check_words-clause-refusal
@@ -67,5 +67,13 @@ returns-in_err-said-clause-part g c =
 
 pub returns-clause-part : goal.returns-clause-part
 returns-clause-part g c =
-    unsound_part c.receive_files.result c.receive_files.new.reception _ _
-    c.receive_files.ensures.part c.receive_files.ensures.rescued
+    let told = g.S.ByteSource in
+    said_part c.receive_files.result c.receive_files.new.reception c.args.wanted.window.now
+    c.args.wanted.ssrc.now (pair c.args.sdp.now c.read_said.new.sdp) _ told.gave told.ended
+    (zip c.args.captures.now c.receive_files.new.files) _ _ _ c.in_ok-said.ensures.said
+    (rw c.octets_of.ensures at c.receive_files.ensures.part) c.receive_files.ensures.rescued
+
+pub returns-clause-memory : goal.returns-clause-memory
+returns-clause-memory g c =
+    if_err_map c.receive_files.result (λ f is memory. is memory refl)
+    c.receive_files.ensures.memory

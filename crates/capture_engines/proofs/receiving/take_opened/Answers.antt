@@ -85,3 +85,20 @@ returns-clause-refusal g c =
     if_err_map c.take_records-taken.result
     (λ f is. inl (λ none. c.in_ok-intake.ensures.opens, c.take_records-taken.ensures.within, is))
     c.take_records-taken.ensures.stop
+
+pub returns-in-Some-clause-memory : goal.returns-in-Some-clause-memory
+returns-in-Some-clause-memory g c =
+    if_err_map c.take_records.result (λ f is memory. inl is) c.take_records.ensures.stop
+
+pub returns-in_err-intake-clause-memory : goal.returns-in_err-intake-clause-memory
+returns-in_err-intake-clause-memory g c =
+    let p = err_from_is_err_and c.from_residual.result c.from_residual.ensures.1 in
+    rw (p.1, p.2) (λ memory. inr (
+      none_begun c.args.begun.now c.in_default.not-Some,
+      c.in_err-intake.ensures.memory memory,
+    ))
+
+pub returns-clause-memory : goal.returns-clause-memory
+returns-clause-memory g c =
+    if_err_map c.take_records-taken.result (λ f is memory. inl is)
+    c.take_records-taken.ensures.stop

@@ -11,4 +11,4 @@ pub returns-in_err-save_state-clause-part : goal.returns-in_err-save_state-claus
 returns-in_err-save_state-clause-part g c =
     let p = err_from_is_err_and c.from_residual-in_err-save_state.result
     c.from_residual-in_err-save_state.ensures.1 in
-    rw (p.1) (inr (c.args.intake.receiver, c.in_err-save_state.ensures.part))
+    rw (p.1) (inr (c.args.intake.receiver, refl, c.in_err-save_state.ensures.part))

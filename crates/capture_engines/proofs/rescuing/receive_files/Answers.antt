@@ -3,12 +3,15 @@ use Rattle.std.proofs.lemmas.Result.{err_from_is_err_and}
 use Rattle.std.specs.List.{zip}
 use Rattle.std.specs.Option.{option_copied}
 use Rattle.run_outcome.specs.Moments.{WasRead}
-use Rattle.run_outcome.proofs.Refusals.{of_refusal_map}
+use Rattle.run_outcome.proofs.Refusals.{if_err_map, device_alone, of_refusal_map}
 use Rattle.capture_engines.specs.Counted.{CountsReceived}
 use Rattle.capture_engines.proofs.InOrder.{receives}
 use Rattle.capture_engines.proofs.FirstRefused.{files_said}
 use Rattle.capture_engines.proofs.Rescues.{counted_if, counts, failed_part, none_part, on_ok_both}
-use Rattle.capture_engines.proofs.Rescues.{on_ok_each, part_refused, rescued_if, rescues, whenever}
+use Rattle.capture_engines.proofs.Rescues.{maybe_part, of_files, of_part, on_ok_each, part_refused}
+use Rattle.capture_engines.proofs.Rescues.{rescued_if, rescues, sound_not, whole_part}
+use Rattle.run_outcome.proofs.Printed.{whenever}
+use Rattle.capture_engines.specs.Rescued.{IsReceiverOfAny}
 use Rattle.capture_engines.proofs.rescuing.receive_files.Goals as goal
 
 pub returns-in-Whole-clause-saved : goal.returns-in-Whole-clause-saved
@@ -143,12 +146,56 @@ returns-in_err-intake-clause-part g c =
 
 pub returns-in-Whole-clause-part : goal.returns-in-Whole-clause-part
 returns-in-Whole-clause-part g c =
+    let told = g.S.ByteSource in
+    let window = c.args.wanted.window.now in
+    let source = c.args.wanted.ssrc.now in
+    let sdp = option_copied c.args.sdp in
+    let files = zip c.args.files.now c.rescue_files.new.files in
     failed_part c.put_out.result c.put_out.new.reception c.args.reception.now _
-    c.put_out.ensures.none c.requires c.put_out.ensures.part
+    c.put_out.ensures.none c.requires
+    (whole_part c.put_out.result
+    (IsReceiverOfAny c.args.is_sound window source sdp c.args.ways.now told.gave told.ended files)
+    c.in-Whole.intake.receiver _ _
+    (inl (of_files c.in_ok-opening.opening window source sdp c.args.ways.now
+    (WasRead told.gave told.ended) files c.in_ok-begun.begun c.in-Whole.intake
+    c.in_ok-opening.ensures.window c.in_ok-opening.ensures.source c.in_ok-begun.ensures.begun
+    (rw c.in-Whole.is at c.in_ok-intake.ensures.taken)))
+    c.put_out.ensures.part)
 
 pub returns-in-Part-clause-part : goal.returns-in-Part-clause-part
-returns-in-Part-clause-part g c = whenever c.put_part.result _ c.put_part.ensures.part
+returns-in-Part-clause-part g c =
+    let told = g.S.ByteSource in
+    let window = c.args.wanted.window.now in
+    let source = c.args.wanted.ssrc.now in
+    let sdp = option_copied c.args.sdp in
+    let files = zip c.args.files.now c.rescue_files.new.files in
+    let taken = rw c.in-Part.is at c.in_ok-intake.ensures.taken in
+    whenever c.put_part.result _
+    (maybe_part c.put_part.new.reception
+    (IsReceiverOfAny c.args.is_sound window source sdp c.args.ways.now told.gave told.ended files)
+    c.in-Part.intake.receiver _ _
+    (inr (
+      c.if-is_sound.true,
+      of_part c.in_ok-opening.opening window source sdp c.args.ways.now told.gave told.ended
+          c.in-Part.fault files c.in_ok-begun.begun c.in-Part.intake
+          c.in_ok-opening.ensures.window c.in_ok-opening.ensures.source
+          c.in_ok-begun.ensures.begun taken.0,
+    ))
+    c.put_part.ensures.part)
 
 pub returns-clause-part : goal.returns-clause-part
 returns-clause-part g c =
     none_part c.args.reception.now c.args.reception.now _ refl c.requires (inl refl)
+
+pub returns-in-Whole-clause-memory : goal.returns-in-Whole-clause-memory
+returns-in-Whole-clause-memory g c =
+    device_alone c.put_out.result _ c.put_out.ensures.device
+
+pub returns-in-Part-clause-memory : goal.returns-in-Part-clause-memory
+returns-in-Part-clause-memory g c =
+    if_err_map c.put_part.result
+    (λ f is memory unsound. absurd (sound_not c.args.is_sound c.if-is_sound.true unsound))
+    c.put_part.ensures.refused
+
+pub returns-clause-memory : goal.returns-clause-memory
+returns-clause-memory g c = λ memory unsound. (refl, refl)

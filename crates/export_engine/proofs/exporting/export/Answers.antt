@@ -1,11 +1,12 @@
-use Rattle.std.proofs.Common.{◌≡◌, ◌∷◌, ◌++◌, []}
+use Rattle.std.proofs.Common.{◌≡◌, ◌∷◌, ◌++◌, [], refl}
 use Rattle.std.specs.Option.{option_copied}
 use Rattle.std.proofs.lemmas.Result.{err_from_is_err_and}
 use Rattle.run_outcome.specs.Line.{line_text}
 use Rattle.run_outcome.specs.declared.line.Line.TheVariants.{Exported}
 use Rattle.run_outcome.proofs.Printed.{on_ok}
+use Rattle.run_outcome.proofs.Refusals.{device_alone}
 use Rattle.export_engine.specs.Exported.{PrintsExported}
-use Rattle.export_engine.proofs.ExportRefusals.{run_left, run_refused, unsaid_left}
+use Rattle.export_engine.proofs.ExportRefusals.{run_left, run_refused, unsaid_left, untouched_by}
 use Rattle.export_engine.proofs.exporting.export.Goals as goal
 
 pub returns-in_err-counts-clause-refusal : goal.returns-in_err-counts-clause-refusal
@@ -63,3 +64,17 @@ returns-clause-left g c =
       exported = c.in_ok-counts.ensures.exported;
     })
     c.print.ensures.unrefused
+
+pub returns-in_err-counts-clause-memory : goal.returns-in_err-counts-clause-memory
+returns-in_err-counts-clause-memory g c =
+    let p =
+    err_from_is_err_and c.from_residual.result c.from_residual.ensures.1 in
+    rw (p.1, p.2) (λ memory. (
+      (c.in-Some.envelopes, c.in-Some.ensures),
+      untouched_by c.in_err-counts.field-0.0 c.in-Some.envelopes _ _ _ _ _
+          c.in_err-counts.ensures.left memory,
+      refl,
+    ))
+
+pub returns-clause-memory : goal.returns-clause-memory
+returns-clause-memory g c = device_alone c.print.result _ c.print.ensures.device

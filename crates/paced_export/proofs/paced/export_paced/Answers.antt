@@ -1,13 +1,14 @@
-use Rattle.std.proofs.Common.{◌≡◌, ◌∷◌, ◌++◌, []}
+use Rattle.std.proofs.Common.{◌≡◌, ◌∷◌, ◌++◌, [], refl}
 use Rattle.std.specs.Option.{option_copied}
 use Rattle.std.proofs.lemmas.Result.{err_from_is_err_and}
 use Rattle.run_outcome.specs.Line.{line_text}
 use Rattle.run_outcome.specs.declared.line.Line.TheVariants.{Exported}
-use Rattle.run_outcome.proofs.Printed.{on_ok}
+use Rattle.run_outcome.proofs.Printed.{on_ok, whenever}
+use Rattle.run_outcome.proofs.Refusals.{device_alone}
 use Rattle.paced_export.specs.PacedExported.{PrintsPaced}
 use Rattle.paced_export.specs.PacedExported.LeavesPaced.{Partly, Unsaid}
 use Rattle.paced_export.proofs.PacedRefusals.{ahead_refused, behind_refused, leaves_all, pace_of}
-use Rattle.paced_export.proofs.PacedRefusals.{paces_all, read_whole, unsaid_left}
+use Rattle.paced_export.proofs.PacedRefusals.{paces_all, read_whole}
 use Rattle.paced_export.proofs.paced.export_paced.Goals as goal
 
 pub returns-in_err-told-clause-refusal : goal.returns-in_err-told-clause-refusal
@@ -95,7 +96,7 @@ returns-clause-left g c =
     let ahead = c.in_ok-told.ensures.read in
     let pace = c.pace_from-pace.result in
     let is = c.pace_from-pace.ensures in
-    unsaid_left c.print.result _
+    whenever c.print.result _
     (Unsaid n (record {
       envelopes = c.in-Some.envelopes;
       are = c.in-Some.ensures;
@@ -108,3 +109,18 @@ returns-clause-left g c =
       paces = paces_all c.in-Some.envelopes pace told.counts ahead.content.records n _ _ _ _ _
           ahead.counts c.in_ok-counts.ensures.exported;
     }))
+
+pub returns-in_err-told-clause-memory : goal.returns-in_err-told-clause-memory
+returns-in_err-told-clause-memory g c =
+    let p = err_from_is_err_and c.from_residual.result c.from_residual.ensures.1 in
+    rw (p.1) (λ memory. ((c.in-Some.envelopes, c.in-Some.ensures), refl))
+
+pub returns-in_err-counts-clause-memory : goal.returns-in_err-counts-clause-memory
+returns-in_err-counts-clause-memory g c =
+    let p =
+    err_from_is_err_and c.from_residual-in_err-counts.result
+    c.from_residual-in_err-counts.ensures.1 in
+    rw (p.1) (λ memory. ((c.in-Some.envelopes, c.in-Some.ensures), refl))
+
+pub returns-clause-memory : goal.returns-clause-memory
+returns-clause-memory g c = device_alone c.print.result _ c.print.ensures.device

@@ -1,10 +1,9 @@
 use Rattle.std.proofs.Common.{◌≡◌, ◌++◌, inr}
 use Rattle.media_file.specs.StateFile.{state_text}
 use Rattle.receiver_engines.specs.Merging.{MergesFiles, PrintsMerged, Saves}
-use Rattle.run_outcome.specs.States.{SavesPart}
 use Rattle.receiver_file.specs.Saved.{kept_of}
 use Rattle.run_outcome.proofs.Printed.{on_err, on_ok}
-use Rattle.st_format.specs.Device.{GrowsPart}
+use Rattle.run_outcome.proofs.Refusals.{device_alone}
 use Rattle.st_format.specs.History.{IsRead}
 use Rattle.receiver_engines.proofs.Merged.{merges, prints}
 use Rattle.receiver_engines.proofs.merging.merge.Goals as goal
@@ -47,11 +46,9 @@ returns-clause-printed g c =
 
 pub returns-clause-part : goal.returns-clause-part
 returns-clause-part g c =
-    let old = g.K.ByteSink.took c.args.state.now in
-    let new = g.K.ByteSink.took c.save_state.new.state in
     let m = c.in_ok-merged.merged in
-    on_err c.save_state.result (GrowsPart old new (state_text (kept_of m))) (SavesPart old new)
-    (λ part. inr (m, part)) c.save_state.ensures.part
+    on_err c.save_state.result _ _ (λ part. inr (m, c.in_ok-merged.ensures.joined, part))
+    c.save_state.ensures.part
 
 pub returns-clause-saved : goal.returns-clause-saved
 returns-clause-saved g c =
@@ -64,3 +61,6 @@ returns-clause-saved g c =
       writable = c.save_state.ensures.writable;
       taken = taken;
     }) c.save_state.ensures.whole
+
+pub returns-clause-memory : goal.returns-clause-memory
+returns-clause-memory g c = device_alone c.save_state.result _ c.save_state.ensures.device

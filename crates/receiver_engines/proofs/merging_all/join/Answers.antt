@@ -1,20 +1,14 @@
-use Rattle.std.proofs.Common.{◌∙◌, refl, sym}
 use Rattle.std.proofs.lemmas.Result.{err_from_is_err_and}
 use Rattle.run_outcome.proofs.Refusals.{of_refusal_map}
 use Rattle.st_format.specs.History.{IsRead}
-use Rattle.receiver_engines.proofs.MergeRefusals.{file_refused}
+use Rattle.receiver_engines.proofs.MergeRefusals.{file_refused, joins_read, unlike_refused}
 use Rattle.receiver_engines.proofs.merging_all.join.Goals as goal
 
-pub returns-in-Ok-clause-joined : goal.returns-in-Ok-clause-joined
-returns-in-Ok-clause-joined g c = record {
-  other = c.in_ok-other.other;
-  other_is = record {
-    says = c.in_ok-other.ensures.found;
-    same = c.in_ok-other.ensures.same;
-  };
-  alike = c.in-Ok.ensures.alike;
-  joined = record { opening = c.merge.ensures.opening; frames = c.in-Ok.ensures.frames };
-}
+pub returns-clause-joined : goal.returns-clause-joined
+returns-clause-joined g c =
+    joins_read c.join_read.result c.in_ok-other.other c.args.merged.now c.join_read.new.merged _
+    c.in_ok-other.ensures.found c.in_ok-other.ensures.same c.join_read.ensures.alike
+    c.join_read.ensures.joined
 
 pub returns-in_err-other-clause-refusal : goal.returns-in_err-other-clause-refusal
 returns-in_err-other-clause-refusal g c =
@@ -28,10 +22,6 @@ returns-in_err-other-clause-refusal g c =
     c.in_err-other.ensures.refused)
 
 pub returns-clause-refusal : goal.returns-clause-refusal
-returns-clause-refusal g c = record {
-  other = c.in_ok-other.other;
-  other_is = c.in_ok-other.ensures.found;
-  unlike = λ t gives alike.
-      c.in-Err.ensures.unlike.0 refl
-      (alike ∙ sym (c.in_ok-other.ensures.same t gives).opening);
-}
+returns-clause-refusal g c =
+    unlike_refused c.join_read.result c.in_ok-other.other c.args.merged.now _
+    c.in_ok-other.ensures.found c.in_ok-other.ensures.same c.join_read.ensures.only

@@ -2,7 +2,7 @@ use Rattle.std.proofs.Common.{◌≡◌, ℕ, [], rules, subst}
 use Rattle.run_outcome.specs.Moments.{WasRead, pair}
 use Rattle.std.specs.List.{zip}
 use Rattle.run_outcome.proofs.Printed.{on_ok}
-use Rattle.receiver_engines.proofs.Late.{on_err}
+use Rattle.run_outcome.proofs.Printed.{whenever}
 use Rattle.receiver_engines.proofs.Parts.{sends_all}
 use Rattle.receiver_engines.specs.Processing.{PrintsSent, SendsFiles}
 use Rattle.receiver_engines.proofs.processing.process.Goals as goal
@@ -31,4 +31,4 @@ returns-clause-sent g c =
 pub returns-clause-part : goal.returns-clause-part
 returns-clause-part g c =
     let sends = c.in_ok-sent.ensures.sent.sends in
-    on_err c.print.result (sends_all [] c.in_ok-sent.ensures.sent.job _ _ _ _ _ _ sends.takes)
+    whenever c.print.result _ (sends_all [] c.in_ok-sent.ensures.sent.job _ _ _ _ _ _ sends.takes)

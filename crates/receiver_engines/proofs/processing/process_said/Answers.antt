@@ -7,7 +7,7 @@ use Rattle.run_outcome.proofs.Refusals.{of_refusal_map}
 use Rattle.run_outcome.proofs.SaidTexts.{text_says}
 use Rattle.run_outcome.specs.TextRefusals.{SaysText}
 use Rattle.key_mix.specs.declared.Job.TheVariants.{Key}
-use Rattle.receiver_engines.proofs.Late.{on_err}
+use Rattle.run_outcome.proofs.Printed.{whenever}
 use Rattle.receiver_engines.proofs.Parts.{sends_all, sends_none}
 use Rattle.receiver_engines.specs.Processing.{PrintsSent, SendsSaidFiles}
 use Rattle.receiver_engines.proofs.processing.process_said.Goals as goal
@@ -46,7 +46,7 @@ pub returns-clause-part : goal.returns-clause-part
 returns-clause-part g c =
     let text = c.deref.result.now in
     let sends = c.in_ok-sent.ensures.sent.sends in
-    on_err c.print.result (
+    whenever c.print.result _ (
       text,
       sends_all text c.in_ok-sent.ensures.sent.job _ _ _ _ _ _ sends.takes,
     )

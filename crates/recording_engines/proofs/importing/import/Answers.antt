@@ -6,11 +6,12 @@ use Rattle.media_file.specs.declared.front.Version.TheVariants.{Two}
 use Rattle.run_outcome.specs.Text.{GivesText}
 use Rattle.run_outcome.proofs.Refusals.{none_refused, of_refusal_map}
 use Rattle.run_outcome.proofs.Blaming.{failed_one}
+use Rattle.run_outcome.proofs.SaidTexts.{few_of}
 use Rattle.std.proofs.lemmas.Result.{err_from_is_err_and}
 use Rattle.recording_engines.specs.Files.{AllOpened}
 use Rattle.recording_engines.specs.Imported.{AsksFlows, IsImportFlowsRefusal}
 use Rattle.recording_engines.proofs.Blames.{blames_files, blames_joined, blames_output}
-use Rattle.recording_engines.proofs.Quiet.{if_refused, never_refused}
+use Rattle.recording_engines.proofs.Quiet.{if_refused, never_refused, of_joining}
 use Rattle.recording_engines.proofs.Endings.{given_read, has_imported, has_stopped, imports}
 use Rattle.recording_engines.proofs.Endings.{opened_fresh, opened_ready, taken_of}
 use Rattle.recording_engines.proofs.Lengths.{taken_length}
@@ -221,3 +222,42 @@ returns-in_err-print-clause-quiet g c =
     let p = err_from_is_err_and c.from_residual-in_err-print.result
     c.from_residual-in_err-print.ensures.1 in
     rw (p.1, p.2) (never_refused c.in_err-print.field-0.0 _ c.in_err-print.ensures.unrefused)
+
+pub returns-in_err-said-clause-memory : goal.returns-in_err-said-clause-memory
+returns-in_err-said-clause-memory g c =
+    let p = err_from_is_err_and c.from_residual.result c.from_residual.ensures.1 in
+    rw (p.1, p.2) (λ memory. (refl, c.in_err-said.ensures.memory memory, inl refl))
+
+pub returns-in_err-flows-clause-memory : goal.returns-in_err-flows-clause-memory
+returns-in_err-flows-clause-memory g c =
+    let p = err_from_is_err_and c.from_residual-in_err-flows.result
+    c.from_residual-in_err-flows.ensures.1 in
+    rw (p.1, p.2) (λ memory. (refl, few_of _ _ _ _ _ c.in_ok-said.ensures.read, inl refl))
+
+pub returns-in_err-each-clause-memory : goal.returns-in_err-each-clause-memory
+returns-in_err-each-clause-memory g c =
+    let p = err_from_is_err_and c.from_residual-in_err-each.result
+    c.from_residual-in_err-each.ensures.1 in
+    rw (p.1) (λ memory. (refl, few_of _ _ _ _ _ c.in_ok-said.ensures.read, inl refl))
+
+pub returns-in_err-open_all-clause-memory : goal.returns-in_err-open_all-clause-memory
+returns-in_err-open_all-clause-memory g c =
+    let p = err_from_is_err_and c.from_residual-in_err-open_all.result
+    c.from_residual-in_err-open_all.ensures.1 in
+    rw (p.1, p.2) (λ memory. (refl, few_of _ _ _ _ _ c.in_ok-said.ensures.read, inl refl))
+
+pub returns-in_err-counts-clause-memory : goal.returns-in_err-counts-clause-memory
+returns-in_err-counts-clause-memory g c =
+    let p = err_from_is_err_and c.from_residual-in_err-counts.result
+    c.from_residual-in_err-counts.ensures.1 in
+    rw (p.1, p.2) (λ memory. (
+      refl,
+      few_of _ _ _ _ _ c.in_ok-said.ensures.read,
+      inr (of_joining _ c.in_err-counts.field-0.0 memory c.in_err-counts.ensures.only),
+    ))
+
+pub returns-in_err-counts-clause-quiet : goal.returns-in_err-counts-clause-quiet
+returns-in_err-counts-clause-quiet g c =
+    let p = err_from_is_err_and c.from_residual-in_err-counts.result
+    c.from_residual-in_err-counts.ensures.1 in
+    rw (p.1, p.2) (if_refused c.in_err-counts.field-0.0 refl)

@@ -1,4 +1,4 @@
-use Rattle.std.proofs.Common.{◌∙◌, arith, refl}
+use Rattle.std.proofs.Common.{◌∙◌, arith, inl, inr, refl}
 use Rattle.std.proofs.lemmas.Result.{err_from_is_err_and}
 use Rattle.run_outcome.proofs.Refusals.{of_refusal_map}
 use Rattle.recording_engines.specs.Progress.{none_written}
@@ -60,3 +60,11 @@ returns-in-Some-earliest-clause-stopped g c =
     many_joined l.files (took c.args.capture.now) (took l.capture) none_written l.written l.turn
     x.0 x.1 l.invariant.writes (omega (arith, c.loop-turn-test.false, l.auto.turn-end))
     l.invariant.ready c.in-Some-earliest.ensures
+
+pub returns-in_err-take_at-clause-only : goal.returns-in_err-take_at-clause-only
+returns-in_err-take_at-clause-only g c =
+    let p = err_from_is_err_and c.from_residual.result c.from_residual.ensures.1 in
+    rw (p.1, p.2) (inl c.in_err-take_at.ensures.only)
+
+pub returns-in-Some-earliest-clause-only : goal.returns-in-Some-earliest-clause-only
+returns-in-Some-earliest-clause-only g c = inr refl

@@ -1,4 +1,4 @@
-use Rattle.std.proofs.Common.{List, ap}
+use Rattle.std.proofs.Common.{List, ap, inl, inr}
 use Rattle.std.proofs.lemmas.Result.{err_from_is_err_and}
 use Rattle.std.specs.List.{sum_by}
 use Rattle.run_outcome.proofs.SetSums.{set_counted}
@@ -6,7 +6,7 @@ use Rattle.recording_engines.specs.Files.{begun_of, failures_by}
 use Rattle.recording_engines.specs.declared.file.ImportFile.{ImportFile}
 use Rattle.recording_engines.proofs.Blames.{blames_first, blames_second}
 use Rattle.recording_engines.proofs.FileFaults.{of_each}
-use Rattle.recording_engines.proofs.Taken.{led_reading, map_set, set_same}
+use Rattle.recording_engines.proofs.Taken.{at_set, led_reading, map_set, set_same}
 use Rattle.recording_engines.proofs.Written.{stops_at, takes_at}
 use Rattle.recording_engines.proofs.joining.take_at.Goals as goal
 
@@ -71,3 +71,21 @@ returns-clause-taken g c =
     c.go_on.new.self (took c.args.capture.now) (took c.write_next.new.capture) c.args.written.now
     c.write_next.new.written c.requires.ready c.requires.led.1 c.in_ok-write_next.ensures.written
     c.in_ok-go_on.ensures.read
+
+pub returns-in_err-write_next-clause-only : goal.returns-in_err-write_next-clause-only
+returns-in_err-write_next-clause-only g c =
+    let p = err_from_is_err_and c.from_residual.result c.from_residual.ensures.1 in
+    rw (p.1, p.2) (inl c.in_err-write_next.ensures.device)
+
+pub returns-in_err-go_on-clause-only : goal.returns-in_err-go_on-clause-only
+returns-in_err-go_on-clause-only g c =
+    let stops = c.in_err-go_on.ensures.stopped in
+    let p =
+    err_from_is_err_and c.from_residual-in_err-go_on.result
+    c.from_residual-in_err-go_on.ensures.1 in
+    rw (p.1, p.2) (inr (
+      stops.reading,
+      stops.told,
+      at_set stops.reading c.args.place c.args.files.now c.go_on.new.self c.requires.place
+          c.requires.ready stops.at,
+    ))

@@ -2,7 +2,7 @@ use Rattle.std.proofs.Common.{◌≡◌, ◌∙◌, ap, arith, refl, subst, sym,
 use Rattle.std.proofs.lemmas.Bool.{false≢true}
 use Rattle.st_format.specs.Device.{CountsOne, GrowsPart}
 use Rattle.receiver_engines.specs.Late.{late_octets}
-use Rattle.receiver_engines.proofs.Late.{on_err}
+use Rattle.run_outcome.proofs.Printed.{whenever}
 use Rattle.receiver_engines.proofs.LateTakings.{stands_behind, stands_cut, took_none, took_one}
 use Rattle.receiver_engines.proofs.late_capture.LateCaptureDatagramSink.put.Goals as goal
 
@@ -10,7 +10,7 @@ pub returns-then-self-clause-fails : goal.returns-then-self-clause-fails
 returns-then-self-clause-fails g c =
     let names = g.K.ByteSink.names in
     let cut : c.args.self.now.is_cut ≡ true = rw (← c.self.view_is) c.if-self.true in
-    on_err c.fail.result (record {
+    whenever c.fail.result _ (record {
       cut = c.fail.ensures.cut ∙ cut;
       counted = λ whole. absurd (false≢true (sym whole ∙ cut));
       part = λ whole. absurd (false≢true (sym whole ∙ cut));
@@ -37,7 +37,7 @@ returns-in-Err-clause-fails g c =
     let took = g.K.ByteSink.took in
     let same = c.fail-in-Err.ensures.sink in
     rw (← c.self.view_is)
-    (on_err c.fail-in-Err.result (record {
+    (whenever c.fail-in-Err.result _ (record {
       cut = c.fail-in-Err.ensures.cut;
       counted =
           λ _. subst (λ (n : ℕ). CountsOne (failures c.self.inside.sink) n)
@@ -74,6 +74,6 @@ returns-in-Err-clause-kept g c =
       c.fail-in-Err.ensures.before,
       c.fail-in-Err.ensures.text,
     )
-    (on_err c.fail-in-Err.result
+    (whenever c.fail-in-Err.result _
     (took_none _ _ _ _ _ _ _ c.args.octets.now c.if-self.false c.self.invariant
     (omega (arith, c.requires)) c.in-Err.ensures.part))
