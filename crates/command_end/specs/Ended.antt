@@ -3,10 +3,23 @@ use Rattle.std.specs.Prelude.{◌≡◌, ◌≢◌, ℕ, ◌⊎◌, List, [], �
 use Rattle.st_format.specs.Device.{Failed}
 use Rattle.run_outcome.specs.Fault.{EndsDone, EndsFailed}
 use Rattle.run_outcome.specs.Refusing.{TellsOutcome, TellsRefusal}
-use Rattle.run_outcome.specs.Telling.{memory_line}
+use Rattle.run_outcome.specs.Telling.{device_line, memory_line}
 use Rattle.run_outcome.specs.declared.fault.Fault.{Fault}
 use Rattle.run_outcome.specs.declared.fault.Fault.TheVariants.{Refused, Device, Memory}
 use Rattle.run_outcome.specs.declared.refusal.Refusal.{Refusal}
+
+-- What standard error took before it was told of a device: nothing; or, where what the run wrote
+-- could not be written out, what it was told of the run, a refusal or that memory was wanted.
+abbrev pub IsToldBefore : (Refusal → Type 0) → Bool → List ℕ → List ℕ → Type 0
+IsToldBefore Is whole took before =
+    (before ≡ took)
+    ⊎ ((whole ≡ false) × (TellsRefusal Is took before ⊎ (before ≡ took ++ memory_line)))
+
+-- Standard error was told last, by a line, that a device failed.
+pub record TellsDevice (Is : Refusal → Type 0) (whole : Bool) (took took' : List ℕ) : Type 0 where
+  pub before : List ℕ
+  pub is : IsToldBefore Is whole took before
+  pub told : took' ≡ before ++ device_line
 
 -- The status of an outcome, and of whether all was written out; what standard error took before and
 -- after, and how often it had failed. At 4 the run wanted memory, or a device did: no line wants

@@ -1,11 +1,12 @@
 //! A command over its devices: what it does, and how it ends.
-ghost use Rattle.std.specs.Prelude.{◌≡◌, ◌≢◌, ◌⊎◌, IfErr, IsErr, IsFalse, IsTrue, OnErr, OnOk};
-ghost use Rattle.std.specs.Prelude.{Result, ⊤};
-ghost use Rattle.command_end.specs.Ended.{EndsBy};
+ghost use Rattle.std.specs.Prelude.{◌≡◌, ◌≢◌, ◌⊎◌, [], IfErr, IsErr, IsFalse, IsTrue, OnErr};
+ghost use Rattle.std.specs.Prelude.{OnOk, Result, ⊤};
+ghost use Rattle.command_end.specs.Ended.{EndsBy, TellsDevice};
 ghost use Rattle.devices.specs.Passed.{output_failures, output_took};
 ghost use Rattle.run_outcome.specs.Refusing.{OfRefusal};
 ghost use Rattle.run_outcome.specs.declared.fault.Fault.{Fault as Cause};
 ghost use Rattle.run_outcome.specs.declared.refusal.Refusal.{Refusal as Reason};
+ghost use Rattle.st_format.specs.Device.{Failed};
 
 use crate::ending::end_run;
 use crate::hints::Hints;
@@ -90,6 +91,10 @@ pub fn run_command<C: Command + Drop>(rt: &HostRuntime, is_verbose: bool, comman
     ensures ends { EndsBy C.is_new C.does C.is_refused C.owes C.leaves result.status
         result.is_whole result.command (output_took result.faults)
         (output_failures result.faults) }
+    // At 3 standard error was told of the device last, unless it failed itself.
+    ensures blamed { result.status ≡ 3 → Failed 0 (output_failures result.faults)
+        ⊎ TellsDevice (C.is_refused command result.command) result.is_whole []
+        (output_took result.faults) }
     ensures placed { result.status ≡ 0 → C.is_placed result.command }
     ensures unplaced { result.status ≢ 0 → C.is_unplaced result.command }
 {

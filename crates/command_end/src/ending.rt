@@ -1,8 +1,10 @@
 //! How a command ends: by a status, by a line where it came to a fault, and, where that is asked
 //! for, by one more line that says where the fault is and what was wanted there.
 ghost use Rattle.std.specs.Prelude.{◌≡◌, ◌⊎◌, Err};
-ghost use Rattle.command_end.specs.Ended.{TellsEnd};
+ghost use Rattle.command_end.specs.Ended.{TellsDevice, TellsEnd};
 ghost use Rattle.devices.specs.Passed.{output_failures, output_took};
+ghost use Rattle.run_outcome.specs.declared.fault.Fault.TheVariants.{Refused};
+ghost use Rattle.st_format.specs.Device.{Failed};
 
 use crate::command::Ran;
 use crate::places::{Devices, explain};
@@ -19,9 +21,13 @@ pub(crate) fn end_run(
     devices: &Devices<'_>,
     faults: &mut OutputSink<Stderr>,
 ) -> u8
-    ensures { TellsEnd ran.outcome ran.is_whole result
+    ensures ends { TellsEnd ran.outcome ran.is_whole result
         (output_took faults.old) (output_took faults.new)
         (output_failures faults.old) (output_failures faults.new) }
+    ensures blamed { result ≡ 3
+        → Failed (output_failures faults.old) (output_failures faults.new)
+        ⊎ TellsDevice (λ r. ran.outcome ≡ Err (Refused r)) ran.is_whole
+        (output_took faults.old) (output_took faults.new) }
 {
     let outcome = blamed(ran.outcome, devices);
     let status = end(outcome, faults);
