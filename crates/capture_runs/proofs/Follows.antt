@@ -1,9 +1,10 @@
 -- What `follow` opens.
-use Rattle.std.proofs.Common.{◌≡◌, List, [], ◌∷◌, ◌++◌, subst, sym}
+use Rattle.std.proofs.Common.{◌≡◌, ℕ, List, [], ◌∷◌, ◌++◌, Option, subst, sym}
 use Rattle.std.specs.List.{AllByRecursion}
 use Rattle.side_by_side.specs.Side.{closed_side}
 use Rattle.side_by_side.specs.declared.side.Side.{Side}
 use Rattle.capture_runs.specs.Followed.{AreNewSides}
+use Rattle.capture_runs.specs.Pictured.{HasSoundFill, IsFillGiven}
 use Rattle.capture_runs.specs.Replayed.{replayed_gave}
 use Rattle.capture_runs.specs.declared.replayed.Replayed.{Replayed}
 
@@ -18,3 +19,7 @@ pub new_more : {A : Type 0} (sides : List (Side A Replayed)) (x : Side A Replaye
 new_more sides x r are none is =
     subst (λ (y : Side _ Replayed). AreNewSides (sides ++ y ∷ [])) (sym is)
     (all_more _ sides (closed_side r) are.0 tt, all_more _ sides (closed_side r) are.1 none)
+
+-- a fill that was read
+pub says_fill : (text values : Option (List ℕ)) → IsFillGiven text values → HasSoundFill text
+says_fill text values is = (values, is)

@@ -1,7 +1,12 @@
 -- What a run that ends by a fault has saved, and left as it was.
-use Rattle.std.proofs.Common.{◌≡◌, ℕ, Result, Ok, Err, Option, None, Some, List, ap, inl}
-use Rattle.std.specs.Prelude.{◌⊎◌, IfErr, MatchOption, OnErr, ⊤}
+use Rattle.std.proofs.Common.{◌≡◌, ℕ, Result, Ok, Err, Option, None, Some, List, ap, subst, sym}
+use Rattle.std.specs.Prelude.{IfErr, MatchOption, MatchResult, OnErr, Vec, ⊤}
 use Rattle.capture_engines.specs.declared.reception.Reception.{Reception}
+use Rattle.capture_runs.specs.Opened.{said_text}
+use Rattle.capture_runs.specs.Refused.{HasSdpText}
+use Rattle.capture_runs.specs.declared.opening.Files.{Files}
+use Rattle.capture_runs.specs.declared.replayed.Replayed.{Replayed}
+use Rattle.recording_engines.specs.Ways.{AreWaysBy}
 use Rattle.run_outcome.specs.Fault.{Accounts, Blames, Failures, IfRefused}
 use Rattle.run_outcome.specs.declared.fault.Fault.{Fault}
 use Rattle.run_outcome.specs.Refusing.{OfRefusal}
@@ -33,7 +38,39 @@ untouched (Err Memory) If printed sink sink' output output' before last kept qui
 -- what a run that was not begun is refused by, and what it leaves
 pub opened_refused : (f : Fault) (opened : Result (Unit {0}) Fault) (R : Refusal → Type 0)
     (Left : Type 0) → opened ≡ Err f → Left
-    → OfRefusal f (λ r. ((opened ≡ Err (Refused r)) ⊎ R r) × Left)
-opened_refused (Refused r) opened R Left is left = (inl is, left)
+    → OfRefusal f (λ r. MatchResult opened (λ _. R r) (λ g. g ≡ Refused r) × Left)
+opened_refused (Refused r) opened R Left is left = (by opened is, left)
+  where
+    by : (o : Result (Unit {0}) Fault) → o ≡ Err (Refused r)
+        → MatchResult o (λ _. R r) (λ g. g ≡ Refused r)
+    by (Ok v) is = absurd cc
+    by (Err g) is = cc
 opened_refused Device opened R Left is left = tt
 opened_refused Memory opened R Left is left = tt
+
+-- and one that was, by what it came to
+pub begun_refused : {P : Type 0} (opened : Result (Unit {0}) Fault) (v : Unit {0}) (r : Refusal)
+    → opened ≡ Ok v → P → MatchResult opened (λ _. P) (λ g. g ≡ Refused r)
+begun_refused (Ok u) v r is why = why
+begun_refused (Err f) v r is why = absurd cc
+
+-- ---- what is behind the words
+
+-- no SDP is named
+pub none_read : (sdp : Option Replayed) (said : Option (List ℕ)) → sdp ≡ None
+    → HasSdpText sdp said
+none_read None said none = tt
+none_read (Some file) said none = absurd cc
+
+-- it stays as it was read
+pub sdp_kept : (old new : Files) → new.sdp ≡ old.sdp → new.said ≡ old.said
+    → HasSdpText old.sdp (said_text old.said) → HasSdpText new.sdp (said_text new.said)
+sdp_kept old new sdp said is =
+    subst (λ (x : Option Replayed). HasSdpText x (said_text new.said)) (sym sdp)
+    (subst (λ (x : Option (Vec ℕ _)). HasSdpText old.sdp (said_text x)) (sym said) is)
+
+-- and so do the flows by which files are taken
+pub ways_kept : (a b : Option (List ℕ)) (n : ℕ) (old new : Files) → new.said ≡ old.said
+    → new.ways ≡ old.ways → AreWaysBy a b (said_text old.said) n old.ways.items
+    → (m : ℕ) × AreWaysBy a b (said_text new.said) m new.ways.items
+ways_kept a b n old new said ways is = (n, rw (said, ways) is)

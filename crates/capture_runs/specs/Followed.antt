@@ -1,9 +1,10 @@
 -- What `follow` opens on this machine, and refuses before it reads files (own).
 use Rattle.std.specs.Prelude.{◌≡◌, ◌⊎◌, ℕ, Bool, List, [], ◌∷◌, ◌++◌, IsTrue, Option, Result}
 use Rattle.std.specs.List.{AllByRecursion}
-use Rattle.capture_runs.specs.Outputs.{FilesFrames, TakesReport}
-use Rattle.capture_runs.specs.Pictured.{IsFillRefusal, TakesPictureStream}
-use Rattle.capture_runs.specs.Refused.{IsFlowRefusal, IsTooLongSdp}
+use Rattle.capture_runs.specs.Opened.{said_text}
+use Rattle.capture_runs.specs.Outputs.{AreApart, FilesFrames, TakesReport}
+use Rattle.capture_runs.specs.Pictured.{HasSoundFill, IsFillRefusal, TakesPictureStream}
+use Rattle.capture_runs.specs.Refused.{HasSdpText, IsFlowRefusal, IsTooLongSdp}
 use Rattle.capture_runs.specs.Replayed.{replayed_ended, replayed_gave}
 use Rattle.capture_runs.specs.declared.opening.Files.{Files}
 use Rattle.capture_runs.specs.declared.outputs.FollowOutputs.{FollowOutputs}
@@ -11,7 +12,7 @@ use Rattle.capture_runs.specs.declared.replayed.Replayed.{Replayed}
 use Rattle.flow.specs.declared.flows.Flows.{Flows}
 use Rattle.follow_engine.specs.Followed.{FollowsWhole, StopsShort}
 use Rattle.follow_engine.specs.Opened.{AllClosedSides}
-use Rattle.follow_engine.specs.Refused.{IsFollowWordRefusal}
+use Rattle.follow_engine.specs.Refused.{AskForFrames, IsFirstOfWords}
 use Rattle.follow_engine.specs.Sides.{SideRead}
 use Rattle.follow_engine.specs.declared.opening.FollowAsked.{FollowAsked}
 use Rattle.follow_engine.specs.declared.telling.FollowTotals.{FollowTotals}
@@ -28,13 +29,18 @@ abbrev pub AreNewSides : {A : Type 0} → List (Side A Replayed) → Type 0
 AreNewSides sides =
     AllClosedSides sides × AllByRecursion (λ s. gave_by replayed_gave s.file ≡ []) sides
 
--- The refusals before a file is read, in their order: of the words, and of the fill's; that what is
--- to be written is read; of the SDP's length; of the words for flows.
-abbrev pub IsFollowOpening : FollowAsked → Option (List ℕ) → Bool → Option (List ℕ)
-    → Option (List ℕ) → Files → Refusal → Type 0
-IsFollowOpening w fill is_input a b files r = IsFollowWordRefusal w.frames w.ssrc.now r
-    ⊎ (IsFillRefusal fill r ⊎ ((r ≡ OutputIsInput Follow) × IsTrue is_input
-    ⊎ (IsTooLongSdp files.sdp r ⊎ IsFlowRefusal a b r)))
+-- The refusals before a file is read, each only where none before it is: of the words; of the
+-- fill's; that what is to be written is read; of the SDP's length; of the words for flows.
+abbrev pub IsFollowOpening : FollowAsked → Option (List ℕ) → FollowOutputs → Bool
+    → Option (List ℕ) → Option (List ℕ) → Files → Refusal → Type 0
+IsFollowOpening w fill outputs is_input a b files r = IsFirstOfWords w.frames w.ssrc.now r
+    ⊎ (AskForFrames w.frames w.ssrc.now
+    × (IsFillRefusal fill r
+    ⊎ (HasSoundFill fill
+    × (((r ≡ OutputIsInput Follow) × IsTrue is_input)
+    ⊎ (AreApart outputs is_input
+    × (IsTooLongSdp files.sdp r
+    ⊎ (HasSdpText files.sdp (said_text files.said) × IsFlowRefusal a b r)))))))
 
 -- these frames are listed, each behind those before it
 abbrev pub IsListed : List Handed → Handed → List Handed → Type 0

@@ -22,6 +22,10 @@ IsFillGiven (Some text) None = ⊥
 IsFillGiven (Some text) (Some fill) =
     IsFillText text (slice_index fill 0) (slice_index fill 1) (slice_index fill 2)
 
+-- a text, where there is one, says some
+abbrev pub HasSoundFill : Option (List ℕ) → Type 0
+HasSoundFill text = (values : Option (List ℕ)) × IsFillGiven text values
+
 -- a text says none
 abbrev pub IsNoFillText : Option (List ℕ) → Type 0
 IsNoFillText None = ⊥

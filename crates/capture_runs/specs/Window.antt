@@ -1,5 +1,5 @@
 -- Which window `receive` takes (own).
-use Rattle.std.specs.Prelude.{◌≡◌, ℕ, List, length, All, Option, None, Some, Result}
+use Rattle.std.specs.Prelude.{◌≡◌, ◌⊎◌, ℕ, List, length, All, Option, None, Some, Result}
 use Rattle.std.specs.List.{zip}
 use Rattle.capture_engines.specs.Received as words
 use Rattle.capture_runs.specs.Looked.{ReadNone}
@@ -45,6 +45,16 @@ abbrev pub IsFoundWindow : List ℕ → List ℕ → Option (List ℕ) → List 
 IsFoundWindow window source sdp ways None = ((count : ℕ) → AsksFirst window count → ⊥)
 IsFoundWindow window source sdp ways (Some f) = IsFound window source sdp ways f
 
+-- the words ask for a window: they list timestamps, or ask for the first ones
+abbrev pub AsksForWindow : List ℕ → Type 0
+AsksForWindow window = ((ts : List ℕ) × AreTimestamps window ts)
+    ⊎ ((count : ℕ) × AsksFirst window count)
+
+-- and for a source
+abbrev pub AskForReceiver : List ℕ → List ℕ → Type 0
+AskForReceiver window source =
+    AsksForWindow window × ((pin : Option ℕ) × IsSourceText source pin)
+
 -- ---- refusals
 
 -- The refusals of the words: those of listed timestamps and of the source; and the window's only
@@ -52,6 +62,15 @@ IsFoundWindow window source sdp ways (Some f) = IsFound window source sdp ways f
 pub record IsWindowWordRefusal (window source : List ℕ) (r : Refusal) : Type 0 where
   pub is : words.IsWordRefusal window source r
   pub other : r ≡ ReceiveWindow → (count : ℕ) → AsksFirst window count → ⊥
+
+-- the window is looked at first: where the source is refused, it lists timestamps, or asks for the
+-- first ones
+abbrev pub IsBehindAsked : List ℕ → Refusal → Type 0
+IsBehindAsked window r = words.IsBehindWindow window r ⊎ ((count : ℕ) × AsksFirst window count)
+
+-- the first refusal of the words
+abbrev pub IsFirstAsked : List ℕ → List ℕ → Refusal → Type 0
+IsFirstAsked window source r = IsWindowWordRefusal window source r × IsBehindAsked window r
 
 -- The refusals where the first timestamps are looked for, of what was read of files from their
 -- fronts on, each taken so.

@@ -1,5 +1,6 @@
 //! `follow` over the devices of this machine.
-ghost use Rattle.std.specs.Prelude.{◌≡◌, ◌∷◌, [], Err, IfErr, IfOk, MatchResult, OnOk, length};
+ghost use Rattle.std.specs.Prelude.{◌≡◌, ◌∷◌, [], Err, IfErr, IfOk, MatchResult, None, OnOk};
+ghost use Rattle.std.specs.Prelude.{length};
 ghost use Rattle.std.specs.List.{zip};
 ghost use Rattle.std.specs.Option.{option_copied};
 ghost use Rattle.capture_runs.specs.Followed.{AreNewSides, FollowsFiles, IsFollowOpening};
@@ -208,6 +209,7 @@ fn open<'a>(
     files: &mut Files<'a>,
 ) -> Result<Option<[u16; 3]>, Fault>
     requires unread { AreUnread files.old }
+    requires none { files.old.sdp ≡ None }
     requires unwritten { AreUnwritten outputs.old }
     ensures unread { AreUnread files.new }
     ensures unwritten { AreUnwritten outputs.new }
@@ -216,7 +218,7 @@ fn open<'a>(
     ensures ways { OnOk result (AreWaysBy (option_copied flows.entry.a)
         (option_copied flows.entry.b) (said_text files.new.said) count files.new.ways.items) }
     ensures refusal { IfErr result (λ f. OfRefusal f (IsFollowOpening asked.entry
-        (option_copied fill.entry) is_input (option_copied flows.entry.a)
+        (option_copied fill.entry) outputs.new is_input (option_copied flows.entry.a)
         (option_copied flows.entry.b) files.new)) }
 {
     check_words(asked)?;
@@ -327,7 +329,7 @@ impl<'a> Command for FollowCommand<'a> {
         × OnOk c.opened (AreWaysBy (option_copied c.flows.a) (option_copied c.flows.b)
         (said_text c.files.said) (length c.sides.items) c.files.ways.items)
         × IfErr c.opened (λ f. OfRefusal f (IsFollowOpening c.asked (option_copied c.fill)
-        c.is_input (option_copied c.flows.a) (option_copied c.flows.b) c.files)) };
+        c.outputs c.is_input (option_copied c.flows.a) (option_copied c.flows.b) c.files)) };
 
     // What is printed is a line for each frame that leaves a follower, of all records of the
     // captures and recordings that were read as they go side by side, of recordings by their flows;

@@ -5,7 +5,8 @@ ghost use Rattle.std.specs.Prelude.{length, vec_len};
 ghost use Rattle.std.specs.Option.{option_copied};
 ghost use Rattle.capture_runs.specs.Looked.{ReadNone};
 ghost use Rattle.capture_runs.specs.Opened.{AreUnread, said_text};
-ghost use Rattle.capture_runs.specs.Refused.{IsFlowRefusal, IsReceiveStartRefusal, IsTooLongSdp};
+ghost use Rattle.capture_runs.specs.Refused.{HasSdpText, IsFlowRefusal, IsReceiveStartRefusal};
+ghost use Rattle.capture_runs.specs.Refused.{IsTooLongSdp};
 ghost use Rattle.capture_runs.specs.Replayed.{replayed_ended, replayed_gave};
 ghost use Rattle.capture_runs.specs.Window.{IsFoundWindow, IsLookedRefusal, IsSought};
 ghost use Rattle.devices.specs.Passed.{IsUnplaced, LeavesNoPart, file_took};
@@ -63,6 +64,7 @@ impl<'a> Files<'a> {
     /// Where nothing is read yet.
     pub(crate) fn new(rt: &HostRuntime, meter: &Meter) -> Files<'a>
         ensures unread { AreUnread result }
+        ensures unsaid { result.sdp ≡ None }
         ensures none { result.found ≡ None }
     {
         Files {
@@ -88,6 +90,7 @@ impl<'a> Files<'a> {
         is_input: bool,
     ) -> Result<(), Fault>
         requires unread { AreUnread self.old }
+        requires unsaid { self.old.sdp ≡ None }
         requires none { self.old.found ≡ None }
         ensures unread { AreUnread self.new }
         ensures found { OnOk result (IsFoundWindow asked.entry.wanted.window.now
@@ -123,6 +126,8 @@ impl<'a> Files<'a> {
         requires { AreUnread self.old }
         ensures unread { AreUnread self.new }
         ensures found { self.new.found ≡ self.old.found }
+        ensures read { OnOk result (self.old.sdp ≡ None
+            → HasSdpText self.new.sdp (said_text self.new.said)) }
         ensures refusal { IfErr result (λ f. OfRefusal f (IsTooLongSdp self.new.sdp)) }
     {
         let Some(name) = name else {
@@ -190,6 +195,7 @@ impl<'a> Files<'a> {
         requires unread { AreUnread self.old }
         requires asked { IsSought asked.wanted.window.now asked.wanted.ssrc.now (Some sought) }
         ensures unread { AreUnread self.new }
+        ensures sdp { self.new.sdp ≡ self.old.sdp }
         ensures said { self.new.said ≡ self.old.said }
         ensures ways { self.new.ways ≡ self.old.ways }
         ensures found { OnOk result (IsFoundWindow asked.entry.wanted.window.now

@@ -1,6 +1,7 @@
 //! `receive` over the devices of this machine.
-ghost use Rattle.std.specs.Prelude.{◌≡◌, ◌⊎◌, ◌∷◌, [], ⊤, Err, IfErr, IsErr, IsFalse, IsSome};
-ghost use Rattle.std.specs.Prelude.{IsTrue, MatchOption, None, OnErr, OnOk, length, sum_by};
+ghost use Rattle.std.specs.Prelude.{◌≡◌, ◌⊎◌, ◌∷◌, [], ⊤, IfErr, IsErr, IsFalse, IsSome};
+ghost use Rattle.std.specs.Prelude.{IsTrue, MatchOption, MatchResult, None, OnErr, OnOk, length};
+ghost use Rattle.std.specs.Prelude.{sum_by};
 ghost use Rattle.std.specs.List.{zip};
 ghost use Rattle.std.specs.Option.{option_copied};
 ghost use Rattle.capture_engines.specs.Counted.{CountsReceived};
@@ -227,12 +228,13 @@ impl<'a> Command for ReceiveCommand<'a> {
         (said_text old.files.said) old.files.ways.items ReplayedRead
         (zip old.files.recordings.items new.files.recordings.items)) };
 
-    // A refusal before datagrams were taken, or one of the words or of what was read. Then nothing
-    // is printed or written, but what came before a fault, where that is saved.
-    ghost is_refused = { λ old new r. ((old.opened ≡ Err (Refused r))
-        ⊎ IsReceivingRefusal (window_text old.files.found old.asked.wanted.window.now)
+    // The refusal before datagrams were taken, where there is one; else one of the words or of what
+    // was read. Then nothing is printed or written, but what came before a fault, where that is
+    // saved.
+    ghost is_refused = { λ old new r. MatchResult old.opened (λ _.
+        IsReceivingRefusal (window_text old.files.found old.asked.wanted.window.now)
         old.asked.wanted.ssrc.now (said_text old.files.said) old.files.ways.items ReplayedRead
-        (zip old.files.recordings.items new.files.recordings.items) r)
+        (zip old.files.recordings.items new.files.recordings.items) r) (λ f. f ≡ Refused r)
         × (IsFalse old.is_sound → AreUntouched old.state new.state old.output new.output) };
 
     ghost is_placed = { λ c. IsInPlace c.state × IsFalse c.is_input };

@@ -1,12 +1,11 @@
 //! The window of the first timestamps that come of captures and recordings.
-ghost use Rattle.std.specs.Prelude.{◌≡◌, ◌<◌, All, IfErr, IfOk, Some, length};
+ghost use Rattle.std.specs.Prelude.{◌≡◌, ◌<◌, All, IfErr, IfOk, OnOk, Some, length};
 ghost use Rattle.std.specs.List.{zip};
 ghost use Rattle.std.specs.Option.{option_copied};
 ghost use Rattle.capture_runs.specs.Looked.{ReadNone};
 ghost use Rattle.capture_runs.specs.Replayed.{ReplayedRead};
-ghost use Rattle.capture_runs.specs.Window.{IsFound, IsLookedRefusal, IsSought};
-ghost use Rattle.capture_runs.specs.Window.{IsWindowWordRefusal};
-ghost use Rattle.capture_runs.specs.Window.{window_text};
+ghost use Rattle.capture_runs.specs.Window.{AskForReceiver, IsBehindAsked, IsFound, IsSought};
+ghost use Rattle.capture_runs.specs.Window.{IsLookedRefusal, IsWindowWordRefusal, window_text};
 ghost use Rattle.run_outcome.specs.Refusing.{OfRefusal};
 ghost use Rattle.window_finding.specs.Finding.{FindsFirst, IsFindRefusal};
 
@@ -37,8 +36,10 @@ pub struct Found<'a> {
 /// neither a number nor `any`; and that memory was wanted.
 pub(crate) fn read_words(rt: &HostRuntime, wanted: Wanted<'_>) -> Result<Option<Sought>, Fault>
     ensures asked { IfOk result (IsSought wanted.entry.window.now wanted.entry.ssrc.now) }
+    ensures words { OnOk result (AskForReceiver wanted.entry.window.now wanted.entry.ssrc.now) }
     ensures refusal { IfErr result (λ f. OfRefusal f
         (IsWindowWordRefusal wanted.entry.window.now wanted.entry.ssrc.now)) }
+    ensures first { IfErr result (λ f. OfRefusal f (IsBehindAsked wanted.entry.window.now)) }
 {
     let Some(count) = read_first(wanted.window) else {
         check_words(rt.alloc(), wanted)?;

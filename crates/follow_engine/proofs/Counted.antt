@@ -15,9 +15,9 @@ use Rattle.side_by_side.specs.Strands.{Goes, GoesWhole, TakesAt}
 use Rattle.side_by_side.specs.declared.side.Side.{Side}
 use Rattle.side_by_side.specs.declared.steering.Steering.{Steering}
 use Rattle.st_format.specs.declared.path.Path.{Path}
-use Rattle.follow_engine.specs.Order.{datagrams_in, most_datagrams}
+use Rattle.follow_engine.specs.Order.{GoesToFault, datagrams_in, most_datagrams}
 use Rattle.follow_engine.specs.Refused.{StopsFollowing, StopsReadSides}
-use Rattle.follow_engine.proofs.First.{goes_first}
+use Rattle.follow_engine.proofs.First.{goes_first, goes_to_fault}
 use Rattle.follow_engine.proofs.Turns.{since_by, since_more}
 use Rattle.follow_engine.proofs.Whole.{datagrams_from}
 
@@ -121,13 +121,22 @@ many_read gave ended source source' sides is known none at many octets read =
     ))
 
 -- what stops files stops them by what was read
-pub stops_read : {A S : Type 0} (gave : S → List ℕ) (ended : S → Type 0)
+pub stops_read : {A S : Type 0} (gave : S → List ℕ) (ended : S → Type 0) (st : Steering)
     (source source' : Sides A S) (sides : List (Side A S)) (r : Refusal) → IsSideBySide source'
     → AllByRecursion (λ s. HasKnownOctets gave ended s.file) source'.sides → source.came ≡ []
-    → source'.sides ≡ sides
+    → source'.steering ≡ st → source'.sides ≡ sides
     → StopsFollowing (length (datagrams_since source.came source'.came)) source'.sides r
-    → StopsReadSides gave ended sides r
-stops_read gave ended source source' sides r is known none at (inl stops) =
-    subst (λ (l : List (Side _ _)). StopsReadSides gave ended l r) at (inl stops)
-stops_read gave ended source source' sides r is known none at (inr many) =
+    → StopsReadSides gave ended st sides r
+stops_read gave ended st source source' sides r is known none steering at (inl (f, told, stops)) =
+    subst (λ (l : List (Side _ _)). StopsReadSides gave ended st l r) at
+    (inl (
+      f,
+      told,
+      stops,
+      is.entries,
+      λ octets read.
+          subst (λ (x : Steering). GoesToFault f x (strands_of source'.sides octets) is.entries)
+          steering (goes_to_fault gave ended source' octets f r is known told stops read),
+    ))
+stops_read gave ended st source source' sides r is known none steering at (inr many) =
     inr (many.0, many_read gave ended source source' sides is known none at many.1)

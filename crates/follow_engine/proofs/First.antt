@@ -6,37 +6,48 @@ use Rattle.std.specs.Prelude.{⊤}
 use Rattle.flow.specs.declared.flows.Flows.{Flows}
 use Rattle.media_file.specs.Records.{Entry}
 use Rattle.recording_counts.specs.declared.left_out.LeftOut.{LeftOut}
-use Rattle.recording_engines.proofs.FileFaults.{fault_none, strand_by}
-use Rattle.recording_engines.specs.Files.{HasKnownOctets}
+use Rattle.recording_engines.proofs.FileFaults.{fault_is, fault_none, of_file, strand_by}
+use Rattle.recording_engines.specs.Files.{HasKnownOctets, IsFailedAt}
 use Rattle.recording_engines.specs.Joining.{ComesNoFault, Strand}
-use Rattle.recording_engines.specs.Steps.{lefts, nothing, whole, whole_by, wholes}
+use Rattle.recording_engines.specs.Steps.{Ahead, Over, left_by, left_of, lefts, nothing, whole}
+use Rattle.recording_engines.specs.Steps.{whole_by, wholes}
 use Rattle.recording_engines.specs.Strands.{fault_of_file, strand_in}
 use Rattle.recording_engines.specs.declared.file.ImportFile.{ImportFile}
 use Rattle.recording_engines.specs.declared.file.ImportFile.TheVariants.{Closed, Open, Taken}
 use Rattle.recording_reader.specs.FileReader.{IsKnownBy}
+use Rattle.recording_reader.specs.Files.{HaveFileRecords, IsFileFault}
 use Rattle.recording_reader.specs.declared.fault.ReadingFault.{ReadingFault}
 use Rattle.recording_reader.specs.declared.way.Standing.{Standing as Stand}
 use Rattle.recording_reader.specs.declared.way.Standing.TheVariants.{Reads, Ended, Failed}
+use Rattle.run_outcome.specs.LowerFaults.{reading_fault}
+use Rattle.run_outcome.specs.declared.fault.Fault.{Fault}
+use Rattle.run_outcome.specs.declared.fault.Fault.TheVariants.{Device, Memory, Refused}
+use Rattle.run_outcome.specs.declared.refusal.Refusal.{Refusal}
 use Rattle.side_by_side.specs.Going.{first_place}
 use Rattle.side_by_side.specs.Side.{ahead_by, standing_by}
-use Rattle.side_by_side.specs.Sides.{FileGave, IsSideBySide, SideGave, Sides, standings, strand_of}
-use Rattle.side_by_side.specs.Sides.{strands_of}
+use Rattle.side_by_side.specs.Sides.{FileGave, IsSideBySide, OneSideAt, SideGave, Sides, standings}
+use Rattle.side_by_side.specs.Sides.{strand_of, strands_of}
 use Rattle.side_by_side.specs.Strands.{AllRunning, Goes, TakesAt, going_in, goings_in}
 use Rattle.side_by_side.specs.declared.going.Going.{Going}
 use Rattle.side_by_side.specs.declared.going.Going.TheVariants.{Unread, AtOnce, By, Never}
 use Rattle.side_by_side.specs.declared.side.Side.{Side}
 use Rattle.side_by_side.specs.declared.steering.Steering.{Steering}
-use Rattle.follow_engine.specs.Order.{GoesFirst}
+use Rattle.follow_engine.specs.Order.{GoesFirst, GoesToFault, OneIsAt}
 
 abbrev strand : List Entry → Option ReadingFault → Strand
 strand es f = record { entries = es; fault = f }
 
 -- ---- files that have more behind a fault
 
--- one has what another has, and where that is at its fault then it may have more
+-- no run is refused by this fault
+abbrev RefusesNone : ReadingFault → Type 0
+RefusesNone f = (r : Refusal) → reading_fault f ≡ Refused r → ⊥
+
+-- one has what another has, and where that is at a fault by which no run is refused then it may
+-- have more
 abbrev IsLonger : Strand → Strand → Type 0
 IsLonger s s' = (s' ≡ s)
-    ⊎ ((f : ReadingFault) × (more : List Entry) × (s.fault ≡ Some f)
+    ⊎ ((f : ReadingFault) × (more : List Entry) × (s.fault ≡ Some f) × RefusesNone f
     × (s'.entries ≡ s.entries ++ more))
 
 abbrev AllLonger : List Strand → List Strand → Type 0
@@ -60,7 +71,7 @@ going_longer : (st : Steering) (s s' : Strand) → IsLonger s s' → ComesNoFaul
     → going_in st s'.entries ≡ going_in st s.entries
 going_longer st s s' (inl same) runs = ap (λ (x : Strand). going_in st x.entries) same
 going_longer st s s' (inr more) runs =
-    going_more st s.entries s'.entries more.1 s.fault more.0 more.2 more.3 runs
+    going_more st s.entries s'.entries more.1 s.fault more.0 more.2 more.4 runs
 
 running_more : (es es' more : List Entry) (fault fault' : Option ReadingFault)
     (f : ReadingFault) → fault ≡ Some f → es' ≡ es ++ more → ComesNoFault es fault
@@ -74,7 +85,7 @@ running_longer : (s s' : Strand) → IsLonger s s' → ComesNoFault s.entries s.
 running_longer s s' (inl same) runs =
     subst (λ (x : Strand). ComesNoFault x.entries x.fault) (sym same) runs
 running_longer s s' (inr more) runs =
-    running_more s.entries s'.entries more.1 s.fault s'.fault more.0 more.2 more.3 runs
+    running_more s.entries s'.entries more.1 s.fault s'.fault more.0 more.2 more.4 runs
 
 cons_going : {x y : Going} {xs ys : List Going} → x ≡ y → xs ≡ ys → x ∷ xs ≡ y ∷ ys
 cons_going one rest = cc
@@ -112,11 +123,11 @@ takes_first s s' l ss ss' ls e (inl same) rest is are = (
 takes_first s s' l ss ss' ls e (inr more) rest is are =
     let fault : l.fault ≡ Some more.0 = sym (ap (λ (x : Strand). x.fault) is) ∙ more.2 in
     let entries : s'.entries ≡ e ∷ (l.entries ++ more.1) =
-    more.3 ∙ ap (λ (x : Strand). x.entries ++ more.1) is in (
+    more.4 ∙ ap (λ (x : Strand). x.entries ++ more.1) is in (
       strand (l.entries ++ more.1) s'.fault ∷ ss',
       (ap (λ (x : List Entry). strand x s'.fault) entries, refl),
       (
-        inr (more.0, more.1, fault, refl),
+        inr (more.0, more.1, fault, more.3, refl),
         subst (λ (x : List Strand). AllLonger x ss') (sym are) rest,
       ),
     )
@@ -135,15 +146,26 @@ takes_longer (suc place) (s ∷ ss) (s' ∷ ss') (l ∷ ls) e longer takes =
       (subst (λ (x : Strand). IsLonger x s') (sym takes.0) longer.0, rest.2),
     )
 
+-- what goes, and what is left then
+record GoesLonger (st : Steering) (ss : List Strand) (es : List Entry) (left : List Strand) : Type 0
+  where
+    pub left' : List Strand
+    pub goes : Goes st ss es left'
+    pub longer : AllLonger left left'
+
 goes_longer : (st : Steering) (ss ss' : List Strand) (es : List Entry) (left : List Strand)
-    → AllLonger ss ss' → Goes st ss es left → GoesFirst st ss' es
-goes_longer st ss ss' [] left longer goes = record { left = ss'; goes = refl }
+    → AllLonger ss ss' → Goes st ss es left → GoesLonger st ss' es left
+goes_longer st ss ss' [] left longer goes = record {
+  left' = ss';
+  goes = refl;
+  longer = subst (λ (l : List Strand). AllLonger l ss') (sym goes) longer;
+}
 goes_longer st ss ss' (e ∷ es) left longer goes =
     let next = goes.1 in
     let one = takes_longer next.place ss ss' goes.0 e longer next.takes in
     let rest = goes_longer st goes.0 one.0 es left one.2 goes.2 in
     record {
-      left = rest.left;
+      left' = rest.left';
       goes = (
         one.0,
         record {
@@ -155,6 +177,7 @@ goes_longer st ss ss' (e ∷ es) left longer goes =
         },
         rest.goes,
       );
+      longer = rest.longer;
     }
 
 -- ---- what was read
@@ -172,6 +195,30 @@ reads_whole Never h es r = refl
 abbrev HasLonger : List Entry → Stand → Going → Option Entry → Strand → Type 0
 HasLonger es stand w h s = (r : Strand) × IsLonger (whole_by es (ahead_by stand w h) r) s
 
+none_refuses : (f : ReadingFault) (x : Fault) → reading_fault f ≡ x
+    → ((r : Refusal) → x ≡ Refused r → ⊥) → RefusesNone f
+none_refuses f x is none = λ r told. none r (sym is ∙ told)
+
+not_device : (r : Refusal) → Device ≡ Refused r → ⊥
+not_device r is = cc
+
+not_memory : (r : Refusal) → Memory ≡ Refused r → ⊥
+not_memory r is = cc
+
+-- at a fault by which a run is refused all of its records were read
+longer_at : (flows : Option Flows) (f : ReadingFault) (w : Going) (h : Option Entry)
+    (octets : List ℕ) (es : List Entry) (left : LeftOut)
+    → IsKnownBy flows (Failed f) octets es left → (x : Fault) → reading_fault f ≡ x
+    → HasLonger es (Failed f) w h (strand_in flows octets)
+longer_at flows f w h octets es left known (Refused why) told =
+    let is =
+    of_file (HaveFileRecords flows octets es left × IsFileFault f octets) f why told known.1 in
+    (nothing, inl (strand_by flows octets es (Some f) is.0.records_are (fault_is f octets is.1)))
+longer_at flows f w h octets es left known Device told =
+    (nothing, inr (f, known.0.0, refl, none_refuses f Device told not_device, known.0.1))
+longer_at flows f w h octets es left known Memory told =
+    (nothing, inr (f, known.0.0, refl, none_refuses f Memory told not_memory, known.0.1))
+
 longer_by : (flows : Option Flows) (stand : Stand) (w : Going) (h : Option Entry)
     (octets : List ℕ) (es : List Entry) (left : LeftOut) → IsKnownBy flows stand octets es left
     → HasLonger es stand w h (strand_in flows octets)
@@ -184,7 +231,7 @@ longer_by flows Reads w h octets es left known =
 longer_by flows Ended w h octets es left known =
     (nothing, inl (strand_by flows octets es None known.0.records_are (fault_none octets known.1)))
 longer_by flows (Failed f) w h octets es left known =
-    (nothing, inr (f, known.0.0, refl, known.0.1))
+    longer_at flows f w h octets es left known (reading_fault f) refl
 
 longer_file : {A S : Type 0} (gave : S → List ℕ) (ended : S → Type 0) (w : Going)
     (f : ImportFile A S) (octets : List ℕ) → HasKnownOctets gave ended f
@@ -214,5 +261,67 @@ pub goes_first : {A S : Type 0} (gave : S → List ℕ) (ended : S → Type 0) (
     → GoesFirst s.steering (strands_of s.sides octets) is.entries
 goes_first gave ended s octets is known read =
     let all = all_longer gave ended s.sides octets known read in
+    let rest =
     goes_longer s.steering (wholes (standings s.sides) all.0) (strands_of s.sides octets)
-    is.entries (lefts (standings s.sides) all.0) all.1 (is.gone.goes all.0)
+    is.entries (lefts (standings s.sides) all.0) all.1 (is.gone.goes all.0) in
+    record { left = rest.left'; goes = rest.goes }
+
+-- ---- the fault of the one whose turn it is
+
+same_some : (f g : ReadingFault) → Some f ≡ Some g → f ≡ g
+same_some f g is = cc
+
+exact_left : (f : ReadingFault) (r : Refusal) (l : Strand) → reading_fault f ≡ Refused r
+    → IsLonger (strand [] (Some f)) l → l ≡ strand [] (Some f)
+exact_left f r l told (inl same) = same
+exact_left f r l told (inr more) =
+    absurd (more.3 r (subst (λ (g : ReadingFault). reading_fault g ≡ Refused r)
+    (same_some f more.0 more.2) told))
+
+left_ahead : (f : ReadingFault) (r : Refusal) (a : Ahead) (q l : Strand)
+    → reading_fault f ≡ Refused r → a ≡ Over (Some f) → IsLonger (left_by a q) l
+    → l ≡ strand [] (Some f)
+left_ahead f r a q l told is longer =
+    exact_left f r l told (subst (λ (x : Ahead). IsLonger (left_by x q) l) is longer)
+
+left_file : {A S : Type 0} (f : ReadingFault) (r : Refusal) (w : Going) (file : ImportFile A S)
+    (q l : Strand) → reading_fault f ≡ Refused r → IsFailedAt f file
+    → IsLonger (left_of (standing_by w file) q) l → l ≡ strand [] (Some f)
+left_file f r w (Closed s) q l told at longer = absurd at
+left_file f r w (Open x) q l told at longer =
+    left_ahead f r (ahead_by x.standing w x.at_hand) q l told
+    (ap (λ (s : Stand). ahead_by s w x.at_hand) at) longer
+left_file f r w Taken q l told at longer = absurd at
+
+one_at : {A S : Type 0} (f : ReadingFault) (r : Refusal) (sides : List (Side A S))
+    (rs left : List Strand) → reading_fault f ≡ Refused r → OneSideAt f sides
+    → AllLonger (lefts (standings sides) rs) left → OneIsAt f left
+one_at f r [] rs left told at longer = absurd at
+one_at f r (s ∷ ss) [] [] told at longer = absurd longer
+one_at f r (s ∷ ss) [] (l ∷ ls) told (inl here) longer =
+    inl (left_file f r s.going s.file nothing l told here longer.0)
+one_at f r (s ∷ ss) [] (l ∷ ls) told (inr more) longer =
+    inr (one_at f r ss [] ls told more longer.1)
+one_at f r (s ∷ ss) (q ∷ qs) [] told at longer = absurd longer
+one_at f r (s ∷ ss) (q ∷ qs) (l ∷ ls) told (inl here) longer =
+    inl (left_file f r s.going s.file q l told here longer.0)
+one_at f r (s ∷ ss) (q ∷ qs) (l ∷ ls) told (inr more) longer =
+    inr (one_at f r ss qs ls told more longer.1)
+
+-- where a file is at a fault by which a run is refused, all went that goes up to there
+pub goes_to_fault : {A S : Type 0} (gave : S → List ℕ) (ended : S → Type 0) (s : Sides A S)
+    (octets : List (List ℕ)) (f : ReadingFault) (r : Refusal) → (is : IsSideBySide s)
+    → AllByRecursion (λ x. HasKnownOctets gave ended x.file) s.sides
+    → reading_fault f ≡ Refused r → OneSideAt f s.sides
+    → AllZip (SideGave gave ended) s.sides octets
+    → GoesToFault f s.steering (strands_of s.sides octets) is.entries
+goes_to_fault gave ended s octets f r is known told at read =
+    let all = all_longer gave ended s.sides octets known read in
+    let rest =
+    goes_longer s.steering (wholes (standings s.sides) all.0) (strands_of s.sides octets)
+    is.entries (lefts (standings s.sides) all.0) all.1 (is.gone.goes all.0) in
+    record {
+      left = rest.left';
+      goes = rest.goes;
+      at = one_at f r s.sides all.0 rest.left' told at rest.longer;
+    }

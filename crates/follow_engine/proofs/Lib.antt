@@ -10,6 +10,7 @@ pub mod Stopped
 pub mod Blamed
 pub mod Beginnings
 pub mod Noting
+pub mod Fronts
 pub mod Openings
 pub mod Grows
 pub mod Cut

@@ -4,13 +4,16 @@ use Rattle.std.proofs.Common.{sym, ap, subst, add-one, arith, get_or, length, se
 use Rattle.std.specs.List.{zip}
 use Rattle.flow.specs.declared.flows.Flows.{Flows}
 use Rattle.capture_engines.specs.Files.{first_way, flows_in, other_ways, way_at}
-use Rattle.capture_engines.specs.Received.{StopsFile}
+use Rattle.capture_engines.specs.Received.{StopsFront}
 use Rattle.recording_engines.specs.Files.{IsClosed, ended_by, gave_by}
 use Rattle.run_outcome.specs.declared.refusal.Refusal.{Refusal}
 use Rattle.st_format.specs.History.{IsRead}
 use Rattle.side_by_side.specs.Side.{IsNewSide}
 use Rattle.side_by_side.specs.declared.side.Side.{Side}
-use Rattle.follow_engine.specs.Opened.{AllClosedSides, AreOpened, IsFirstText, IsOpenedBy, StopsAny}
+use Rattle.follow_engine.specs.Fronts.{StopsFirstFront}
+use Rattle.follow_engine.specs.Opened.{AllClosedSides, AreOpened, IsFirstText, IsOpenedBy}
+use Rattle.follow_engine.specs.Sides.{SideRead}
+use Rattle.follow_engine.proofs.Fronts.{front_opened}
 
 -- so many of the first files were opened, and the others are as they were
 abbrev pub OpenedUpTo : {A S : Type 0} → (S → List ℕ) → (S → Type 0) → ℕ
@@ -96,19 +99,23 @@ first_stays text zero sides y some is = absurd (omega (arith, some))
 first_stays text (suc k) [] y some is = is
 first_stays text (suc k) (s ∷ ss) y some is = is
 
--- one is stopped
+-- one is stopped at its front, and those before it were opened
 pub stops_next : {A S : Type 0} (gave : S → List ℕ) (ended : S → Type 0) (k : ℕ)
     (ways : List (Result Flows Refusal)) (olds news : List (Side A S)) (d y : Side A S)
     (r : Refusal) → OpenedUpTo gave ended k ways olds news → k < length olds
-    → StopsFile (way_at ways k) (IsRead (gave_by gave (get_or news k d).file)
+    → StopsFront (way_at ways k) (IsRead (gave_by gave (get_or news k d).file)
     (gave_by gave y.file) (ended_by ended y.file)) r
-    → StopsAny gave ended ways (zip olds (set news k y)) r
+    → StopsFirstFront ways (SideRead gave ended) (zip olds (set news k y)) r
 stops_next gave ended k ways [] news d y r had lt is = absurd (omega (arith, lt))
 stops_next gave ended zero ways (o ∷ os) news d y r had lt is =
-    subst (λ (l : List (Side _ _)). StopsAny gave ended ways (zip (o ∷ os) (set l 0 y)) r) (sym had)
-    (inl (subst (λ (l : List (Side _ _)). StopsFile (first_way ways)
+    subst (λ (l : List (Side _ _)).
+    StopsFirstFront ways (SideRead gave ended) (zip (o ∷ os) (set l 0 y)) r) (sym had)
+    (inl (subst (λ (l : List (Side _ _)). StopsFront (first_way ways)
     (IsRead (gave_by gave (get_or l 0 d).file) (gave_by gave y.file) (ended_by ended y.file)) r) had
     is))
 stops_next gave ended (suc k) ways (o ∷ os) [] d y r had lt is = absurd had
 stops_next gave ended (suc k) ways (o ∷ os) (n ∷ ns) d y r had lt is =
-    inr (stops_next gave ended k (other_ways ways) os ns d y r had.1 (omega (arith, lt)) is)
+    inr (
+      front_opened gave ended (first_way ways) (gave_by gave o.file) n had.0,
+      stops_next gave ended k (other_ways ways) os ns d y r had.1 (omega (arith, lt)) is,
+    )

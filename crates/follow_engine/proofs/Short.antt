@@ -13,7 +13,10 @@ use Rattle.path_receiver.specs.Opening.{Opening}
 use Rattle.path_receiver.specs.Took.{datagrams_since}
 use Rattle.recording_engines.specs.Files.{HasKnownOctets}
 use Rattle.recording_engines.specs.Joining.{Strand}
+use Rattle.recording_reader.specs.declared.fault.ReadingFault.{ReadingFault}
+use Rattle.run_outcome.specs.LowerFaults.{reading_fault}
 use Rattle.run_outcome.specs.Sources.{IsSourceText}
+use Rattle.run_outcome.specs.declared.fault.Fault.TheVariants.{Refused}
 use Rattle.run_outcome.specs.declared.refusal.Refusal.{Refusal}
 use Rattle.side_by_side.specs.Sides.{IsSideBySide, SideGave, Sides, begun_each, strands_of}
 use Rattle.side_by_side.specs.declared.side.Side.{Side}
@@ -25,7 +28,8 @@ use Rattle.follow_engine.specs.Events.{run_end, running_from}
 use Rattle.follow_engine.specs.Followed.{FollowsFirst, TellsPart, first_events, followed_events}
 use Rattle.follow_engine.specs.Followed.{followed_run}
 use Rattle.follow_engine.specs.Opened.{AreOpened, IsFirstText}
-use Rattle.follow_engine.specs.Order.{GoesFirst, datagrams_in, strands_by}
+use Rattle.follow_engine.specs.Order.{GoesFirst, GoesToFault, datagrams_in, strands_by}
+use Rattle.follow_engine.specs.Refused.{IsInTurnFault}
 use Rattle.follow_engine.specs.Running.{Finishes, TellsEvents, TellsSome, running_of, steering_of}
 use Rattle.follow_engine.specs.Shown.{GrowsSome, TakesSome}
 use Rattle.follow_engine.specs.Sides.{EndsSome, FollowsEntries, FollowsUpTo, HasBegunRun, SideRead}
@@ -132,6 +136,38 @@ module _ {A S : Type 0} (gave : S → List ℕ) (ended_at : S → Type 0) (w : F
               ∙ ap (λ (x : Running). steering_of x.follower.opening) begun.opens.is) taken.strands
               (goes octets taken.given);
           tells = tells;
+        }
+
+    -- the fault of the file whose turn it is
+    pub turn_fault : (f : ReadingFault) (entries : List Entry) (why : Refusal)
+        → IsSourceText w.ssrc.now ssrc → HasBegunRun w ssrc (text_by sdp first) r
+        → AreOpened gave ended_at ways olds mids → IsFirstText first mids
+        → begun_each news ≡ begun_each mids
+        → AllByRecursion (λ x. HasKnownOctets gave ended_at x.file) news
+        → reading_fault f ≡ Refused why
+        → ((octets : List (List ℕ)) → AllZip (SideGave gave ended_at) news octets
+        → GoesToFault f r.steering (strands_of news octets) entries)
+        → IsInTurnFault w.ssrc.now sdp ways (SideRead gave ended_at) (zip olds news) why
+    turn_fault f entries why source begun opened_so is same known told goes =
+        let o = begun.opens.opening in
+        record {
+          reading = f;
+          refused = told;
+          opening = o;
+          entries = entries;
+          source_is = subst (λ (x : Option ℕ). IsSourceText w.ssrc.now x)
+              (sym begun.opens.source) source;
+          announced = λ octets text read said.
+              subst (λ (x : List ℕ). AnnouncesStream x o)
+              (said_text gave ended_at ways sdp first olds mids news octets text opened_so is same
+              known read said) begun.opens.announced;
+          goes = λ octets read.
+              let taken = all_taken gave ended_at ways olds mids news octets opened_so same read in
+              subst (λ (x : Steering). GoesToFault f x (strands_by ways octets) entries)
+              (begun.run.steering
+              ∙ ap (λ (x : Running). steering_of x.follower.opening) begun.opens.is)
+              (subst (λ (l : List Strand). GoesToFault f r.steering l entries) taken.strands
+              (goes octets taken.given));
         }
 
     -- what happened is so of a follower that is opened as the text says

@@ -1,11 +1,12 @@
 -- What stops files that are followed, and the text of the first one.
 use Rattle.std.proofs.Common.{◌≡◌, ◌≤◌, ℕ, ◌⊎◌, inl, inr, List, [], ◌∷◌, Option, None, Some}
 use Rattle.std.proofs.Common.{Result, refl, sym, ap, subst, ◌∙◌}
-use Rattle.std.specs.List.{AllByRecursion, zip}
+use Rattle.std.specs.List.{AllByRecursion, AllZip, zip}
 use Rattle.std.specs.Prelude.{MatchOption}
 use Rattle.flow.specs.declared.flows.Flows.{Flows}
 use Rattle.capture_engines.specs.Files.{first_way, flows_in, other_ways}
 use Rattle.capture_engines.specs.Received.{OneFileIs}
+use Rattle.media_file.specs.Records.{Entry}
 use Rattle.media_file.specs.declared.fault.FileFault.TheVariants.{TooManyRecords}
 use Rattle.recording_engines.proofs.FileFaults.{of_file}
 use Rattle.recording_engines.proofs.Same.{no_more, same_head, same_tail}
@@ -26,10 +27,11 @@ use Rattle.run_outcome.specs.declared.refusal.Refusal.TheVariants as refusal
 use Rattle.st_format.specs.History.{IsRead}
 use Rattle.side_by_side.specs.InOrder.{record_count}
 use Rattle.side_by_side.specs.Side.{Begun, begun_at}
-use Rattle.side_by_side.specs.Sides.{IsFaultOfFiles, OneSideAt, begun_each}
+use Rattle.side_by_side.specs.Sides.{IsFaultOfFiles, OneSideAt, SideGave, begun_each, strands_of}
 use Rattle.side_by_side.specs.declared.side.Side.{Side}
+use Rattle.side_by_side.specs.declared.steering.Steering.{Steering}
 use Rattle.follow_engine.specs.Opened.{AreOpened, IsFirstText}
-use Rattle.follow_engine.specs.Order.{most_datagrams}
+use Rattle.follow_engine.specs.Order.{GoesToFault, most_datagrams}
 use Rattle.follow_engine.specs.Refused.{AreTooMany, FirstRefuses, IsFileRefusal, IsFirstRefusal}
 use Rattle.follow_engine.specs.Refused.{StopsFollowing, StopsReadSides, fault_in}
 use Rattle.follow_engine.specs.Sides.{SideRead}
@@ -132,15 +134,24 @@ one_stops gave ended ways (x ∷ xs) (m ∷ ms) (n ∷ ns) f r opened same known
     inr (one_stops gave ended (other_ways ways) xs ms ns f r opened.1 tail known.1 told at)
 
 pub stops_files : {A S : Type 0} (gave : S → List ℕ) (ended : S → Type 0)
-    (ways : List (Result Flows Refusal)) (olds mids news : List (Side A S)) (r : Refusal)
+    (ways : List (Result Flows Refusal)) (olds mids news : List (Side A S)) (st : Steering)
+    (r : Refusal) (Turn : Type 0)
     → AreOpened gave ended ways olds mids → begun_each news ≡ begun_each mids
-    → AllByRecursion (λ x. HasKnownOctets gave ended x.file) news → StopsReadSides gave ended news r
-    → OneFileIs (λ w s. IsFileRefusal (SideRead gave ended s) r) ways (zip olds news)
+    → AllByRecursion (λ x. HasKnownOctets gave ended x.file) news
+    → ((f : ReadingFault) (entries : List Entry) → reading_fault f ≡ Refused r
+    → ((octets : List (List ℕ)) → AllZip (SideGave gave ended) news octets
+    → GoesToFault f st (strands_of news octets) entries) → Turn)
+    → StopsReadSides gave ended st news r
+    → (OneFileIs (λ w s. IsFileRefusal (SideRead gave ended s) r) ways (zip olds news) × Turn)
     ⊎ ((r ≡ refusal.Capture TooManyRecords)
     × AreTooMany ways (SideRead gave ended) (zip olds news))
-stops_files gave ended ways olds mids news r opened same known (inl (f, told, at)) =
-    inl (one_stops gave ended ways olds mids news f r opened same known told at)
-stops_files gave ended ways olds mids news r opened same known (inr many) =
+stops_files gave ended ways olds mids news st r Turn opened same known turn
+    (inl (f, told, at, entries, goes)) =
+    inl (
+      one_stops gave ended ways olds mids news f r opened same known told at,
+      turn f entries told goes,
+    )
+stops_files gave ended ways olds mids news st r Turn opened same known turn (inr many) =
     inr (
       many.0,
       λ octets read.

@@ -4,6 +4,7 @@ pub mod Line
 pub mod Shown
 pub mod Telling
 pub mod Running
+pub mod Fronts
 pub mod Opened
 pub mod Refused
 pub mod Order

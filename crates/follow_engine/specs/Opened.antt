@@ -3,15 +3,13 @@ use Rattle.std.specs.Prelude.{◌≡◌, ℕ, ⊤, List, [], ◌∷◌, Option, 
 use Rattle.std.specs.List.{AllByRecursion}
 use Rattle.flow.specs.declared.flows.Flows.{Flows}
 use Rattle.capture_engines.specs.Files.{first_way, flows_in, other_ways}
-use Rattle.capture_engines.specs.Received.{OneFileIs, StopsFile}
 use Rattle.capture_engines.specs.Taking.{AnnouncesStream}
 use Rattle.following.specs.Follower.{opened}
 use Rattle.path_receiver.specs.Opening.{Opening}
-use Rattle.recording_engines.specs.Files.{HasKnownOctets, IsClosed, ended_by, gave_by}
+use Rattle.recording_engines.specs.Files.{HasKnownOctets, IsClosed, IsReadByFlows, gave_by}
 use Rattle.run_outcome.specs.declared.refusal.Refusal.{Refusal}
 use Rattle.side_by_side.specs.Side.{IsNewSide}
 use Rattle.side_by_side.specs.declared.side.Side.{Side}
-use Rattle.st_format.specs.History.{IsRead}
 use Rattle.follow_engine.specs.Events.{Running, running_from}
 
 -- A stream of which nothing came, by what an SDP text says, of so many frames, and of a source
@@ -29,13 +27,14 @@ pub record OpensRun (size : ℕ) (ssrc : Option ℕ) (text : List ℕ) (r : Runn
 abbrev pub AllClosedSides : {A S : Type 0} → List (Side A S) → Type 0
 AllClosedSides sides = AllByRecursion (λ s. IsClosed s.file) sides
 
--- One was opened by these flows, where its source had given these octets, and has this text; and
--- what is known of its octets.
+-- One was opened by these flows, where its source had given these octets, and has this text; what
+-- is known of its octets; and that there are flows where it is a recording.
 pub record IsOpenedBy {A S : Type 0} (gave : S → List ℕ) (ended : S → Type 0)
     (flows : Option Flows) (before : List ℕ) (s : Side A S) : Type 0 where
   pub text : List ℕ
   pub is : IsNewSide flows before text s
   pub known : HasKnownOctets gave ended s.file
+  pub by_flows : IsReadByFlows s.file
 
 -- each was opened as it is taken, and nothing was read behind its text
 abbrev pub AreOpened : {A S : Type 0} → (S → List ℕ) → (S → Type 0)
@@ -52,9 +51,3 @@ abbrev pub IsFirstText : {A S : Type 0} → List ℕ → List (Side A S) → Typ
 IsFirstText text [] = text ≡ []
 IsFirstText text (s ∷ ss) =
     (flows : Option Flows) × (before : List ℕ) × IsNewSide flows before text s
-
--- one of them is stopped so, before its records
-abbrev pub StopsAny : {A S : Type 0} → (S → List ℕ) → (S → Type 0) → List (Result Flows Refusal)
-    → List (Side A S × Side A S) → Refusal → Type 0
-StopsAny gave ended ways files r = OneFileIs (λ w z. StopsFile w (IsRead (gave_by gave z.0.file)
-    (gave_by gave z.1.file) (ended_by ended z.1.file)) r) ways files

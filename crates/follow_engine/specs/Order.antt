@@ -1,10 +1,11 @@
 -- The order in which the records of files go into a stream (own).
-use Rattle.std.specs.Prelude.{ℕ, ⊤, List, [], ◌∷◌, map, Result}
+use Rattle.std.specs.Prelude.{◌≡◌, ◌⊎◌, ℕ, ⊤, List, [], ◌∷◌, Some, map, Result}
 use Rattle.flow.specs.declared.flows.Flows.{Flows}
 use Rattle.media_file.specs.Records.{Entry}
 use Rattle.capture_engines.specs.Files.{first_way, flows_in, other_ways}
 use Rattle.recording_engines.specs.Joining.{Strand}
 use Rattle.recording_engines.specs.Strands.{IsTakenBy, strand_in}
+use Rattle.recording_reader.specs.declared.fault.ReadingFault.{ReadingFault}
 use Rattle.side_by_side.specs.Strands.{Goes}
 use Rattle.side_by_side.specs.declared.steering.Steering.{Steering}
 use Rattle.run_outcome.specs.declared.refusal.Refusal.{Refusal}
@@ -33,3 +34,15 @@ datagrams_in entries = map (λ e. e.octets) entries
 pub record GoesFirst (s : Steering) (strands : List Strand) (entries : List Entry) : Type 0 where
   pub left : List Strand
   pub goes : Goes s strands entries left
+
+-- one of some files is at this fault: none of its records is left
+abbrev pub OneIsAt : ReadingFault → List Strand → Type 0
+OneIsAt f [] = ⊥
+OneIsAt f (s ∷ ss) = (s ≡ record { entries = []; fault = Some f }) ⊎ OneIsAt f ss
+
+-- These records are all that go of files until one is at this fault.
+pub record GoesToFault (f : ReadingFault) (s : Steering) (strands : List Strand)
+    (entries : List Entry) : Type 0 where
+  pub left : List Strand
+  pub goes : Goes s strands entries left
+  pub at : OneIsAt f left

@@ -1,16 +1,19 @@
--- Which refusal ends a run of `follow` (own).
-use Rattle.std.specs.Prelude.{◌≡◌, ◌≤◌, ℕ, ◌⊎◌, List, [], ◌∷◌, Option, None, Some, MatchOption}
+-- Which refusal ends a run of `follow` (own): one that holds, and none before it, in the order in
+-- which it looks.
+use Rattle.std.specs.Prelude.{◌≡◌, ◌≤◌, ℕ, ◌⊎◌, ⊤, List, [], ◌∷◌, Option, None, Some, MatchOption}
 use Rattle.std.specs.Prelude.{Result}
 use Rattle.std.specs.List.{AllZip}
 use Rattle.flow.specs.declared.flows.Flows.{Flows}
-use Rattle.capture_engines.specs.Received.{OneFileIs, StopsFile}
+use Rattle.capture_engines.specs.Received.{OneFileIs}
+use Rattle.capture_engines.specs.Taking.{AnnouncesStream, said_behind}
+use Rattle.media_file.specs.Records.{Entry}
 use Rattle.media_file.specs.declared.fault.FileFault.TheVariants.{TooManyRecords}
-use Rattle.path_receiver.specs.Opening.{IsWindowSize}
+use Rattle.path_receiver.specs.Opening.{IsWindowSize, Opening}
 use Rattle.path_receiver.specs.declared.fault.OpenFault.TheVariants as open_fault
 use Rattle.recording_reader.specs.Files.{IsFileFault, text_of_file}
 use Rattle.recording_reader.specs.declared.fault.ReadingFault.{ReadingFault}
 use Rattle.run_outcome.specs.Sources.{IsSourceText}
-use Rattle.run_outcome.specs.TextRefusals.{IsDescriptionRefusal}
+use Rattle.run_outcome.specs.TextRefusals.{IsDescriptionRefusal, IsSdp}
 use Rattle.run_outcome.specs.declared.fault.Fault.{Fault}
 use Rattle.run_outcome.specs.declared.fault.Fault.TheVariants.{Device, Refused}
 use Rattle.run_outcome.specs.declared.refusal.Refusal.{Refusal}
@@ -18,8 +21,11 @@ use Rattle.run_outcome.specs.declared.refusal.Refusal.TheVariants as refusal
 use Rattle.side_by_side.specs.InOrder.{record_count}
 use Rattle.side_by_side.specs.Sides.{OneSideAt, SideGave, strands_of}
 use Rattle.side_by_side.specs.declared.side.Side.{Side}
+use Rattle.side_by_side.specs.declared.steering.Steering.{Steering}
 use Rattle.run_outcome.specs.LowerFaults.{reading_fault}
-use Rattle.follow_engine.specs.Order.{most_datagrams, strands_by}
+use Rattle.follow_engine.specs.Fronts.{HaveSoundFronts, StopsFirstFront}
+use Rattle.follow_engine.specs.Order.{GoesToFault, most_datagrams, strands_by}
+use Rattle.follow_engine.specs.Running.{steering_of}
 
 -- ---- the words
 
@@ -29,6 +35,19 @@ abbrev pub IsFollowWordRefusal : ℕ → List ℕ → Refusal → Type 0
 IsFollowWordRefusal frames ssrc (refusal.Open open_fault.BadWindow) = IsWindowSize frames → ⊥
 IsFollowWordRefusal frames ssrc refusal.ReceiveSource = (pin : Option ℕ) → IsSourceText ssrc pin → ⊥
 IsFollowWordRefusal frames ssrc r = ⊥
+
+-- the number of frames is looked at first: where the source is refused, it is one
+abbrev pub IsBehindFrames : ℕ → Refusal → Type 0
+IsBehindFrames frames refusal.ReceiveSource = IsWindowSize frames
+IsBehindFrames frames r = ⊤
+
+-- the first refusal of the words: of the source only where there are 1 to 16 frames
+abbrev pub IsFirstOfWords : ℕ → List ℕ → Refusal → Type 0
+IsFirstOfWords frames ssrc r = IsFollowWordRefusal frames ssrc r × IsBehindFrames frames r
+
+-- the words ask for 1 to 16 frames, and for a source
+abbrev pub AskForFrames : ℕ → List ℕ → Type 0
+AskForFrames frames ssrc = IsWindowSize frames × ((pin : Option ℕ) × IsSourceText ssrc pin)
 
 -- ---- the SDP text
 
@@ -42,6 +61,11 @@ abbrev pub FirstRefuses : {S : Type 0} → (S → List ℕ → Type 0) → List 
 FirstRefuses told [] r = r ≡ refusal.ReceiveNoSdp
 FirstRefuses told (s ∷ ss) r =
     (octets : List ℕ) → told s octets → IsFirstRefusal (text_of_file octets) r
+
+-- there is one, and its text describes a video
+abbrev pub FirstDescribes : {S : Type 0} → (S → List ℕ → Type 0) → List S → Type 0
+FirstDescribes told [] = ⊥
+FirstDescribes told (s ∷ ss) = (octets : List ℕ) → told s octets → IsSdp (text_of_file octets)
 
 -- ---- files
 
@@ -57,11 +81,15 @@ StopsFollowing count sides r =
     ((f : ReadingFault) × (reading_fault f ≡ Refused r) × OneSideAt f sides)
     ⊎ ((r ≡ refusal.Capture TooManyRecords) × (most_datagrams ≤ count))
 
--- so by what was read of them: they have as many records as are counted
-abbrev pub StopsReadSides : {A S : Type 0} → (S → List ℕ) → (S → Type 0) → List (Side A S) → Refusal
-    → Type 0
-StopsReadSides gave ended sides r =
-    ((f : ReadingFault) × (reading_fault f ≡ Refused r) × OneSideAt f sides)
+-- so by what was read of them: all records went up to the fault; they have as many records as are
+-- counted
+abbrev pub StopsReadSides : {A S : Type 0} → (S → List ℕ) → (S → Type 0) → Steering
+    → List (Side A S) → Refusal → Type 0
+StopsReadSides gave ended steering sides r =
+    ((f : ReadingFault) × (reading_fault f ≡ Refused r) × OneSideAt f sides
+    × (entries : List Entry)
+    × ((octets : List (List ℕ)) → AllZip (SideGave gave ended) sides octets
+    → GoesToFault f steering (strands_of sides octets) entries))
     ⊎ ((r ≡ refusal.Capture TooManyRecords)
     × ((octets : List (List ℕ)) → AllZip (SideGave gave ended) sides octets
     → most_datagrams ≤ record_count (strands_of sides octets)))
@@ -79,14 +107,44 @@ AreTooMany ways told files = (octets : List (List ℕ)) → AllZip told files oc
 
 -- ---- the run
 
--- The refusals of `follow`, in their order: of the words; of the SDP text that is given; of a file
--- before its records; of the first file's SDP text, where none is given; of a file's records, or
--- of too many of them.
+-- This is the fault of the file whose turn it is: by an opening that the words and the SDP text
+-- say, all records that go side by side went until one is at it.
+pub record IsInTurnFault {S : Type 0} (ssrc : List ℕ) (sdp : Option (List ℕ))
+    (ways : List (Result Flows Refusal)) (told : S → List ℕ → Type 0) (files : List S) (r : Refusal)
+    : Type 0 where
+  pub reading : ReadingFault
+  pub refused : reading_fault reading ≡ Refused r
+  pub opening : Opening
+  pub entries : List Entry
+  pub source_is : IsSourceText ssrc opening.ssrc
+  pub announced : (octets : List (List ℕ)) (text : List ℕ) → AllZip told files octets
+      → said_behind sdp octets ≡ Some text → AnnouncesStream text opening
+  pub goes : (octets : List (List ℕ)) → AllZip told files octets
+      → GoesToFault reading (steering_of opening) (strands_by ways octets) entries
+
+-- The refusals of the files' records: the first fault of the one whose turn it is; that there are
+-- too many.
+abbrev pub IsRecordsRefusal : {S : Type 0} → List ℕ → Option (List ℕ)
+    → List (Result Flows Refusal) → (S → List ℕ → Type 0) → List S → Refusal → Type 0
+IsRecordsRefusal ssrc sdp ways told files r =
+    (OneFileIs (λ w s. IsFileRefusal (told s) r) ways files
+    × IsInTurnFault ssrc sdp ways told files r)
+    ⊎ ((r ≡ refusal.Capture TooManyRecords) × AreTooMany ways told files)
+
+-- The refusal of files: of the first front that has one; else of the first file's SDP text, where
+-- none is given; else of the records.
+abbrev pub IsFollowedRefusal : {S : Type 0} → List ℕ → Option (List ℕ)
+    → List (Result Flows Refusal) → (S → List ℕ → Type 0) → List S → Refusal → Type 0
+IsFollowedRefusal ssrc sdp ways told files r = StopsFirstFront ways told files r
+    ⊎ (HaveSoundFronts ways told files
+    × (MatchOption sdp (FirstRefuses told files r) (λ _. ⊥)
+    ⊎ (MatchOption sdp (FirstDescribes told files) (λ _. ⊤)
+    × IsRecordsRefusal ssrc sdp ways told files r)))
+
+-- The refusal of `follow`: of the words; else of the SDP text that is given; else of the files.
 abbrev pub IsFollowRefusal : {S : Type 0} → ℕ → List ℕ → Option (List ℕ)
     → List (Result Flows Refusal) → (S → List ℕ → Type 0) → List S → Refusal → Type 0
-IsFollowRefusal frames ssrc sdp ways told files r = IsFollowWordRefusal frames ssrc r
-    ⊎ (MatchOption sdp ⊥ (λ text. IsDescriptionRefusal text r)
-    ⊎ (OneFileIs (λ w s. StopsFile w (told s) r) ways files
-    ⊎ (MatchOption sdp (FirstRefuses told files r) (λ _. ⊥)
-    ⊎ (OneFileIs (λ w s. IsFileRefusal (told s) r) ways files
-    ⊎ ((r ≡ refusal.Capture TooManyRecords) × AreTooMany ways told files)))))
+IsFollowRefusal frames ssrc sdp ways told files r = IsFirstOfWords frames ssrc r
+    ⊎ (AskForFrames frames ssrc
+    × (MatchOption sdp ⊥ (λ text. IsDescriptionRefusal text r)
+    ⊎ (MatchOption sdp ⊤ (λ text. IsSdp text) × IsFollowedRefusal ssrc sdp ways told files r)))

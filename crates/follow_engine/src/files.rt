@@ -4,7 +4,8 @@ ghost use Rattle.std.specs.Prelude.{OnOk, length, take};
 ghost use Rattle.std.specs.List.{AllByRecursion, zip};
 ghost use Rattle.std.specs.Option.{option_copied};
 ghost use Rattle.follow_engine.specs.Followed.{FollowsPart, FollowsWhole, StopsShort};
-ghost use Rattle.follow_engine.specs.Opened.{AllClosedSides, AreOpened, IsFirstText, StopsAny};
+ghost use Rattle.follow_engine.specs.Fronts.{StopsFirstFront};
+ghost use Rattle.follow_engine.specs.Opened.{AllClosedSides, AreOpened, IsFirstText};
 ghost use Rattle.follow_engine.specs.Refused.{IsFirstRefusal, IsFollowRefusal, StopsReadSides};
 ghost use Rattle.follow_engine.specs.Running.{IsSoundRun, TellsEvents, TellsSome};
 ghost use Rattle.follow_engine.specs.Sides.{EndsSome, EndsStream, FollowsEntries, FollowsUpTo};
@@ -47,10 +48,10 @@ use std::mem;
 ///
 /// # Errors
 ///
-/// A refusal, in this order: of the words; of the SDP text that is given; of a file, before its
-/// records; of the first file's text; of a file's records, or that they are 2^64 or more, behind
-/// what was told and shown of those before the fault. And else that a device failed or memory was
-/// wanted.
+/// The first refusal in this order: of the words; of the SDP text that is given; of a file, before
+/// its records; of the first file's text; of the records of the file whose turn it is, or that they
+/// are 2^64 or more, behind what was told and shown of those before the fault. And else that a
+/// device failed or memory was wanted.
 pub fn follow_files<A, S, P, O>(
     alloc: A,
     asked: FollowAsked<'_>,
@@ -202,7 +203,8 @@ fn open_files<A: Allocator + Copy, S: ByteSource + Drop>(
     ensures first { IfOk result (λ count. IsFirstText (take count text.new) sides.new.items) }
     ensures few { IfOk result (λ count. count ≤ 65535) }
     ensures refusal { IfErr result (λ f. OfRefusal f
-        (StopsAny S.gave S.ended ways.now (zip sides.old.items sides.new.items))) }
+        (StopsFirstFront ways.now (SideRead S.gave S.ended)
+        (zip sides.old.items sides.new.items))) }
     ensures failures { Accounts result (counts (failures_each S.failures sides.old.items)
         (failures_each S.failures sides.new.items) ∷ []) }
 {
@@ -230,7 +232,7 @@ fn follow_opened<A: Allocator + Copy, S: ByteSource + Drop, P: PictureSink, O: B
     ensures followed { OnOk result (FollowsEntries S.gave S.ended P.takes run.old run.new
         pictures.old pictures.new (O.took output.old) (O.took output.new) sides.new.items) }
     ensures stopped { IfErr result (λ f. OfRefusal f
-        (StopsReadSides S.gave S.ended sides.new.items)) }
+        (StopsReadSides S.gave S.ended run.old.steering sides.new.items)) }
     ensures before { IfErr result (λ f. IfRefused f (FollowsUpTo S.gave S.ended run.old
         sides.new.items (TellsEvents P.takes pictures.old pictures.new
         (O.took output.old) (O.took output.new)))) }

@@ -2,14 +2,15 @@
 ghost use Rattle.std.specs.Prelude.{◌≡◌, ◌≤◌, ◌∷◌, [], ℕ, IfErr, IfOk, List, OnOk, length, take};
 ghost use Rattle.std.specs.List.{zip};
 ghost use Rattle.capture_engines.specs.Files.{flows_in};
-ghost use Rattle.capture_engines.specs.Received.{StopsFile};
+ghost use Rattle.capture_engines.specs.Received.{StopsFront};
+ghost use Rattle.follow_engine.specs.Fronts.{StopsFirstFront};
 ghost use Rattle.follow_engine.specs.Opened.{AllClosedSides, AreOpened, IsFirstText, OpensRun};
-ghost use Rattle.follow_engine.specs.Opened.{StopsAny};
-ghost use Rattle.follow_engine.specs.Refused.{IsFollowWordRefusal};
+ghost use Rattle.follow_engine.specs.Refused.{AskForFrames, IsBehindFrames, IsFollowWordRefusal};
 ghost use Rattle.follow_engine.specs.Running.{IsSoundRun, running_of};
+ghost use Rattle.follow_engine.specs.Sides.{SideRead};
 ghost use Rattle.path_receiver.specs.Opening.{IsWindowSize};
-ghost use Rattle.recording_engines.specs.Files.{HasKnownOctets, IsClosed, ended_by, failures_by};
-ghost use Rattle.recording_engines.specs.Files.{gave_by};
+ghost use Rattle.recording_engines.specs.Files.{HasKnownOctets, IsClosed, IsReadByFlows, ended_by};
+ghost use Rattle.recording_engines.specs.Files.{failures_by, gave_by};
 ghost use Rattle.recording_reader.specs.Opening.{CountsOpening, IsByFlows, StopsOpening};
 ghost use Rattle.run_outcome.specs.Fault.{Accounts, Blames, counts};
 ghost use Rattle.run_outcome.specs.Refusing.{OfRefusal};
@@ -24,7 +25,7 @@ use capture_engines::{Way, unopened};
 use flow::Flows;
 use following::MOST_FRAMES;
 use path_receiver::OpenFault;
-use recording_engines::ImportFile;
+use recording_engines::{ImportFile, know};
 use recording_reader::FileOpeningFault;
 use run_outcome::{Fault, Refusal, read_source};
 use sdp_format::read_located;
@@ -50,8 +51,10 @@ pub struct FollowAsked<'a> {
 /// `Open(BadWindow)` where there are to be no frames, or more than 16; else `ReceiveSource` where
 /// the source is neither a number nor `any`.
 pub fn check_words(asked: FollowAsked<'_>) -> Result<(), Fault>
+    ensures words { OnOk result (AskForFrames asked.entry.frames asked.entry.ssrc.now) }
     ensures refusal { IfErr result (λ f. OfRefusal f (IsFollowWordRefusal asked.entry.frames
         asked.entry.ssrc.now)) }
+    ensures first { IfErr result (λ f. OfRefusal f (IsBehindFrames asked.entry.frames)) }
     ensures failures { Accounts result [] }
 {
     let _ssrc = read_words(asked)?;
@@ -64,6 +67,7 @@ pub(crate) fn read_words(asked: FollowAsked<'_>) -> Result<Option<u32>, Fault>
     ensures source { IfOk result (λ ssrc. IsSourceText asked.entry.ssrc.now ssrc) }
     ensures refusal { IfErr result (λ f. OfRefusal f (IsFollowWordRefusal asked.entry.frames
         asked.entry.ssrc.now)) }
+    ensures first { IfErr result (λ f. OfRefusal f (IsBehindFrames asked.entry.frames)) }
     ensures failures { Accounts result [] }
 {
     if asked.frames == 0 || asked.frames > MOST_FRAMES {
@@ -117,7 +121,7 @@ pub(crate) fn open_all<A: Allocator + Copy, S: ByteSource + Drop>(
     ensures first { IfOk result (λ count. IsFirstText (take count text.new) sides.new) }
     ensures few { IfOk result (λ count. count ≤ 65535) }
     ensures refusal { IfErr result (λ f. OfRefusal f
-        (StopsAny S.gave S.ended ways.now (zip sides.old sides.new))) }
+        (StopsFirstFront ways.now (SideRead S.gave S.ended) (zip sides.old sides.new))) }
     ensures failures { Accounts result (counts (failures_each S.failures sides.old)
         (failures_each S.failures sides.new) ∷ []) }
 {
@@ -147,15 +151,19 @@ fn open_side<A: Allocator, S: ByteSource + Drop>(
     ensures opened { IfOk result (λ count. IsNewSide (flows_in way) (gave_by S.gave side.old.file)
         (take count text.new) side.new) }
     ensures known { OnOk result (HasKnownOctets S.gave S.ended side.new.file) }
+    ensures by_flows { OnOk result (IsReadByFlows side.new.file) }
     ensures few { IfOk result (λ count. count ≤ 65535) }
-    ensures refusal { IfErr result (λ f. OfRefusal f (StopsFile way (IsRead
+    ensures refusal { IfErr result (λ f. OfRefusal f (StopsFront way (IsRead
         (gave_by S.gave side.old.file) (gave_by S.gave side.new.file)
         (ended_by S.ended side.new.file)))) }
     ensures failures { Accounts result (counts (failures_by S.failures side.old.file)
         (failures_by S.failures side.new.file) ∷ []) }
 {
     match side.open(alloc, way.flows(), text) {
-        Ok(count) => Ok(count),
+        Ok(count) => {
+            know(&side.file);
+            Ok(count)
+        }
         Err(fault) => Err(unopened_file(way, fault, &mut side.file)),
     }
 }
@@ -169,7 +177,7 @@ fn unopened_file<A: Allocator, S: ByteSource>(
     requires { IsClosed file.old }
     ensures refusal { (before : List ℕ)
         → StopsOpening (flows_in way) before (gave_by S.gave file.old) (ended_by S.ended file.old)
-        fault → IsByFlows (flows_in way) fault → OfRefusal result (StopsFile way
+        fault → IsByFlows (flows_in way) fault → OfRefusal result (StopsFront way
         (IsRead before (gave_by S.gave file.new) (ended_by S.ended file.new))) }
     ensures failures { (failed : ℕ)
         → CountsOpening fault failed (failures_by S.failures file.old)

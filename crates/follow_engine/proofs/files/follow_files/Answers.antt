@@ -1,14 +1,20 @@
 use Rattle.std.proofs.Common.{◌∙◌, inl, inr, refl}
 use Rattle.std.proofs.lemmas.Result.{err_from_is_err_and}
 use Rattle.std.specs.Option.{option_copied}
+use Rattle.std.specs.List.{zip}
 use Rattle.std.specs.Prelude.{take}
+use Rattle.capture_engines.proofs.FirstRefused.{of_both}
 use Rattle.run_outcome.proofs.Refusals.{none_refused, of_refusal_map}
 use Rattle.side_by_side.specs.Sides.{failures_each}
+use Rattle.follow_engine.specs.Refused.{IsInTurnFault}
+use Rattle.follow_engine.specs.Sides.{SideRead}
 use Rattle.follow_engine.proofs.Beginnings.{opened_begun}
 use Rattle.follow_engine.proofs.Blamed.{blames_end, blames_files, blames_from, blames_none}
 use Rattle.follow_engine.proofs.Cut.{if_refused, refused_map, unrefused_if}
+use Rattle.follow_engine.proofs.Fronts.{ask_for, first_describes, given_describes, opened_fronts}
+use Rattle.follow_engine.proofs.Fronts.{sound_fronts}
 use Rattle.follow_engine.proofs.Outcome.{follows_whole}
-use Rattle.follow_engine.proofs.Short.{ends_part, follows_part, follows_short}
+use Rattle.follow_engine.proofs.Short.{ends_part, follows_part, follows_short, turn_fault}
 use Rattle.follow_engine.proofs.Stopped.{first_by, stops_files}
 use Rattle.follow_engine.proofs.files.follow_files.Goals as goal
 
@@ -16,21 +22,31 @@ pub returns-in_err-ssrc-clause-refusal : goal.returns-in_err-ssrc-clause-refusal
 returns-in_err-ssrc-clause-refusal g c =
     let p = err_from_is_err_and c.from_residual.result c.from_residual.ensures.1 in
     rw (p.1, p.2)
-    (of_refusal_map c.in_err-ssrc.field-0.0 (λ r is. inl is) c.in_err-ssrc.ensures.refusal)
+    (of_refusal_map c.in_err-ssrc.field-0.0 (λ r is. inl is)
+    (of_both _ _ c.in_err-ssrc.field-0.0 c.in_err-ssrc.ensures.refusal
+    c.in_err-ssrc.ensures.first))
 
 pub returns-in_err-given-clause-refusal : goal.returns-in_err-given-clause-refusal
 returns-in_err-given-clause-refusal g c =
     let p = err_from_is_err_and c.from_residual-in_err-given.result
     c.from_residual-in_err-given.ensures.1 in
+    let words = ask_for c.args.asked.frames c.args.asked.ssrc.now c.in_ok-ssrc.ssrc
+    c.in_ok-ssrc.ensures.frames c.in_ok-ssrc.ensures.source in
     rw (p.1, p.2)
-    (of_refusal_map c.in_err-given.field-0.0 (λ r is. inr (inl is)) c.in_err-given.ensures.refusal)
+    (of_refusal_map c.in_err-given.field-0.0 (λ r is. inr (words, inl is))
+    c.in_err-given.ensures.refusal)
 
 pub returns-in_err-count-clause-refusal : goal.returns-in_err-count-clause-refusal
 returns-in_err-count-clause-refusal g c =
     let p = err_from_is_err_and c.from_residual-in_err-count.result
     c.from_residual-in_err-count.ensures.1 in
+    let words = ask_for c.args.asked.frames c.args.asked.ssrc.now c.in_ok-ssrc.ssrc
+    c.in_ok-ssrc.ensures.frames c.in_ok-ssrc.ensures.source in
+    let given =
+    given_describes c.args.asked c.in_ok-ssrc.ssrc (option_copied c.args.sdp) c.in_ok-given.given
+    c.in_ok-given.ensures.begun in
     rw (p.1, p.2)
-    (of_refusal_map c.in_err-count.field-0.0 (λ r is. inr (inr (inl is)))
+    (of_refusal_map c.in_err-count.field-0.0 (λ r is. inr (words, inr (given, inl is)))
     c.in_err-count.ensures.refusal)
 
 pub returns-in_err-count-clause-failures : goal.returns-in_err-count-clause-failures
@@ -47,12 +63,30 @@ pub returns-in_err-run-clause-refusal : goal.returns-in_err-run-clause-refusal
 returns-in_err-run-clause-refusal g c =
     let p = err_from_is_err_and c.from_residual-in_err-run.result
     c.from_residual-in_err-run.ensures.1 in
+    let words = ask_for c.args.asked.frames c.args.asked.ssrc.now c.in_ok-ssrc.ssrc
+    c.in_ok-ssrc.ensures.frames c.in_ok-ssrc.ensures.source in
+    let given =
+    given_describes c.args.asked c.in_ok-ssrc.ssrc (option_copied c.args.sdp) c.in_ok-given.given
+    c.in_ok-given.ensures.begun in
+    let fronts =
+    opened_fronts g.S.ByteSource.gave g.S.ByteSource.ended c.args.ways.now c.args.sides.now.items
+    c.open_files.new.sides.items c.in_ok-count.ensures.opened in
     rw (p.1, p.2)
     (of_refusal_map c.in_err-run.field-0.0
-    (λ r is. inr (inr (inr (inl (first_by g.S.ByteSource.gave g.S.ByteSource.ended c.args.ways.now
-    (option_copied c.args.sdp) (take c.in_ok-count.count c.open_files.new.text)
-    c.args.sides.now.items c.open_files.new.sides.items r c.in_ok-count.ensures.opened
-    c.in_ok-count.ensures.first is))))) c.in_err-run.ensures.refusal)
+    (λ r is. inr (
+      words,
+      inr (
+        given,
+        inr (
+          fronts,
+          inl (first_by g.S.ByteSource.gave
+              g.S.ByteSource.ended c.args.ways.now
+              (option_copied c.args.sdp) (take c.in_ok-count.count c.open_files.new.text)
+              c.args.sides.now.items c.open_files.new.sides.items r c.in_ok-count.ensures.opened
+              c.in_ok-count.ensures.first is),
+        ),
+      ),
+    )) c.in_err-run.ensures.refusal)
 
 pub returns-in_err-run-clause-failures : goal.returns-in_err-run-clause-failures
 returns-in_err-run-clause-failures g c =
@@ -74,12 +108,50 @@ pub returns-in_err-follow_opened-clause-refusal : goal.returns-in_err-follow_ope
 returns-in_err-follow_opened-clause-refusal g c =
     let p = err_from_is_err_and c.from_residual-in_err-follow_opened.result
     c.from_residual-in_err-follow_opened.ensures.1 in
+    let words = ask_for c.args.asked.frames c.args.asked.ssrc.now c.in_ok-ssrc.ssrc
+    c.in_ok-ssrc.ensures.frames c.in_ok-ssrc.ensures.source in
+    let given =
+    given_describes c.args.asked c.in_ok-ssrc.ssrc (option_copied c.args.sdp) c.in_ok-given.given
+    c.in_ok-given.ensures.begun in
+    let gave = g.S.ByteSource.gave in
+    let ended = g.S.ByteSource.ended in
+    let olds = c.args.sides.now.items in
+    let mids = c.open_files.new.sides.items in
+    let news = c.follow_opened.new.sides.items in
+    let read = c.follow_opened.ensures in
+    let fronts =
+    sound_fronts gave ended c.args.ways.now olds mids news c.in_ok-count.ensures.opened read.begun
+    read.known read.by_flows in
+    let first =
+    first_describes gave ended c.args.ways.now c.args.asked c.in_ok-ssrc.ssrc
+    (option_copied c.args.sdp) (take c.in_ok-count.count c.open_files.new.text) olds mids news
+    c.in_ok-run.run' c.in_ok-count.ensures.opened c.in_ok-count.ensures.first read.begun read.known
+    c.in_ok-run.ensures.begun in
     rw (p.1, p.2)
     (of_refusal_map c.in_err-follow_opened.field-0.0
-    (λ r is. inr (inr (inr (inr (stops_files g.S.ByteSource.gave g.S.ByteSource.ended
-    c.args.ways.now c.args.sides.now.items c.open_files.new.sides.items
-    c.follow_opened.new.sides.items r c.in_ok-count.ensures.opened c.follow_opened.ensures.begun
-    c.follow_opened.ensures.known is))))) c.in_err-follow_opened.ensures.stopped)
+    (λ r is. inr (
+      words,
+      inr (
+        given,
+        inr (
+          fronts,
+          inr (
+            first,
+            stops_files gave ended c.args.ways.now olds mids news c.in_ok-run.run'.steering r
+                (IsInTurnFault c.args.asked.ssrc.now (option_copied c.args.sdp) c.args.ways.now
+                (SideRead gave ended) (zip olds news) r)
+                c.in_ok-count.ensures.opened read.begun read.known
+                (λ f entries told goes. turn_fault gave ended c.args.asked c.in_ok-ssrc.ssrc
+                (option_copied c.args.sdp) c.args.ways.now
+                (take c.in_ok-count.count c.open_files.new.text) olds mids news c.in_ok-run.run' f
+                entries r c.in_ok-ssrc.ensures.source c.in_ok-run.ensures.begun
+                c.in_ok-count.ensures.opened c.in_ok-count.ensures.first read.begun read.known told
+                goes) is,
+          ),
+        ),
+      ),
+    ))
+    c.in_err-follow_opened.ensures.stopped)
 
 pub returns-in_err-follow_opened-clause-failures : goal.returns-in_err-follow_opened-clause-failures
 returns-in_err-follow_opened-clause-failures g c =

@@ -74,9 +74,12 @@ pub returns-clause-stopped : goal.returns-clause-stopped
 returns-clause-stopped g c =
     if_err_map c.follow_sides-followed.result
     (λ f. of_refusal_map f
-    (λ r. stops_read g.S.ByteSource.gave g.S.ByteSource.ended c.new-source.result
-    c.follow_sides-followed.new.source c.into_sides.result.items r c.into_sides.ensures.facts
-    c.history.ensures.known (ap (λ (s : Sides _ _). s.came) c.new-source.ensures)
+    (λ r. stops_read g.S.ByteSource.gave g.S.ByteSource.ended c.args.run.now.steering
+    c.new-source.result c.follow_sides-followed.new.source c.into_sides.result.items r
+    c.into_sides.ensures.facts c.history.ensures.known
+    (ap (λ (s : Sides _ _). s.came) c.new-source.ensures)
+    (c.follow_sides-followed.ensures.steering
+    ∙ ap (λ (s : Sides _ _). s.steering) c.new-source.ensures)
     (sym c.into_sides.ensures.sides))) c.follow_sides-followed.ensures.stopped
 
 pub returns-clause-failures : goal.returns-clause-failures

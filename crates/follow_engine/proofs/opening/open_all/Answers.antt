@@ -73,7 +73,12 @@ loop-place-init g c =
       len = length-set sides 0 y;
       room = refl;
       opened = opened_more told.gave told.ended 0 c.args.ways.now sides sides d y refl some
-          (record { text = text; is = is; known = c.in_ok-count.ensures.known });
+          (record {
+            text = text;
+            is = is;
+            known = c.in_ok-count.ensures.known;
+            by_flows = c.in_ok-count.ensures.by_flows;
+          });
       first = first_set text (flows_in c.at-first.result) (gave_by told.gave (get_or sides 0 d).file) sides y some
           c.in_ok-count.ensures.opened;
       failures = rw c.in_ok-count.was at counted;
@@ -118,6 +123,7 @@ loop-place-preserved g c =
             text = take c.in_ok-open_side.field-0 c.open_side-in-loop-place.new.text;
             is = is;
             known = c.in_ok-open_side.ensures.known;
+            by_flows = c.in_ok-open_side.ensures.by_flows;
           });
       first = first_stays (take c.in_ok-count.count c.open_side.new.text) l.place l.sides y
           (omega (arith, l.auto.place)) l.invariant.first;

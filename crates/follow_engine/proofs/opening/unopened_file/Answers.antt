@@ -2,7 +2,7 @@ use Rattle.follow_engine.proofs.opening.unopened_file.Goals as goal
 
 pub returns-in-Closed-clause-refusal : goal.returns-in-Closed-clause-refusal
 returns-in-Closed-clause-refusal g c = λ before stops by.
-    c.unopened.ensures.refusal before (rw c.in-Closed.is at stops) by
+    c.unopened.ensures.front before (rw c.in-Closed.is at stops) by
 
 pub returns-in-Closed-clause-failures : goal.returns-in-Closed-clause-failures
 returns-in-Closed-clause-failures g c = λ failed counted.

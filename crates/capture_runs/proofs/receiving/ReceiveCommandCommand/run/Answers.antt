@@ -1,10 +1,10 @@
-use Rattle.std.proofs.Common.{inr, refl}
+use Rattle.std.proofs.Common.{refl}
 use Rattle.std.specs.Prelude.{IsFalse}
 use Rattle.command_end.proofs.Quiet.{refused_both}
 use Rattle.command_end.specs.Untouched.{AreUntouched}
 use Rattle.run_outcome.proofs.Refusals.{if_err_map, of_refusal_map}
 use Rattle.devices.specs.Passed.{file_took, output_took}
-use Rattle.capture_runs.proofs.Told.{opened_refused, untouched}
+use Rattle.capture_runs.proofs.Told.{begun_refused, opened_refused, untouched}
 use Rattle.capture_runs.proofs.receiving.ReceiveCommandCommand.run.Goals as goal
 use Rattle.capture_runs.proofs.receiving.ReceiveCommandCommand.run.Goals.{in-Ok, in-Err}
 
@@ -14,7 +14,9 @@ returns-clause-refusal c =
       | in-Ok w ↦
           rw (w.outcome-is, w.self-is)
           (refused_both _ _ w.take-outcome.result
-          (if_err_map w.take-outcome.result (λ f. of_refusal_map f (λ r is. inr is))
+          (if_err_map w.take-outcome.result
+          (λ f. of_refusal_map f
+          (λ r is. begun_refused c.args.self.now.opened _ r w.in-Ok.is is))
           w.take-outcome.ensures.refusal)
           (untouched w.take-outcome.result _ (λ o. output_took o) c.args.self.now.state.sink
           w.take-outcome.new.state c.args.self.now.output w.take-outcome.new.output
