@@ -26,6 +26,8 @@ pub mod OneSendRefusal
 pub mod NoInspectRefusals
 pub mod NoMigrateRefusals
 pub mod NoConvertRefusals
+pub mod NoPacedRefusals
+pub mod NoStreamRefusals
 pub mod NoPictureRefusals
 pub mod WholeFiles
 pub mod NoReceiveRefusals
@@ -34,6 +36,8 @@ pub mod ProcessedOnce
 pub mod OnePlan
 pub mod OneSent
 pub mod ProcessedAgain
+pub mod Settled
+pub mod ProcessedSent
 pub mod NoStreamsRefusals
 pub mod OneTextRefusal
 pub mod OneFileRefusal

@@ -32,14 +32,14 @@ whole x = Ok x
 abbrev failed : (X : Type 0) → FormFault → Result X FormFault
 failed X f = Err f
 
-apart : {X : Type 0} (r : Result X FormFault) (x : X) (f : FormFault) → r ≡ whole x → r ≡ failed X f
-    → ⊥
+pub apart : {X : Type 0} (r : Result X FormFault) (x : X) (f : FormFault) → r ≡ whole x
+    → r ≡ failed X f → ⊥
 apart {X} r x f reads fails = let bad : whole x ≡ failed X f = sym reads ∙ fails in absurd cc
 
 -- ---- a stream
 
 -- octets have one head
-one_head : (octets a b : List ℕ) (f g : Format) → HasY4mHead octets a (fields_of f)
+pub one_head : (octets a b : List ℕ) (f g : Format) → HasY4mHead octets a (fields_of f)
     → HasY4mHead octets b (fields_of g) → (f ≡ g) × (a ≡ b)
 one_head octets a b f g one other =
     let same =

@@ -23,12 +23,13 @@ use Rattle.recording_reader.specs.Records.{records_of}
 use Rattle.recording_reader.specs.declared.fault.ReadingFault.TheVariants.{Capture}
 use Rattle.recording_reader.proofs.Files.{front_first, front_packets, recording_entries}
 use Rattle.recording_reader.proofs.Files.{recording_text}
+use Rattle.run_outcome.specs.TextRefusals.{IsSdp}
 use Rattle.run_outcome.specs.declared.refusal.Refusal.{Refusal}
 use Rattle.run_outcome.specs.declared.refusal.Refusal.TheVariants as why
 use Rattle.capture_engines.specs.Files.{HasFileText, IsReadWhole, flows_in}
 use Rattle.capture_engines.specs.Received.{FileOpens, HasCaptureFault, IsBehindFew, IsCaptureBy}
 use Rattle.capture_engines.specs.Received.{IsCaptureRefusal, IsFileOpenedRefusal, IsFrontRefusal}
-use Rattle.capture_engines.specs.Received.{IsOpeningRefusal, IsSdp, IsTurnRefusal, IsUntakenRefusal}
+use Rattle.capture_engines.specs.Received.{IsOpeningRefusal, IsTurnRefusal, IsUntakenRefusal}
 use Rattle.capture_engines.specs.Received.{Opens, StopsFile, StopsFront}
 use Rattle.capture_engines.specs.declared.way.Way.{Way}
 use Rattle.capture_engines.specs.declared.way.Way.TheVariants as way

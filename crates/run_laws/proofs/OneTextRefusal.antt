@@ -9,8 +9,9 @@ use Rattle.sdp_format.specs.Bytes.{lines}
 use Rattle.sdp_format.specs.Grammar.{IsTextFault}
 use Rattle.sdp_format.specs.Sections.{video_sections}
 use Rattle.sdp_format.specs.declared.place.Located.{Located}
-use Rattle.capture_engines.specs.Received.{IsFrontRefusal, IsOpeningRefusal, IsSdp, IsWindowFault}
+use Rattle.capture_engines.specs.Received.{IsFrontRefusal, IsOpeningRefusal, IsWindowFault}
 use Rattle.capture_engines.specs.Received.{Opens}
+use Rattle.run_outcome.specs.TextRefusals.{IsSdp}
 use Rattle.run_laws.specs.Told.{AreOfOneFault}
 use Rattle.run_laws.proofs.NoTextFault.{no_text_fault, of_one_fault, one_text_fault}
 use Rattle.run_laws.proofs.WholeFiles.{window_not}

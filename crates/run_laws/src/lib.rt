@@ -18,12 +18,13 @@ pub use laws::{
 pub use scripts::{never_contested, traced_frames, traced_in_any_order};
 pub use sent::{
     looped_picture, migrated_again, migrated_and_received, processed_again, processed_and_received,
-    processed_once, sent_and_received, sent_file, written_again,
+    processed_once, sent_and_received, sent_file, sent_received_and_processed, written_again,
 };
 pub use told_once::{one_receive_refusal, one_receiving_refusal, one_send_refusal};
 pub use unrefused::{
-    convert_unrefused, export_unrefused, import_unrefused, inspect_streams_unrefused,
-    inspect_unrefused, loop_unrefused, merge_unrefused, migrate_unrefused, picture_unrefused,
-    process_unrefused, receive_files_unrefused, receive_unrefused, rehearse_unrefused,
-    report_unrefused, sdp_unrefused, send_unrefused, trace_unrefused,
+    convert_unrefused, export_paced_unrefused, export_unrefused, import_unrefused,
+    inspect_streams_unrefused, inspect_unrefused, loop_unrefused, merge_two_unrefused,
+    merge_unrefused, migrate_unrefused, picture_unrefused, process_unrefused,
+    receive_files_unrefused, receive_unrefused, rehearse_unrefused, report_unrefused,
+    sdp_unrefused, send_stream_unrefused, send_typed_unrefused, send_unrefused, trace_unrefused,
 };

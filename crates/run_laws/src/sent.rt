@@ -6,13 +6,15 @@
 //!   datagrams is read as them: `written_again`.
 //! - What was sent and received is the pictures, nothing missing; and of what isn't all, each value
 //!   is the sender's: `sent_and_received`.
-//! - What `process` wrote and was received is the job's picture: `processed_and_received`. Files
-//!   that are octet for octet the same are processed into one picture, `processed_once`, and with
-//!   the same stamp and packet size into one capture: `processed_again`.
+//! - What was sent, received and processed is the job's picture of the pictures that were sent:
+//!   `sent_received_and_processed`. What `process` wrote and was received is the job's picture:
+//!   `processed_and_received`. Files that are octet for octet the same are processed into one
+//!   picture, `processed_once`, and with the same stamp and packet size into one capture:
+//!   `processed_again`.
 //! - A migrated capture is received as the old one: `migrated_again`, `migrated_and_received`.
 //! - Through a link that makes no datagram each sample is the picture's or missing:
 //!   `looped_picture`.
-ghost use Rattle.std.specs.Prelude.{◌≡◌, ◌∷◌, [], ℕ, List, Option, None, Some};
+ghost use Rattle.std.specs.Prelude.{◌≡◌, ◌∷◌, ◌++◌, [], ℕ, List, Option, None, Some};
 ghost use Rattle.std.specs.Option.{option_map};
 ghost use Rattle.st_format.specs.Device.{AreOctets};
 ghost use Rattle.st_format.specs.History.{IsRead, since};
@@ -35,7 +37,10 @@ ghost use Rattle.capture_engines.specs.Looping.{Link, Loops};
 ghost use Rattle.capture_engines.specs.Migrating.{Migrates};
 ghost use Rattle.capture_engines.specs.Sending.{SendsAll, run_sender};
 ghost use Rattle.capture_engines.specs.declared.sender.Sending.{Sending};
+ghost use Rattle.receiver_engines.specs.Late.{late_text};
+ghost use Rattle.receiver_engines.specs.Offered.{OffersJob};
 ghost use Rattle.receiver_engines.specs.Processing.{SendsSaidFiles, TakesSaid};
+ghost use Rattle.run_laws.specs.Processed.{HavePictures, HaveSentPictures};
 ghost use Rattle.run_laws.specs.Received.{IsReceivedFile, all_read, read_of};
 ghost use Rattle.run_laws.specs.Sent.{AreOnePicture, AwaitsPicture, BringsOnly, FitCapture};
 ghost use Rattle.run_laws.specs.Sent.{IsSentFile, IsSentOf, loop_sender};
@@ -86,6 +91,36 @@ pub fn sent_and_received()
         → AreAmong datagrams sent.datagrams → format ≡ received.receiver.opening.format
         → IsSendersCell (cell_in received.receiver timestamp at) (run_sender format wanted)
         pictures timestamp at }
+{}
+
+/// What was sent, received and processed is the job's picture of the pictures that were sent. Where
+/// each file that a run of `process` read (`sent` there) was received of the datagrams of a sent
+/// file, in whatever captures, order, with whatever repeats and by whatever paths, and its receiver
+/// awaits the picture that was sent with the timestamp that is asked for, the run wrote the capture
+/// of the job's picture of those pictures, one, two or three, whatever the fill is and whatever is
+/// held (`pictures`; SMPTE ST 2022-7). So the datagrams in it offer that picture to a receiver
+/// (`means`; RFC 4175, 4.3). And so it is of any receivers' files in which the frames are pictures,
+/// nothing missing, however they came (`frames`).
+pub fn sent_received_and_processed<S: ByteSource>()
+    ensures pictures { (text : List ℕ) (states : List (S × S)) (hold : Option (S × S))
+        (job : List ℕ) (timestamp : ℕ) (fill : List ℕ) (size : ℕ) (stamp : Stamp)
+        (old new : List ℕ) (count : ℕ) (pictures : List Values)
+        (run : SendsSaidFiles text (WasRead S.gave S.ended) states hold job timestamp fill size
+        stamp old new count) → HaveSentPictures timestamp (all_read S.gave states) pictures
+        → TakesSaid text run.job pictures size stamp old new count }
+    ensures means { (text : List ℕ) (states : List (S × S)) (hold : Option (S × S))
+        (job : List ℕ) (timestamp : ℕ) (fill : List ℕ) (size : ℕ) (stamp : Stamp)
+        (old new : List ℕ) (count : ℕ) (pictures : List Values)
+        (run : SendsSaidFiles text (WasRead S.gave S.ended) states hold job timestamp fill size
+        stamp old new count) → HaveSentPictures timestamp (all_read S.gave states) pictures
+        → (datagrams : List (List ℕ)) × (new ≡ old ++ late_text text datagrams)
+        × OffersJob datagrams run.job pictures stamp }
+    ensures frames { (text : List ℕ) (states : List (S × S)) (hold : Option (S × S))
+        (job : List ℕ) (timestamp : ℕ) (fill : List ℕ) (size : ℕ) (stamp : Stamp)
+        (old new : List ℕ) (count : ℕ) (pictures : List Values)
+        (run : SendsSaidFiles text (WasRead S.gave S.ended) states hold job timestamp fill size
+        stamp old new count) → HavePictures timestamp (all_read S.gave states) pictures
+        → TakesSaid text run.job pictures size stamp old new count }
 {}
 
 /// What `process` wrote and was received is the job's picture of the settled frames: where the

@@ -3,8 +3,8 @@
 //! and memory was there. Each is the contract of a function that does nothing; a caller has the
 //! first premise from the clause of the call. That octets are below 256 is wanted, as the
 //! conditions of faults are told of octets.
-ghost use Rattle.std.specs.Prelude.{◌≡◌, ◌∷◌, ℕ, Bool, List, Option, None, Result, Some, false};
-ghost use Rattle.std.specs.Prelude.{length};
+ghost use Rattle.std.specs.Prelude.{◌≡◌, ◌∷◌, ℕ, Bool, List, Option, None, Result, Some};
+ghost use Rattle.std.specs.Prelude.{false, length};
 ghost use Rattle.std.specs.List.{zip};
 ghost use Rattle.st_format.specs.Device.{AreOctets};
 ghost use Rattle.st_format.specs.History.{IsRead, since};
@@ -25,6 +25,7 @@ ghost use Rattle.capture_engines.specs.Sent.{IsSendRefusal};
 ghost use Rattle.capture_engines.specs.Taking.{Receives, ReceivesFiles};
 ghost use Rattle.capture_engines.specs.Typed.{SendsTyped};
 ghost use Rattle.capture_engines.specs.declared.sender.Sending.{Sending};
+ghost use Rattle.stream_sending.specs.Sent.{IsSentStreamRefusal, SendsStream};
 ghost use Rattle.receiver_engines.specs.MergeAllRefused.{IsMergeAllRefusal};
 ghost use Rattle.receiver_engines.specs.MergeRefused.{IsMergeRefusal};
 ghost use Rattle.receiver_engines.specs.MergedAll.{MergesAll};
@@ -49,6 +50,8 @@ ghost use Rattle.picture_engine.specs.Shown.{ShowsFrame};
 ghost use Rattle.picture_engine.specs.declared.asked.PictureAsked.{PictureAsked};
 ghost use Rattle.export_engine.specs.ExportRefused.{IsExportRefusal};
 ghost use Rattle.export_engine.specs.Exported.{PrintsExported};
+ghost use Rattle.paced_export.specs.PacedExported.{PrintsPaced};
+ghost use Rattle.paced_export.specs.PacedRefused.{IsPacedRefusal};
 ghost use Rattle.inspect_engine.specs.Told.{IsInspectRefusal, Tells};
 ghost use Rattle.inspect_engine.specs.declared.form.Form.{Form};
 ghost use Rattle.stream_inspection.specs.Told.{IsStreamsRefusal, TellsStreams};
@@ -119,6 +122,18 @@ pub fn export_unrefused<S: ByteSource>()
         → IsExportRefusal a b (IsRead (S.gave source) (S.gave later) (S.ended later)) r → ⊥ }
 {}
 
+/// The same of a run of `export_paced` (`exported` there), of both readings.
+pub fn export_paced_unrefused<S: ByteSource>()
+    ensures { (start : ℕ) (a : List ℕ) (b : Option (List ℕ))
+        (ahead ahead_later capture later : S) (old new shown printed : List ℕ) (r : Refusal)
+        → PrintsPaced start a b (S.gave ahead) (S.gave ahead_later) (S.ended ahead_later)
+        (S.gave capture) (S.gave later) (S.ended later) old new shown printed
+        → AreOctets (since (S.gave ahead) (S.gave ahead_later))
+        → AreOctets (since (S.gave capture) (S.gave later))
+        → IsPacedRefusal a b (IsRead (S.gave ahead) (S.gave ahead_later) (S.ended ahead_later))
+        (IsRead (S.gave capture) (S.gave later) (S.ended later)) r → ⊥ }
+{}
+
 /// The same of a run of `sdp` (`printed` of `describe`).
 pub fn sdp_unrefused<S: ByteSource>()
     ensures { (source later : S) (old new : List ℕ) (r : Refusal)
@@ -158,6 +173,16 @@ pub fn send_typed_unrefused<S: ByteSource>()
         → ((s : S × S) → IsMember s (zip pictures later) → AreOctets (read_of S.gave s))
         → IsSendRefusal wanted.max_octets (length pictures) sdp sdp_later
         (WasRead S.gave S.ended) (zip pictures later) r → ⊥ }
+{}
+
+/// The same of a run of `send_stream` (`sent` there), whatever the octets.
+pub fn send_stream_unrefused<S: ByteSource>()
+    ensures { (by_sdp : Bool) (wanted : Sending) (sdp sdp_later : Option S) (stream later : S)
+        (old new shown printed : List ℕ) (r : Refusal)
+        → SendsStream S.gave S.ended by_sdp wanted sdp sdp_later
+        (IsRead (S.gave stream) (S.gave later) (S.ended later)) old new shown printed
+        → IsSentStreamRefusal wanted.max_octets sdp sdp_later (WasRead S.gave S.ended)
+        (IsRead (S.gave stream) (S.gave later) (S.ended later)) r → ⊥ }
 {}
 
 /// The same of a run of `inspect` (`told` there), whatever the octets.

@@ -68,7 +68,9 @@ pub frames_sent : (wanted : Sending) (text : List ℕ) (f : Format) (a b c : Lis
     → SendsFrames (IsRead a c ended) wanted text old new count
 frames_sent wanted text f a b c ended old new count h sends = record {
   format = f;
+  limits = sends.limits;
   pictures = sends.pictures;
+  few = sends.few;
   says = stream_read f sends.pictures a b c ended h sends.gave sends.over;
   taken = sends.taken;
 }

@@ -75,27 +75,33 @@ IsOpenedRefusal most f before now ended r =
     IsSize most f × IsFramesReadRefusal 4294967296 f before now ended r
 
 -- A sender that had sent none sent this picture, and behind it those of all frames that a source
--- gave up to its end.
+-- gave up to its end, fewer than 2^32 in all.
 pub record SendsBehind {A K : Type 0} {G : Ghosts K} (took : K → List ℕ) (f : Format)
     (first : Values) (before now : List ℕ) (ended : Type 0) (old new : Sends A K G)
     : Type 0 where
   pub rest : List Values
+  pub few : length rest < 4294967295
   pub gave : GaveFrames f rest before now
   pub over : ended
   pub sent : SendsMore took 0 (first ∷ rest) old new
 
--- a sink took the capture of this picture and, behind it, of those of all frames up to the end
+-- A sink took the capture of this picture and, behind it, of those of all frames up to the end,
+-- fewer than 2^32 in all.
 pub record SendsFirst (wanted : Sending) (text : List ℕ) (f : Format) (first : Values)
     (before now : List ℕ) (ended : Type 0) (old new : List ℕ) (count : ℕ) : Type 0 where
   pub rest : List Values
+  pub few : length rest < 4294967295
   pub gave : GaveFrames f rest before now
   pub over : ended
   pub taken : TakesStream wanted text f (first ∷ rest) old new count
 
--- a sink took the capture of the pictures of all frames up to the end
+-- A sink took the capture of the pictures of all frames up to the end, fewer than 2^32; and the
+-- size of packets is one that plans of the format are made for.
 pub record SendsOpened (wanted : Sending) (text : List ℕ) (f : Format) (before now : List ℕ)
     (ended : Type 0) (old new : List ℕ) (count : ℕ) : Type 0 where
+  pub limits : IsSize wanted.max_octets f
   pub pictures : List Values
+  pub few : length pictures < 4294967296
   pub gave : GaveFrames f pictures before now
   pub over : ended
   pub taken : TakesFrames wanted text f pictures old new count

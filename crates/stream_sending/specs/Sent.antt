@@ -43,11 +43,14 @@ TakesFrames wanted text f [] old new count = (new ≡ old) × (count ≡ 0)
 TakesFrames wanted text f (p ∷ ps) old new count =
     TakesStream wanted text f (p ∷ ps) old new count
 
--- a sink took the pictures of the stream that was read
+-- A sink took the pictures of the stream that was read, which are fewer than 2^32. The size of
+-- packets that is asked for is one that plans of its format are made for, also where there is none.
 pub record SendsFrames (read : List ℕ → Type 0) (wanted : Sending) (text old new : List ℕ)
     (count : ℕ) : Type 0 where
   pub format : Format
+  pub limits : IsSize wanted.max_octets format
   pub pictures : List Values
+  pub few : length pictures < 4294967296
   pub says : (octets : List ℕ) → read octets → IsStreamOf octets format pictures
   pub taken : TakesFrames wanted text format pictures old new count
 

@@ -55,6 +55,13 @@ returns-in-None-clause-sent g c =
     let gave = rw c.in-None.is at c.in_ok-next.ensures.gave in
     record {
       rest = so_far.rest;
+      few = omega (
+        arith,
+        c.loop-place-test.true,
+        so_far.count,
+        ap length so_far.read,
+        length-append so_far.sent (l.picture ∷ []),
+      );
       gave = gave_end c.args.reader.now.format so_far.rest (told.gave c.args.reader.now.source)
           (told.gave l.reader.source) (told.gave c.next_picture.new.reader.source) so_far.gave
           gave.0;

@@ -12,6 +12,7 @@ returns-clause-sent g c =
     if_ok_both c.send_each-sent.result _ _ _
     (λ n each count. record {
       rest = each.rest;
+      few = each.few;
       gave = each.gave;
       over = each.over;
       taken = stream_sent (λ m. g.K.ByteSink.took m.now) c.args.wanted c.args.said.now

@@ -1,4 +1,4 @@
-use Rattle.std.proofs.Common.{[], ◌∷◌, Err, ap, refl}
+use Rattle.std.proofs.Common.{[], ◌∷◌, Err, ap, arith, refl}
 use Rattle.std.proofs.lemmas.Result.{IfOk-weaker, err_from_is_err_and}
 use Rattle.run_outcome.proofs.Refusals.{if_err_map, of_refusal_map}
 use Rattle.stream_sending.proofs.FramesRead.{gave_end, gave_first, gave_none, plan_refused}
@@ -29,7 +29,10 @@ returns-in-None-clause-sent g c =
     let start = g.S.ByteSource.gave c.args.reader.now.source in
     let gave = rw c.in-None.is at c.in_ok-first.ensures.gave in
     record {
+      limits = sized c.args.wanted.max_octets _ f _ _ c.facts.ensures.full.limits
+          c.in_ok-plan.ensures.made.1 c.in_ok-plan.ensures.made.0 c.format-format.ensures.value;
       pictures = [];
+      few = omega arith;
       gave = gave_end f [] start start _ (gave_none f start) gave.0;
       over = gave.1;
       taken = (refl, refl);
@@ -41,7 +44,10 @@ returns-in-Some-clause-sent g c =
     let next = c.in_ok-first.ensures in
     IfOk-weaker c.send_from.result _ _
     (λ n sends. record {
+      limits = sized c.args.wanted.max_octets _ f _ _ c.facts.ensures.full.limits
+          c.in_ok-plan.ensures.made.1 c.in_ok-plan.ensures.made.0 c.format-format.ensures.value;
       pictures = c.in-Some.first ∷ sends.rest;
+      few = omega (arith, sends.few);
       gave = gave_first f c.in-Some.first sends.rest _ _ _ (rw c.in-Some.is at next.gave)
           sends.gave;
       over = sends.over;
