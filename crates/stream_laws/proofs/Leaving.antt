@@ -14,13 +14,14 @@ use Rattle.following.specs.Times.{AreTimed, Timed, handed_at, in_order, octets_o
 use Rattle.following.specs.Turned.{handed_all, kept_of}
 use Rattle.following.proofs.Lost.{kept_stream}
 use Rattle.following.proofs.Made.{of_some}
+use Rattle.following.proofs.PromptPictures.{prompt_pictures}
 use Rattle.media_file.specs.Records.{Entry}
 use Rattle.packet_plan.specs.Sender.{Sender}
 use Rattle.path_receiver.specs.Opening.{Opening}
 use Rattle.st_format.specs.Member.{IsMember}
 use Rattle.st_format.specs.Picture.{Values}
 use Rattle.st_format.specs.Raster.{Raster}
-use Rattle.stream_laws.specs.Brought.{GoesInTime, IsInTime, LosesNone}
+use Rattle.stream_laws.specs.Brought.{GoesInTime, GoesPrompt, IsInTime, LosesNone}
 use Rattle.stream_laws.proofs.LosesNone.{orderly_none}
 use Rattle.stream_laws.proofs.NoneLate.{IsClear, all_kept, none_counted, totals_clear, totals_plain}
 use Rattle.stream_laws.proofs.SenderTimes.{are_near, are_timed, frames_of_times, near_one}
@@ -79,10 +80,23 @@ kept_frames w o s ps entries brought none =
     ∙ ap (λ (ys : List Timed). map (handed_at o ys) (in_order (times_of o ys))) kept
     ∙ frames_of_times o s ps ds brought
 
+-- So they are where what comes late is a repeat, also where frames leave early.
+prompt_frames : (w : FollowAsked) (o : Opening) (s : Sender) (ps : List Values)
+    (entries : List Entry) → BroughtAll o s ps (datagrams_in entries)
+    → GoesPrompt w o s.base entries
+    → frames_of_events (followed_events w o entries) ≡ pictures_from s 0 ps
+prompt_frames w o s ps entries brought goes =
+    let ds : List (List ℕ) = datagrams_in entries in
+    plain_frames w.is_eager (running_from (opened o w.frames 900000)) ds goes.plain
+    ∙ prompt_pictures w.is_eager o w.frames 900000 s ps ds goes.frames.some brought goes.prompt
+
 pub in_time_frames : (w : FollowAsked) (o : Opening) (s : Sender) (ps : List Values)
     (entries : List Entry) → BroughtAll o s ps (datagrams_in entries)
     → IsInTime w o s.base entries
     → frames_of_events (followed_events w o entries) ≡ pictures_from s 0 ps
 in_time_frames w o s ps entries brought (inl time) =
     kept_frames w o s ps entries brought (none_late w o s ps entries brought time)
-in_time_frames w o s ps entries brought (inr none) = kept_frames w o s ps entries brought none
+in_time_frames w o s ps entries brought (inr (inl none)) =
+    kept_frames w o s ps entries brought none
+in_time_frames w o s ps entries brought (inr (inr goes)) =
+    prompt_frames w o s ps entries brought goes

@@ -2,7 +2,10 @@ pub mod Settled
 pub mod SameStream
 pub mod LosesNone
 pub mod NoneLate
+pub mod NoneTold
 pub mod SenderTimes
+pub mod LostRepeats
+pub mod PlainByTimes
 pub mod Leaving
 pub mod FollowedText
 pub mod NoFollowRefusals

@@ -1,7 +1,7 @@
 -- Against what a run of `follow` read that ended well no refusal speaks.
-use Rattle.std.proofs.Common.{◌≡◌, ◌∙◌, ℕ, zero, suc, inl, inr, List, [], ◌∷◌, length}
-use Rattle.std.proofs.Common.{Option, None, Some, Result, refl, sym, ap, subst, arith}
-use Rattle.std.specs.Prelude.{MatchOption, ⊤}
+use Rattle.std.proofs.Common.{◌≡◌, ◌∙◌, ℕ, zero, suc, Bool, true, false, inl, inr, List, [], ◌∷◌}
+use Rattle.std.proofs.Common.{Option, None, Some, Result, length, refl, sym, ap, subst, arith}
+use Rattle.std.specs.Prelude.{IsSome, MatchOption, ⊤}
 use Rattle.std.specs.List.{AllByRecursion, AllZip}
 use Rattle.flow.specs.declared.flows.Flows.{Flows}
 use Rattle.media_file.specs.Records.{Entry}
@@ -9,18 +9,25 @@ use Rattle.path_receiver.specs.Opening.{Opening}
 use Rattle.path_receiver.specs.declared.fault.OpenFault.TheVariants as open_fault
 use Rattle.recording_engines.specs.Imported.{AreOver}
 use Rattle.recording_engines.specs.Joining.{Strand}
+use Rattle.recording_engines.specs.Strands.{fault_of_file}
+use Rattle.recording_reader.proofs.Files.{front_first}
 use Rattle.recording_reader.specs.Files.{text_of_file}
+use Rattle.recording_reader.specs.Kinds.{is_recording}
+use Rattle.recording_reader.specs.declared.fault.ReadingFault.TheVariants.{Capture, Recording}
 use Rattle.run_outcome.specs.TextRefusals.{IsDescriptionRefusal}
 use Rattle.run_outcome.specs.declared.refusal.Refusal.{Refusal}
 use Rattle.run_outcome.specs.declared.refusal.Refusal.TheVariants as why
-use Rattle.capture_engines.specs.Files.{first_way, other_ways}
-use Rattle.capture_engines.specs.Received.{OneFileIs, StopsFile}
+use Rattle.capture_engines.specs.Files.{first_way, flows_in, other_ways}
+use Rattle.capture_engines.specs.Received.{IsCaptureBy, IsUntakenRefusal, OneFileIs, StopsFront}
 use Rattle.capture_engines.specs.Taking.{AnnouncesStream}
+use Rattle.capture_engines.specs.declared.way.Way.{Way}
+use Rattle.capture_engines.specs.declared.way.Way.TheVariants as way
 use Rattle.side_by_side.specs.InOrder.{record_count}
 use Rattle.side_by_side.specs.Strands.{Goes, GoesWhole, TakesAt}
 use Rattle.side_by_side.specs.declared.steering.Steering.{Steering}
 use Rattle.following.specs.Following.{Handed}
 use Rattle.follow_engine.specs.Followed.{FollowsWhole}
+use Rattle.follow_engine.specs.Fronts.{StopsFirstFront}
 use Rattle.follow_engine.specs.Order.{AreTakenBy, strands_by}
 use Rattle.follow_engine.specs.Refused.{FirstRefuses, IsFileRefusal, IsFirstRefusal}
 use Rattle.follow_engine.specs.Refused.{IsFollowRefusal, IsFollowWordRefusal}
@@ -28,9 +35,8 @@ use Rattle.follow_engine.specs.Running.{steering_of}
 use Rattle.follow_engine.specs.declared.opening.FollowAsked.{FollowAsked}
 use Rattle.follow_engine.specs.declared.telling.FollowTotals.{FollowTotals}
 use Rattle.follow_engine.proofs.Counted.{whole_count}
-use Rattle.run_laws.specs.Streams.{HaveFew}
 use Rattle.run_laws.proofs.NoTextFault.{no_text_fault}
-use Rattle.run_laws.proofs.WholeFiles.{IsFaultless, fault_never, stops_never}
+use Rattle.run_laws.proofs.WholeFiles.{fault_never}
 
 -- ---- files that go to their ends have no fault
 
@@ -64,34 +70,76 @@ whole_none : (st : Steering) (ss : List Strand) (es : List Entry) → GoesWhole 
     → HaveNoFault ss
 whole_none st ss es goes = goes_none st ss es goes.left goes.goes (over_none goes.left goes.over)
 
--- so each is one that nothing stops
-abbrev AreFaultless : List (Result Flows Refusal) → List (List ℕ) → Type 0
-AreFaultless ways [] = ⊤
-AreFaultless ways (octets ∷ files) =
-    IsFaultless (first_way ways) octets × AreFaultless (other_ways ways) files
+-- Octets are a file that is taken so, without a fault.
+record HasNone (w : Way) (octets : List ℕ) : Type 0 where
+  pub none : fault_of_file octets ≡ None
+  pub by_flows : is_recording octets ≡ true → IsSome (flows_in w)
 
-are_faultless : (ways : List (Result Flows Refusal)) (octets : List (List ℕ))
-    → HaveNoFault (strands_by ways octets) → AreTakenBy ways octets → HaveFew ways octets
-    → AreFaultless ways octets
-are_faultless ways [] none by few = tt
-are_faultless ways (o ∷ os) none by few = (
-  record { none = none.0; few = few.0; by_flows = by.0 },
-  are_faultless (other_ways ways) os none.1 by.1 few.1,
-)
+-- so each is
+abbrev HaveNone : List (Result Flows Refusal) → List (List ℕ) → Type 0
+HaveNone ways [] = ⊤
+HaveNone ways (octets ∷ files) =
+    HasNone (first_way ways) octets × HaveNone (other_ways ways) files
+
+have_none : (ways : List (Result Flows Refusal)) (octets : List (List ℕ))
+    → HaveNoFault (strands_by ways octets) → AreTakenBy ways octets → HaveNone ways octets
+have_none ways [] none by = tt
+have_none ways (o ∷ os) none by =
+    (record { none = none.0; by_flows = by.0 }, have_none (other_ways ways) os none.1 by.1)
+
+-- ---- so nothing stops one at its front
+
+abbrev none_flows : Option Flows
+none_flows = None
+
+no_flows : IsSome none_flows → ⊥
+no_flows is = cc
+
+no_kind : (b : Bool) → (b ≡ true → ⊥) → b ≡ false
+no_kind true never = absurd (never refl)
+no_kind false never = refl
+
+is_capture : (w : Way) (octets : List ℕ) → (is_recording octets ≡ true → IsSome (flows_in w))
+    → IsCaptureBy w octets → is_recording octets ≡ false
+is_capture way.Capture octets by capture =
+    no_kind (is_recording octets) (λ kind. no_flows (by kind))
+is_capture (way.Flows flows) octets by capture = capture
+is_capture (way.Refused r) octets by capture = capture
+
+untaken_not : (w : Way) (told : List ℕ → Type 0) (octets : List ℕ) (r : Refusal) → told octets
+    → (is_recording octets ≡ true → IsSome (flows_in w)) → IsUntakenRefusal w told r → ⊥
+untaken_not (way.Refused e) told octets r there by wrong = no_flows (by (wrong.1 octets there))
+untaken_not (way.Flows flows) told octets r there by wrong = absurd wrong
+untaken_not way.Capture told octets r there by wrong = absurd wrong
+
+front_not : (w : Way) (told : List ℕ → Type 0) (octets : List ℕ) (r : Refusal) → told octets
+    → HasNone w octets → StopsFront w told r → ⊥
+front_not w told octets (why.Capture f) there is (inl wrong) =
+    fault_never octets (Capture f) is.none (
+      is_capture w octets is.by_flows (wrong.1 octets there),
+      inl (wrong.0 octets there),
+    )
+front_not w told octets r there is (inl wrong) = absurd wrong.0
+front_not w told octets (why.Recording f) there is (inr (inl wrong)) =
+    let at = wrong.1 octets there in
+    fault_never octets (Recording f) is.none (at.0, front_first octets f at.1)
+front_not w told octets r there is (inr (inl wrong)) = absurd wrong
+front_not w told octets r there is (inr (inr wrong)) =
+    untaken_not w told octets r there is.by_flows wrong
 
 module _ {F : Type 0} (told : F → List ℕ → Type 0) where
   stop_not : (ways : List (Result Flows Refusal)) (files : List F) (octets : List (List ℕ))
-      (r : Refusal) → AllZip told files octets → AreFaultless ways octets
-      → OneFileIs (λ w s. StopsFile w (told s) r) ways files → ⊥
+      (r : Refusal) → AllZip told files octets → HaveNone ways octets
+      → StopsFirstFront ways told files r → ⊥
   stop_not ways [] octets r read are wrong = wrong
   stop_not ways (s ∷ ss) [] r read are wrong = absurd read
   stop_not ways (s ∷ ss) (o ∷ os) r read are (inl wrong) =
-      stops_never (first_way ways) (told s) o r read.0 are.0 wrong
+      front_not (first_way ways) (told s) o r read.0 are.0 wrong
   stop_not ways (s ∷ ss) (o ∷ os) r read are (inr wrong) =
-      stop_not (other_ways ways) ss os r read.1 are.1 wrong
+      stop_not (other_ways ways) ss os r read.1 are.1 wrong.1
 
   fault_not : (ways : List (Result Flows Refusal)) (files : List F) (octets : List (List ℕ))
-      (r : Refusal) → AllZip told files octets → AreFaultless ways octets
+      (r : Refusal) → AllZip told files octets → HaveNone ways octets
       → OneFileIs (λ w s. IsFileRefusal (told s) r) ways files → ⊥
   fault_not ways [] octets r read are wrong = wrong
   fault_not ways (s ∷ ss) [] r read are wrong = absurd read
@@ -149,24 +197,26 @@ module _ {F K : Type 0} (told : F → List ℕ → Type 0) (w : FollowAsked)
         (run.announced (o ∷ os) (text_of_file o) read refl) (wrong o read.0)
 
     pub follow_not : (sdp : Option (List ℕ)) (files : List F) (octets : List (List ℕ))
-        (r : Refusal) → Run sdp files → AllZip told files octets → HaveFew ways octets
+        (r : Refusal) → Run sdp files → AllZip told files octets
         → IsFollowRefusal w.frames w.ssrc.now sdp ways told files r → ⊥
-    follow_not sdp files octets r run read few wrong =
+    follow_not sdp files octets r run read wrong =
         let goes = run.goes octets read in
         let strands : List Strand = strands_by ways octets in
         let st : Steering = steering_of run.opening in
-        let are : AreFaultless ways octets =
-        are_faultless ways octets (whole_none st strands run.entries goes)
-        (run.by_flows octets read) few in
+        let are : HaveNone ways octets =
+        have_none ways octets (whole_none st strands run.entries goes)
+        (run.by_flows octets read) in
         by are (whole_count st strands run.entries goes) wrong
       where
-        by : AreFaultless ways octets → record_count (strands_by ways octets) ≡ length run.entries
+        by : HaveNone ways octets → record_count (strands_by ways octets) ≡ length run.entries
             → IsFollowRefusal w.frames w.ssrc.now sdp ways told files r → ⊥
-        by are count (inl word) = word_not sdp files r run word
-        by are count (inr (inl given)) = given_not sdp files octets r run read given
-        by are count (inr (inr (inl stop))) = stop_not told ways files octets r read are stop
-        by are count (inr (inr (inr (inl first)))) = first_not sdp files octets r run read first
-        by are count (inr (inr (inr (inr (inl fault))))) =
-            fault_not told ways files octets r read are fault
-        by are count (inr (inr (inr (inr (inr many))))) =
+        by are count (inl word) = word_not sdp files r run word.0
+        by are count (inr (words, inl given)) = given_not sdp files octets r run read given
+        by are count (inr (words, inr (said, inl stop))) =
+            stop_not told ways files octets r read are stop
+        by are count (inr (words, inr (said, inr (fronts, inl first)))) =
+            first_not sdp files octets r run read first
+        by are count (inr (words, inr (said, inr (fronts, inr (text, inl fault))))) =
+            fault_not told ways files octets r read are fault.0
+        by are count (inr (words, inr (said, inr (fronts, inr (text, inr many))))) =
             omega (arith, count, run.few, many.1 octets read)

@@ -51,7 +51,7 @@ not_lost t (Ok Late) is = absurd (never_none t.late is.late)
 not_lost t (Ok Far) is = absurd (never_none t.far is.far)
 not_lost t (Err e) is = refl
 
-not_anew : (bound : ℕ) (since time : Option ℕ) (a : Result Followed Refusal)
+pub not_anew : (bound : ℕ) (since time : Option ℕ) (a : Result Followed Refusal)
     → is_lost a ≡ false → anew_with bound since time a ≡ false
 not_anew bound since None a none = refl
 not_anew bound since (Some t) a none =

@@ -1,12 +1,9 @@
 -- Frames of which nothing is missing, settled, are their pictures.
-use Rattle.std.proofs.Common.{◌≡◌, ◌∙◌, ℕ, ◌+◌, ◌<◌, ◌%◌, ◌^◌, List, [], ◌∷◌, Option, None, Some}
-use Rattle.std.proofs.Common.{ap, get_or, inl, inr, length, map, refl, slice_index, subst, sym}
-use Rattle.std.specs.List.{AllByRecursion, range_with_len}
-use Rattle.std.proofs.lemmas.List.{get_or-map}
-use Rattle.std.proofs.lemmas.List.FromFn.{fill_by_all}
+use Rattle.std.proofs.Common.{◌≡◌, ◌∙◌, ℕ, ◌+◌, ◌%◌, ◌^◌, List, [], ◌∷◌, Option, None, Some, ap}
+use Rattle.std.proofs.Common.{inl, inr, length, refl, slice_index}
+use Rattle.std.specs.List.{AllByRecursion}
 use Rattle.following.specs.Following.{Handed}
 use Rattle.following.specs.Pictures.{pictures_from}
-use Rattle.frame_assembly.specs.Settled.{settled_cell}
 use Rattle.frame_sinks.specs.Fills.{fill_of}
 use Rattle.frame_sinks.specs.Pictures.{held_by, held_for, picture_of, pictures_of}
 use Rattle.frame_sinks.specs.declared.filling.Filling.{Filling}
@@ -14,52 +11,14 @@ use Rattle.frame_sinks.proofs.Written.{picture_format}
 use Rattle.packet_plan.specs.Sender.{Sender, SendsFrom}
 use Rattle.path_receiver.specs.Sender.{picture_raster}
 use Rattle.picture_engine.specs.Views.{settled_with}
-use Rattle.receiver_engines.specs.Inputs.{settled_over}
-use Rattle.st_format.specs.declared.cell.Cell.{Cell}
-use Rattle.st_format.specs.declared.cell.Cell.TheVariants.{Missing, Value}
+use Rattle.run_laws.proofs.Settled.{settled_whole}
 use Rattle.st_format.specs.declared.format.Format.{Format}
 use Rattle.st_format.specs.Member.{IsMember}
 use Rattle.st_format.specs.Picture.{Values, value_at}
-use Rattle.st_format.specs.Position.{Position, place, places, sample_count}
-use Rattle.st_format.specs.Raster.{cell_at}
-use Rattle.st_format.proofs.Numbering.{number_of-place}
-use Rattle.st_format.proofs.Rasters.{map-map}
+use Rattle.st_format.specs.Position.{sample_count}
 use Rattle.stream_laws.specs.Brought.{AreWhole}
 
 -- ---- one frame
-
--- the value of a number, whatever lies below it
-settled_at : (base : Position → ℕ) (p : Values) (k : ℕ) → k < length p.samples
-    → get_or p.samples k 0
-    ≡ settled_cell (cell_at (picture_raster p) (place p.format k)) (base (place p.format k))
-settled_at base p k lt =
-    let at : Position = place p.format k in
-    let cells : List Cell = map (λ (v : ℕ). Value v) p.samples in
-    sym
-    (ap (λ (n : ℕ). settled_cell (get_or cells n Missing) (base at)) (number_of-place p.format k)
-    ∙ ap (λ (c : Cell). settled_cell c (base at))
-    (get_or-map (λ (v : ℕ). Value v) p.samples k 0 Missing lt))
-
-settled_samples : (base : Position → ℕ) (p : Values) → length p.samples ≡ sample_count p.format
-    → map (λ at. settled_cell (cell_at (picture_raster p) at) (base at)) (places p.format)
-    ≡ p.samples
-settled_samples base p long =
-    map-map (λ (at : Position). settled_cell (cell_at (picture_raster p) at) (base at))
-    (place p.format) (range_with_len 0 (sample_count p.format))
-    ∙ sym
-    (fill_by_all
-    (λ (k : ℕ). settled_cell (cell_at (picture_raster p) (place p.format k))
-    (base (place p.format k)))
-    p.samples (sample_count p.format) 0 long
-    (λ k lt. settled_at base p k (subst (λ (n : ℕ). k < n) (sym long) lt)))
-
-abbrev values : Format → List ℕ → Values
-values f samples = record { format = f; samples = samples }
-
-settled_whole : (base : Position → ℕ) (p : Values) → length p.samples ≡ sample_count p.format
-    → settled_over base (picture_raster p) ≡ p
-settled_whole base p long =
-    ap (λ (samples : List ℕ). values p.format samples) (settled_samples base p long)
 
 whole_over : (held : Option Values) (fill : List ℕ) (p : Values)
     → length p.samples ≡ sample_count p.format → settled_with held fill (picture_raster p) ≡ p

@@ -1,13 +1,17 @@
 -- Files that bring a sender's pictures into a stream that is followed (own).
-use Rattle.std.specs.Prelude.{◌≡◌, ◌⊎◌, ℕ, false, List, length, Result}
+use Rattle.std.specs.Prelude.{◌≡◌, ◌⊎◌, ℕ, ◌+◌, ◌≤◌, false, List, ◌∷◌, ◌++◌, length, map, Result}
 use Rattle.std.specs.List.{AllZip}
 use Rattle.capture_engines.specs.Files.{files_datagrams}
 use Rattle.flow.specs.declared.flows.Flows.{Flows}
+use Rattle.follow_engine.specs.Events.{running_from}
 use Rattle.follow_engine.specs.Followed.{followed_run}
 use Rattle.follow_engine.specs.Order.{datagrams_in}
+use Rattle.follow_engine.specs.Plain.{NoneAnew}
 use Rattle.follow_engine.specs.Telling.{totals_of}
 use Rattle.follow_engine.specs.declared.opening.FollowAsked.{FollowAsked}
-use Rattle.following.specs.Pictures.{times_from}
+use Rattle.following.specs.Follower.{opened}
+use Rattle.following.specs.Pictures.{timed_from, times_from}
+use Rattle.following.specs.Prompt.{IsPrompt}
 use Rattle.following.specs.Times.{IsOrderly}
 use Rattle.media_file.specs.Records.{Entry}
 use Rattle.packet_plan.specs.Sender.{Sender}
@@ -52,6 +56,25 @@ pub record LosesNone (w : FollowAsked) (o : Opening) (entries : List Entry) : Ty
   pub late : (totals_of (followed_run w o entries)).late ≡ 0
   pub far : (totals_of (followed_run w o entries)).far ≡ 0
 
--- In time by their order, or else by what was told of them.
+-- none is more than these ticks older than one before it
+abbrev pub AreRecent : ℕ → List ℕ → Type 0
+AreRecent most us = (before after : List ℕ) (u v : ℕ) → us ≡ before ++ u ∷ after
+    → IsMember v before → v ≤ u + most
+
+-- Records go into a stream so that what comes late is a repeat, where the first picture has this
+-- time: each datagram of a timestamp that comes after as many newer ones as there are frames came
+-- before too (SMPTE ST 2022-7: by another path), none is more than ten seconds ahead, and where
+-- frames leave early each timestamp first comes before a newer one's frame is complete; and the
+-- stream isn't followed anew.
+pub record GoesPrompt (w : FollowAsked) (o : Opening) (base : ℕ) (entries : List Entry) : Type 0
+  where
+    pub frames : IsWindowSize w.frames
+    pub prompt : IsPrompt w.is_eager o w.frames 900000
+        (map (timed_from o base) (datagrams_in entries))
+    pub plain : NoneAnew w.is_eager (running_from (opened o w.frames 900000))
+        (datagrams_in entries)
+
+-- In time by their order, or else by what was told of them; or but for repeats.
 abbrev pub IsInTime : FollowAsked → Opening → ℕ → List Entry → Type 0
-IsInTime w o base entries = GoesInTime w o base entries ⊎ LosesNone w o entries
+IsInTime w o base entries =
+    GoesInTime w o base entries ⊎ (LosesNone w o entries ⊎ GoesPrompt w o base entries)
