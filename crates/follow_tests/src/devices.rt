@@ -38,7 +38,7 @@ fn run_of(alloc: Global, failing: Failing) -> Result<Run, AllocError> {
         second: Some(source(alloc, &b, failing.b)?),
     };
     let shown = ShownFrames::new(alloc, failing.pictures);
-    run_into(alloc, input, shown, sink(alloc, failing.lines)?)
+    run_into(alloc, alloc, input, shown, sink(alloc, failing.lines)?)
 }
 
 /// How many lines there are, by their ends.

@@ -1,4 +1,4 @@
-//! Runs of the engine of `follow` over files in memory.
+//! Runs of `follow_files` and of `run_follow` over files in memory.
 ghost use Rattle.std.specs.Prelude.{IfOk};
 ghost use Rattle.follow_engine.specs.Opened.{AllClosedSides};
 
@@ -9,8 +9,8 @@ use follow_engine::{FollowAsked, FollowTotals, PictureSink, follow_files};
 use run_outcome::{Fault, Refusal};
 use side_by_side::Side;
 use st_format::memory::{MemorySink, MemorySource};
+use st2110_tool::{FollowWanted, run_follow};
 use std::alloc::{AllocError, Allocator, Global};
-use test_kit::words::says;
 
 /// Path A by port 5004 and path B by port 5006, of any address.
 pub const FLOWS: Flows = Flows {
@@ -98,8 +98,8 @@ pub struct Input<'a> {
     pub second: Option<MemorySource>,
 }
 
-/// How a run of `follow` ends, by any sink of pictures. Its own memory, and that of the list of
-/// files, comes from `alloc`.
+/// How a run of `follow_files` ends, by any sink of pictures. Its own memory, and that of the list
+/// of files, comes from `alloc`.
 pub fn follow_into<A: Allocator + Copy, P: PictureSink>(
     alloc: A,
     input: Input<'_>,
@@ -120,26 +120,44 @@ pub fn follow_into<A: Allocator + Copy, P: PictureSink>(
     ))
 }
 
-/// How a run ended, what it printed, and which frames it showed.
+/// How a run ended, what it told of it, what it printed, and which frames it showed.
 #[derive(Drop)]
 pub struct Run {
-    pub outcome: Result<FollowTotals, Fault>,
+    status: u8,
+    faults: MemorySink,
     pub printed: MemorySink,
     pub shown: ShownFrames,
 }
 
-/// A run that prints into a sink and shows frames to another.
+/// A run of `run_follow` that prints into a sink and shows frames to another.
 pub fn run_into<A: Allocator + Copy>(
+    global: Global,
     alloc: A,
     input: Input<'_>,
     shown: ShownFrames,
     printed: MemorySink,
 ) -> Result<Run, AllocError> {
     let (mut shown, mut printed) = (shown, printed);
+    let mut faults = MemorySink::new(Vec::with_capacity(global, 64)?, 7, 0);
+    let wanted = FollowWanted {
+        asked: input.asked,
+        sdp: input.sdp,
+        ways: input.ways,
+    };
+    let mut sides = closed_sides(alloc, input.first, input.second)?;
     let mut lent = &mut shown;
-    let outcome = follow_into(alloc, input, &mut [], &mut lent, &mut printed)?;
+    let status = run_follow(
+        alloc,
+        wanted,
+        &mut sides,
+        &mut [],
+        &mut lent,
+        &mut printed,
+        &mut faults,
+    );
     Ok(Run {
-        outcome,
+        status,
+        faults,
         printed,
         shown,
     })
@@ -151,33 +169,42 @@ pub fn run_on<A: Allocator + Copy>(
     alloc: A,
     input: Input<'_>,
 ) -> Result<Run, AllocError> {
-    run_into(alloc, input, ShownFrames::new(global, 0), sink(global, 0)?)
+    let shown = ShownFrames::new(global, 0);
+    run_into(global, alloc, input, shown, sink(global, 0)?)
+}
+
+/// Whether a line tells just these words.
+fn tells(alloc: Global, line: &[u8], words: &str) -> bool {
+    match format!(in alloc; "st2110: {words}\n") {
+        Ok(text) => text.as_str().as_bytes() == line,
+        Err(_) => false,
+    }
 }
 
 impl Run {
+    /// Whether it ended with this status, and told this of it.
+    fn has_ended(&self, status: u8, told: &[u8]) -> bool {
+        self.status == status && self.faults.held() == told
+    }
+
     /// Whether it ended well and printed this, or `None` where it wanted memory: it neither printed
     /// nor showed anything then.
     pub fn answered(&self, told: &[u8]) -> Option<bool> {
         let printed = self.printed.held();
-        match self.outcome {
-            Ok(_) => Some(printed == told),
-            Err(Fault::Memory) if printed.is_empty() && self.shown.frames().is_empty() => None,
-            Err(_) => Some(false),
+        let is_unheard = printed.is_empty() && self.shown.frames().is_empty();
+        if self.has_ended(4, b"st2110: memory\n") && is_unheard {
+            return None;
         }
+        Some(self.has_ended(0, b"") && printed == told)
     }
 
     /// Whether it was refused in these words, behind what it printed.
     pub fn is_refused(&self, alloc: Global, words: &str, told: &[u8]) -> bool {
-        match self.outcome {
-            Err(Fault::Refused(refusal)) => {
-                says(alloc, &refusal, words) && self.printed.held() == told
-            }
-            _ => false,
-        }
+        self.status == 1 && tells(alloc, self.faults.held(), words) && self.printed.held() == told
     }
 
     /// Whether a device failed.
     pub fn has_failed(&self) -> bool {
-        matches!(self.outcome, Err(Fault::Device))
+        self.has_ended(3, b"st2110: device\n")
     }
 }

@@ -1,12 +1,10 @@
-//! Calls of `convert` and `picture` over files in memory, and what each writes: octets that are
-//! worked out by hand. All pictures are of 4 by 1 at 8 bits, 25 a second.
-use crate::checks::source;
-use convert_engine::{Conversion, InputForm, convert};
+//! Calls of `run_convert` and `run_picture` over files in memory, and what each writes: octets that
+//! are worked out by hand. All pictures are of 4 by 1 at 8 bits, 25 a second.
+use crate::checks::{sink, source};
 use form_files::Form;
-use picture_engine::{PictureAsked, View, picture};
-use run_outcome::Fault;
 use st_format::Rate;
 use st_format::memory::{MemorySink, MemorySource};
+use st2110_tool::{Conversion, InputForm, PictureAsked, View, run_convert, run_picture};
 use std::alloc::{AllocError, Allocator, Global};
 use std::test::Fail;
 
@@ -151,10 +149,11 @@ pub fn views() -> [Call; 4] {
     ]
 }
 
-/// How a call ended, and its devices then.
+/// How a call ended, what it told of it, and its devices then.
 #[derive(Drop)]
 pub struct Run {
-    pub outcome: Result<(), Fault>,
+    pub status: u8,
+    pub told: MemorySink,
     pub file: MemorySource,
     pub held: Option<MemorySource>,
     pub sink: MemorySink,
@@ -190,21 +189,30 @@ pub fn make_call<A: Allocator + Copy>(
 ) -> Result<Run, Fail> {
     let mut file = source(global, call.file, failing.file)?;
     let mut held = held_source(global, call.held, failing.held)?;
-    let mut sink = MemorySink::new(Vec::with_capacity(global, 256)?, 7, failing.sink);
-    let outcome = match call.asked {
+    let mut written = MemorySink::new(Vec::with_capacity(global, 256)?, 7, failing.sink);
+    let mut told = sink(global)?;
+    let status = match call.asked {
         Asked::Convert(input, form) => {
             let asked = Conversion {
                 input: input_form(input)?,
                 form,
             };
-            convert(alloc, asked, &mut file, &mut sink)
+            run_convert(alloc, asked, &mut file, &mut written, &mut told)
         }
-        Asked::Show(asked) => picture(alloc, asked, &mut file, &mut held, &mut sink),
+        Asked::Show(asked) => run_picture(
+            alloc,
+            asked,
+            &mut file,
+            &mut held,
+            &mut written,
+            &mut told,
+        ),
     };
     Ok(Run {
-        outcome,
+        status,
+        told,
         file,
         held,
-        sink,
+        sink: written,
     })
 }

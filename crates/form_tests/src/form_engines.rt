@@ -1,32 +1,35 @@
-//! What `convert` and `picture` write; with each growth refused, with each call of a device
-//! failing, and of files that are refused or cut.
+//! What `run_convert` and `run_picture` write and tell; with each growth refused, with each call of
+//! a device failing, and of files that are refused or cut.
 use crate::checks::met;
 use crate::form_calls::{
     Call, Failing, HELD, Input, NONE, PICTURE, RGB, Run, conversions, converted, make_call, shown,
     views,
 };
 use form_files::Form;
-use picture_engine::View;
 use refusing::Refusing;
-use run_outcome::Fault;
+use st2110_tool::View;
 use std::alloc::Global;
 use std::test::Fail;
 use test_kit::wanting::{Wanting, grows};
-use test_kit::words::says;
+
+/// Whether a call ended with this status, and told this of it.
+fn has_ended(run: &Run, status: u8, told: &[u8]) -> bool {
+    run.status == status && run.told.held() == told
+}
 
 /// Whether a call ended well, with all written.
 fn is_whole(run: &Run, call: &Call) -> bool {
-    run.outcome.is_ok() && run.sink.held() == call.text
+    has_ended(run, 0, b"") && run.sink.held() == call.text
 }
 
 /// Nothing is written where memory is wanted.
 impl Wanting for Call {
     fn answer(&self, global: Global, refusing: &Refusing<Global>) -> Result<Option<bool>, Fail> {
         let run = make_call(global, refusing, self, NONE)?;
-        Ok(match run.outcome {
-            Err(Fault::Memory) if run.sink.held().is_empty() => None,
-            _ => Some(is_whole(&run, self)),
-        })
+        if has_ended(&run, 4, b"st2110: memory\n") && run.sink.held().is_empty() {
+            return Ok(None);
+        }
+        Ok(Some(is_whole(&run, self)))
     }
 }
 
@@ -82,7 +85,7 @@ fn has_failed(run: &Run, call: &Call, device: Device, nth: u64) -> bool {
         Device::File | Device::Held => held.is_empty(),
         Device::Sink => held.len() < call.text.len() && held.is_empty() == (nth == 1),
     };
-    let is_told = matches!(run.outcome, Err(Fault::Device));
+    let is_told = has_ended(run, 3, b"st2110: device\n");
     is_told && is_part && call.text.starts_with(held) && failures(run, device) == 1
 }
 
@@ -130,20 +133,15 @@ fn with_each_call_failing(rt: HostRuntime) -> Result<(), Fail> {
     Ok(())
 }
 
-/// Whether a call is refused in these words before its sink is called, which would fail.
-fn is_refused(alloc: Global, call: &Call, file: u64, words: &str) -> Result<bool, Fail> {
+/// Whether a call is refused by this line before its sink is called, which would fail.
+fn is_refused(alloc: Global, call: &Call, file: u64, line: &[u8]) -> Result<bool, Fail> {
     let failing = Failing {
         file,
         sink: 1,
         ..NONE
     };
     let run = make_call(alloc, alloc, call, failing)?;
-    Ok(match run.outcome {
-        Err(Fault::Refused(refusal)) => {
-            says(alloc, &refusal, words) && run.sink.held().is_empty()
-        }
-        _ => false,
-    })
+    Ok(has_ended(&run, 1, line) && run.sink.held().is_empty())
 }
 
 /// The receiver's frame of 900, settled so, and in this form.
@@ -156,40 +154,51 @@ fn picture_as(form: Form, file: &'static [u8]) -> Call {
     converted(Input::Picture, form, file, b"", 1)
 }
 
+/// The lines that are told.
+const BAD_FILL: &[u8] = b"st2110: frame 2 BadFill\n";
+
+const NO_FRAME: &[u8] = b"st2110: frame 1 NoFrame\n";
+
+const HOLD_DIFFERS: &[u8] = b"st2110: frame 3 HoldDiffers\n";
+
+const WRONG_FORM: &[u8] = b"st2110: frame 4 WrongForm\n";
+
+const NO_SUCH_FORM: &[u8] = b"st2110: convert 1 WrongForm\n";
+
 /// Views that are refused before a file is read, by the window, and by what is held.
-fn refused_views() -> [(Call, u64, &'static str); 3] {
+fn refused_views() -> [(Call, u64, &'static [u8]); 3] {
     let early = shown(901, View::Settled(Some(b"1,2,256")), Form::Pixmap, b"");
     let other = Call {
         held: Some(RGB),
         ..settled(b"1,2,3", Form::Pixmap)
     };
     [
-        (settled(b"1,2", Form::Raw), 1, "frame 2 BadFill"),
-        (early, 0, "frame 1 NoFrame"),
-        (other, 0, "frame 3 HoldDiffers"),
+        (settled(b"1,2", Form::Raw), 1, BAD_FILL),
+        (early, 0, NO_FRAME),
+        (other, 0, HOLD_DIFFERS),
     ]
 }
 
 /// Calls that are refused by values and forms.
-fn refused_forms() -> [(Call, u64, &'static str); 5] {
+fn refused_forms() -> [(Call, u64, &'static [u8]); 5] {
     let marked = shown(900, View::Marked, Form::Y4m, b"");
     [
-        (settled(b"1,2,256", Form::Pixmap), 0, "frame 2 BadFill"),
-        (settled(b"1,2,3", Form::Pixmap), 0, "frame 4 WrongForm"),
-        (marked, 0, "frame 4 WrongForm"),
-        (picture_as(Form::Y4m, RGB), 0, "convert 1 WrongForm"),
-        (picture_as(Form::Pixmap, PICTURE), 0, "convert 1 WrongForm"),
+        (settled(b"1,2,256", Form::Pixmap), 0, BAD_FILL),
+        (settled(b"1,2,3", Form::Pixmap), 0, WRONG_FORM),
+        (marked, 0, WRONG_FORM),
+        (picture_as(Form::Y4m, RGB), 0, NO_SUCH_FORM),
+        (picture_as(Form::Pixmap, PICTURE), 0, NO_SUCH_FORM),
     ]
 }
 
 /// The first fault in the order is told.
 #[test]
 fn refused(rt: HostRuntime) -> Result<(), Fail> {
-    for (call, file, words) in &refused_views() {
-        met(&rt, is_refused(rt.alloc(), call, *file, words)?);
+    for (call, file, line) in &refused_views() {
+        met(&rt, is_refused(rt.alloc(), call, *file, line)?);
     }
-    for (call, file, words) in &refused_forms() {
-        met(&rt, is_refused(rt.alloc(), call, *file, words)?);
+    for (call, file, line) in &refused_forms() {
+        met(&rt, is_refused(rt.alloc(), call, *file, line)?);
     }
     Ok(())
 }
@@ -197,7 +206,7 @@ fn refused(rt: HostRuntime) -> Result<(), Fail> {
 /// Whether a call is refused before its sink is called, which would fail.
 fn is_cut(alloc: Global, call: &Call) -> Result<bool, Fail> {
     let run = make_call(alloc, alloc, call, Failing { sink: 1, ..NONE })?;
-    Ok(matches!(run.outcome, Err(Fault::Refused(_))) && run.sink.held().is_empty())
+    Ok(run.status == 1 && run.sink.held().is_empty())
 }
 
 /// Whether a call is refused where its file is cut, at each length.

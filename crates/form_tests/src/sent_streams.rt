@@ -1,14 +1,11 @@
-//! `send` of a stream over devices in memory: with memory and with each growth refused in turn, and
+//! `run_send_stream` over devices in memory: with memory and with each growth refused in turn, and
 //! over devices that fail midway.
-use crate::checks::{met, source};
-use capture_engines::Sending;
-use media_file::Paths;
+use crate::checks::{met, sink, source};
 use refusing::Refusing;
-use run_outcome::{Fault, Refusal};
 use st_format::memory::MemorySink;
+use st2110_tool::{Paths, Sending, run_send_stream};
 use std::alloc::{AllocError, Allocator, Global};
 use std::test::Fail;
-use stream_sending::send_stream;
 use test_kit::wanting::{Wanting, grows};
 
 const SENDING: Sending = Sending {
@@ -39,10 +36,11 @@ const SECOND: &[u8] = b"\0\0\0\0\0\0\0\0\x01\0\x2A\x80\xE1\0\0\0\0\x09\x60\0\0\0
     \0\x08\0\0\x80\0\0\x08\0\x01\0\0\
     \x80\x10\x01\x11\x80\x12\x01\x13\x80\x14\x01\x15\x80\x16\x01\x17";
 
-/// How a run ended, and what it wrote and printed.
+/// How a run ended, what it told of it, and what it wrote and printed.
 #[derive(Drop)]
 struct Run {
-    outcome: Result<(), Fault>,
+    status: u8,
+    told: MemorySink,
     written: MemorySink,
     printed: MemorySink,
 }
@@ -58,8 +56,8 @@ fn send_over<A: Allocator + Copy>(
 ) -> Result<Run, AllocError> {
     let mut stream = source(global, stream, read)?;
     let mut written = MemorySink::new(Vec::with_capacity(global, 256)?, 7, write);
-    let mut printed = MemorySink::new(Vec::with_capacity(global, 64)?, 7, 0);
-    let outcome = send_stream(
+    let (mut printed, mut told) = (sink(global)?, sink(global)?);
+    let status = run_send_stream(
         alloc,
         SENDING,
         false,
@@ -67,9 +65,11 @@ fn send_over<A: Allocator + Copy>(
         &mut stream,
         &mut written,
         &mut printed,
+        &mut told,
     );
     Ok(Run {
-        outcome,
+        status,
+        told,
         written,
         printed,
     })
@@ -84,9 +84,14 @@ fn capture(global: Global, records: &[&[u8]]) -> Result<Vec<u8>, AllocError> {
     Ok(octets)
 }
 
+/// Whether a run ended with this status, and told this of it.
+fn has_ended(run: &Run, status: u8, told: &[u8]) -> bool {
+    run.status == status && run.told.held() == told
+}
+
 /// Whether a run ended well and wrote and printed this.
 fn ended(run: &Run, written: &[u8], printed: &[u8]) -> bool {
-    run.outcome.is_ok() && run.written.held() == written && run.printed.held() == printed
+    has_ended(run, 0, b"") && run.written.held() == written && run.printed.held() == printed
 }
 
 /// A head and no frame: nothing is written.
@@ -97,14 +102,13 @@ fn no_picture(rt: HostRuntime) -> Result<(), Fail> {
     Ok(())
 }
 
-/// A stream that is cut in its second frame, and one whose second frame is none: the first is sent.
+/// A stream that is cut in its second frame, in its header or its picture: the first is sent.
 #[test]
 fn cut(rt: HostRuntime) -> Result<(), Fail> {
     let first = capture(rt.alloc(), &[FIRST])?;
     for length in [58, 63, 80] {
         let run = send_over(rt.alloc(), rt.alloc(), &STREAM[..length], 0, 0)?;
-        let is_refused = matches!(run.outcome, Err(Fault::Refused(Refusal::Form(_))));
-        met(&rt, is_refused);
+        met(&rt, has_ended(&run, 1, b"st2110: form 7 Truncated\n"));
         met(&rt, run.written.held() == first.as_slice());
         met(&rt, run.printed.held().is_empty());
     }
@@ -113,7 +117,7 @@ fn cut(rt: HostRuntime) -> Result<(), Fail> {
 
 /// Whether a run failed by its device, printed nothing, and wrote a first part of this.
 fn failed(run: &Run, whole: &[u8]) -> bool {
-    matches!(run.outcome, Err(Fault::Device))
+    has_ended(run, 3, b"st2110: device\n")
         && run.printed.held().is_empty()
         && whole.starts_with(run.written.held())
 }
@@ -124,14 +128,14 @@ fn failing_devices(rt: HostRuntime) -> Result<(), Fail> {
     let both = capture(rt.alloc(), &[FIRST, SECOND])?;
     for nth in 1..1000 {
         let run = send_over(rt.alloc(), rt.alloc(), STREAM, nth, 0)?;
-        if run.outcome.is_ok() {
+        if run.status == 0 {
             break;
         }
         met(&rt, failed(&run, &both));
     }
     for nth in 1..1000 {
         let run = send_over(rt.alloc(), rt.alloc(), STREAM, 0, nth)?;
-        if run.outcome.is_ok() {
+        if run.status == 0 {
             break;
         }
         met(&rt, failed(&run, &both));
@@ -146,7 +150,7 @@ impl Wanting for Sent {
     fn answer(&self, global: Global, refusing: &Refusing<Global>) -> Result<Option<bool>, Fail> {
         let both = capture(global, &[FIRST, SECOND])?;
         let run = send_over(global, refusing, STREAM, 0, 0)?;
-        if matches!(run.outcome, Err(Fault::Memory)) {
+        if has_ended(&run, 4, b"st2110: memory\n") {
             return Ok(None);
         }
         Ok(Some(ended(&run, &both, b"sent 2\n")))

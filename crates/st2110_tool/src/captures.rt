@@ -4,16 +4,17 @@ ghost use Rattle.std.specs.Prelude.{Option};
 ghost use Rattle.std.specs.Io.KnownBytes.{Appends, IsAtEnd};
 ghost use Rattle.std.specs.List.{zip};
 ghost use Rattle.run_outcome.specs.Moments.{WasRead, pair};
+ghost use Rattle.st_format.specs.Device.{Failed};
 ghost use Rattle.st_format.specs.History.{IsRead};
 ghost use Rattle.run_outcome.specs.Fault.{StatusBlames, counts, failures_in};
 ghost use Rattle.run_outcome.specs.Refusing.{TellsRefusal};
 ghost use Rattle.run_outcome.specs.States.{SavesPart};
 ghost use Rattle.capture_engines.specs.Sent.{IsSendRefusal};
 ghost use Rattle.capture_engines.specs.Sending.{SendsAll};
-ghost use Rattle.run_outcome.specs.Telling.{memory_line};
+ghost use Rattle.run_outcome.specs.Telling.{device_line, memory_line};
 ghost use Rattle.capture_engines.specs.Received.{IsReceiveRefusal};
 ghost use Rattle.capture_engines.specs.Receiving.{SavesShown};
-ghost use Rattle.capture_engines.specs.Taking.{Receives};
+ghost use Rattle.capture_engines.specs.Taking.{IsReceiverOfRun, Receives};
 ghost use Rattle.capture_engines.specs.Migrating.{LeavesAt, LeavesOff, PrintsMigrated, passed};
 ghost use Rattle.capture_engines.specs.MigrateRefused.{IsMigrateRefusal};
 ghost use Rattle.run_outcome.specs.Text.{GivesText};
@@ -76,6 +77,8 @@ where
         (F.took faults.old) (F.took faults.new) }
     ensures quiet { result ≡ 1 → output.new ≡ output.old }
     ensures silent { result ≡ 0 → faults.new ≡ faults.old }
+    ensures blamed { result ≡ 3 → Failed (F.failures faults.old) (F.failures faults.new)
+        ⊎ (F.took faults.new ≡ F.took faults.old ++ device_line) }
     ensures memory { result ≡ 4 → F.took faults.new ≡ F.took faults.old ++ memory_line }
 {
     let outcome = send(alloc, wanted, sdp, pictures, sink, output);
@@ -126,7 +129,9 @@ where
         wanted.entry.tells_refusals
         (O.took output.old) (O.took output.new) (K.took state.old) (K.took state.new) }
     // Unless the status is 0, the receiver isn't all written.
-    ensures part { result ≢ 0 → SavesPart (K.took state.old) (K.took state.new) }
+    ensures part { result ≢ 0 → SavesPart (IsReceiverOfRun wanted.entry.window.now
+        wanted.entry.ssrc.now (pair sdp.old sdp.new) (WasRead S.gave S.ended)
+        (zip captures.old captures.new)) (K.took state.old) (K.took state.new) }
     ensures refused { result ≡ 1 → state.new ≡ state.old }
     ensures quiet { result ≡ 1 → output.new ≡ output.old }
     // At status 1 a refusal of the words or the files was told by its line.
@@ -135,6 +140,8 @@ where
         (pair sdp.old sdp.new) (WasRead S.gave S.ended) (zip captures.old captures.new))
         (F.took faults.old) (F.took faults.new) }
     ensures silent { result ≡ 0 → faults.new ≡ faults.old }
+    ensures blamed { result ≡ 3 → Failed (F.failures faults.old) (F.failures faults.new)
+        ⊎ (F.took faults.new ≡ F.took faults.old ++ device_line) }
     ensures memory { result ≡ 4 → F.took faults.new ≡ F.took faults.old ++ memory_line }
 {
     let outcome = receive(alloc, wanted, sdp, captures, state, output);
@@ -197,6 +204,8 @@ where
         (K.took sink.new) (K.failures sink.new)) }
     ensures quiet { result ≡ 1 → output.new ≡ output.old }
     ensures silent { result ≡ 0 → faults.new ≡ faults.old }
+    ensures blamed { result ≡ 3 → Failed (F.failures faults.old) (F.failures faults.new)
+        ⊎ (F.took faults.new ≡ F.took faults.old ++ device_line) }
     ensures memory { result ≡ 4 → F.took faults.new ≡ F.took faults.old ++ memory_line }
 {
     let outcome = migrate(alloc, sdp, source, sink, output);
@@ -256,6 +265,8 @@ where
         (F.took faults.old) (F.took faults.new) }
     ensures quiet { result ≡ 1 → output.new ≡ output.old }
     ensures silent { result ≡ 0 → faults.new ≡ faults.old }
+    ensures blamed { result ≡ 3 → Failed (F.failures faults.old) (F.failures faults.new)
+        ⊎ (F.took faults.new ≡ F.took faults.old ++ device_line) }
     ensures memory { result ≡ 4 → F.took faults.new ≡ F.took faults.old ++ memory_line }
 {
     let outcome = loop_back(alloc, wanted, picture, link, output);

@@ -2,14 +2,15 @@
 ghost use Rattle.std.specs.Prelude.{◌≡◌, ◌≢◌, ◌⊎◌, ◌∷◌, ◌++◌, [], ◌≤◌, ◌-◌, ◌+◌, length, sum_by, ℕ};
 ghost use Rattle.std.specs.List.{zip};
 ghost use Rattle.run_outcome.specs.Moments.{WasRead, pair};
+ghost use Rattle.st_format.specs.Device.{Failed};
 ghost use Rattle.st_format.specs.History.{IsRead};
 ghost use Rattle.run_outcome.specs.Fault.{StatusBlames, counts, failures_in};
-ghost use Rattle.receiver_engines.specs.Merging.{MergesFiles, PrintsMerged, Saves};
+ghost use Rattle.receiver_engines.specs.Merging.{JoinsFirst, MergesFiles, PrintsMerged, Saves};
 ghost use Rattle.run_outcome.specs.States.{SavesPart};
 ghost use Rattle.receiver_engines.specs.MergeRefused.{IsMergeRefusal};
 ghost use Rattle.receiver_engines.specs.States.{IsStateRefusal};
 ghost use Rattle.run_outcome.specs.Refusing.{TellsRefusal};
-ghost use Rattle.run_outcome.specs.Telling.{memory_line};
+ghost use Rattle.run_outcome.specs.Telling.{device_line, memory_line};
 ghost use Rattle.receiver_engines.specs.Reporting.{Reports, ReportsPart};
 ghost use Rattle.receiver_engines.specs.Processing.{PrintsSent, SendsFiles, SendsUnsaidPart};
 ghost use Rattle.receiver_engines.specs.Refused.{IsRunRefusal};
@@ -71,8 +72,13 @@ where
         (IsRead (R.gave right.old) (R.gave right.new) (R.ended right.new)))
         (F.took faults.old) (F.took faults.new) }
     // Unless the status is 0, the merged file isn't all written.
-    ensures part { result ≢ 0 → SavesPart (K.took state.old) (K.took state.new) }
+    ensures part { result ≢ 0 → SavesPart
+        (JoinsFirst (IsRead (L.gave left.old) (L.gave left.new) (L.ended left.new))
+        (IsRead (R.gave right.old) (R.gave right.new) (R.ended right.new)))
+        (K.took state.old) (K.took state.new) }
     ensures silent { result ≡ 0 → faults.new ≡ faults.old }
+    ensures blamed { result ≡ 3 → Failed (F.failures faults.old) (F.failures faults.new)
+        ⊎ (F.took faults.new ≡ F.took faults.old ++ device_line) }
     ensures memory { result ≡ 4 → F.took faults.new ≡ F.took faults.old ++ memory_line }
 {
     let outcome = merge(alloc, left, right, state, output);
@@ -112,6 +118,8 @@ where
         → ReportsPart (IsRead (S.gave state.old) (S.gave state.new) (S.ended state.new))
         (O.took output.old) (O.took output.new) }
     ensures silent { result ≡ 0 → faults.new ≡ faults.old }
+    ensures blamed { result ≡ 3 → Failed (F.failures faults.old) (F.failures faults.new)
+        ⊎ (F.took faults.new ≡ F.took faults.old ++ device_line) }
     ensures memory { result ≡ 4 → F.took faults.new ≡ F.took faults.old ++ memory_line }
 {
     let outcome = report(alloc, state, output);
@@ -175,6 +183,8 @@ where
     ensures part { result ≢ 0 → SendsUnsaidPart wanted.entry.max_octets wanted.entry.stamp
         (K.took sink.old) (K.took sink.new) }
     ensures silent { result ≡ 0 → faults.new ≡ faults.old }
+    ensures blamed { result ≡ 3 → Failed (F.failures faults.old) (F.failures faults.new)
+        ⊎ (F.took faults.new ≡ F.took faults.old ++ device_line) }
     ensures memory { result ≡ 4 → F.took faults.new ≡ F.took faults.old ++ memory_line }
 {
     let outcome = process(alloc, wanted, states, hold, sink, output);

@@ -6,15 +6,18 @@ ghost use Rattle.std.specs.Option.{option_copied};
 ghost use Rattle.export_engine.specs.ExportRefused.{IsExportRefusal};
 ghost use Rattle.export_engine.specs.Exported.{LeavesExport, PrintsExported};
 ghost use Rattle.inspect_engine.specs.Told.{IsInspectRefusal, Tells};
+ghost use Rattle.paced_export.specs.PacedExported.{LeavesPaced, PrintsPaced};
+ghost use Rattle.paced_export.specs.PacedRefused.{IsPacedRefusal};
 ghost use Rattle.recording_engines.specs.Files.{AllClosed, ended_by, failures_by, gave_by};
 ghost use Rattle.recording_engines.specs.Imported.{Imports, IsImportRefusal};
 ghost use Rattle.recording_engines.specs.declared.importing.ImportCounts.{ImportCounts as Sums};
 ghost use Rattle.run_outcome.specs.Fault.{Accounts, IfRefused, StatusBlames, counts};
 ghost use Rattle.run_outcome.specs.Moments.{WasRead};
 ghost use Rattle.run_outcome.specs.Refusing.{OfRefusal, TellsRefusal};
-ghost use Rattle.run_outcome.specs.Telling.{memory_line};
+ghost use Rattle.run_outcome.specs.Telling.{device_line, memory_line};
 ghost use Rattle.run_outcome.specs.Text.{GivesText};
 ghost use Rattle.run_outcome.specs.declared.fault.Fault.{Fault as Wrong};
+ghost use Rattle.st_format.specs.Device.{Failed};
 ghost use Rattle.st_format.specs.History.{IsRead};
 ghost use Rattle.stream_inspection.specs.Told.{IsStreamsRefusal, TellsStreams};
 
@@ -22,6 +25,7 @@ use capture_engines::Seen;
 use export_engine::{Exporting, export};
 use flow::Flows;
 use inspect_engine::{Form, inspect};
+use paced_export::{Pacing, export_paced};
 use recording_engines::{FlowWords, ImportFile, import};
 use run_outcome::{Fault, Refusal, end};
 use st_format::{ByteSink, ByteSource};
@@ -74,6 +78,8 @@ where
         (WasRead (gave_by S.gave) (ended_by S.ended)) (zip files.old files.new)
         (K.took capture.old) (K.took capture.new)) (F.took faults.old) (F.took faults.new) }
     ensures silent { result ≡ 0 → faults.new ≡ faults.old }
+    ensures blamed { result ≡ 3 → Failed (F.failures faults.old) (F.failures faults.new)
+        ⊎ (F.took faults.new ≡ F.took faults.old ++ device_line) }
     ensures memory { result ≡ 4 → F.took faults.new ≡ F.took faults.old ++ memory_line }
 {
     let outcome = import_all(alloc, wanted, sdp, files, capture, output);
@@ -161,9 +167,68 @@ where
         (S.gave capture.old) (S.gave capture.new) (S.ended capture.new)
         (K.took sink.old) (K.took sink.new) }
     ensures silent { result ≡ 0 → faults.new ≡ faults.old }
+    ensures blamed { result ≡ 3 → Failed (F.failures faults.old) (F.failures faults.new)
+        ⊎ (F.took faults.new ≡ F.took faults.old ++ device_line) }
     ensures memory { result ≡ 4 → F.took faults.new ≡ F.took faults.old ++ memory_line }
 {
     let outcome = export(alloc, wanted, capture, sink, output);
+    end(outcome, faults)
+}
+
+/// Writes a capture as a recording of pcap in nanoseconds, each packet at the moment that a sender
+/// has for it, and prints `exported N left out K` to `output`; as `export_paced` of `paced_export`,
+/// whose words tell what is written.
+///
+/// The status is 0; or 1 where a text is no flow to an address or the capture or its SDP text is
+/// refused, and then nothing is printed; 3 where a device failed, and 4 where the allocator refused
+/// memory. `faults` is told of it by one line.
+pub fn run_export_paced<A, S, K, O, F>(
+    alloc: A,
+    wanted: Pacing<'_>,
+    ahead: &mut S,
+    capture: &mut S,
+    sink: &mut K,
+    output: &mut O,
+    faults: &mut F,
+) -> u8
+where
+    A: Allocator + Copy,
+    S: ByteSource,
+    K: ByteSink,
+    O: ByteSink,
+    F: ByteSink,
+    ensures range { (result ≡ 0) ⊎ (result ≡ 1) ⊎ (result ≡ 3) ⊎ (result ≡ 4) }
+    ensures failures { StatusBlames result (counts (S.failures ahead.old) (S.failures ahead.new)
+        ∷ counts (S.failures capture.old) (S.failures capture.new)
+        ∷ counts (K.failures sink.old) (K.failures sink.new)
+        ∷ counts (O.failures output.old) (O.failures output.new)
+        ∷ counts (F.failures faults.old) (F.failures faults.new) ∷ []) }
+    // All that the capture's sources gave was read, up to their ends; what is written is the
+    // recording of its records at their moments, and what is printed counts their packets.
+    ensures exported { result ≡ 0 → PrintsPaced wanted.entry.start
+        wanted.entry.flows.a.now (option_copied wanted.entry.flows.b)
+        (S.gave ahead.old) (S.gave ahead.new) (S.ended ahead.new)
+        (S.gave capture.old) (S.gave capture.new) (S.ended capture.new)
+        (K.took sink.old) (K.took sink.new) (O.took output.old) (O.took output.new) }
+    ensures quiet { result ≡ 1 → output.new ≡ output.old }
+    // What is told is the first refusal that speaks against the words and the capture.
+    ensures told { result ≡ 1 → TellsRefusal (IsPacedRefusal
+        wanted.entry.flows.a.now (option_copied wanted.entry.flows.b)
+        (IsRead (S.gave ahead.old) (S.gave ahead.new) (S.ended ahead.new))
+        (IsRead (S.gave capture.old) (S.gave capture.new) (S.ended capture.new)))
+        (F.took faults.old) (F.took faults.new) }
+    // Unless the status is 0, what was written is as far as a fault says.
+    ensures left { result ≢ 0 → LeavesPaced wanted.entry.start
+        wanted.entry.flows.a.now (option_copied wanted.entry.flows.b)
+        (S.gave ahead.old) (S.gave ahead.new) (S.ended ahead.new)
+        (S.gave capture.old) (S.gave capture.new) (S.ended capture.new)
+        (K.took sink.old) (K.took sink.new) }
+    ensures silent { result ≡ 0 → faults.new ≡ faults.old }
+    ensures blamed { result ≡ 3 → Failed (F.failures faults.old) (F.failures faults.new)
+        ⊎ (F.took faults.new ≡ F.took faults.old ++ device_line) }
+    ensures memory { result ≡ 4 → F.took faults.new ≡ F.took faults.old ++ memory_line }
+{
+    let outcome = export_paced(alloc, wanted, ahead, capture, sink, output);
     end(outcome, faults)
 }
 
@@ -197,6 +262,8 @@ where
         (zip recordings.old recordings.new) (O.took output.old) (O.took output.new))
         (F.took faults.old) (F.took faults.new) }
     ensures silent { result ≡ 0 → faults.new ≡ faults.old }
+    ensures blamed { result ≡ 3 → Failed (F.failures faults.old) (F.failures faults.new)
+        ⊎ (F.took faults.new ≡ F.took faults.old ++ device_line) }
     ensures memory { result ≡ 4 → F.took faults.new ≡ F.took faults.old ++ memory_line }
 {
     let outcome = inspect(alloc, recordings, form, output);
@@ -238,6 +305,8 @@ where
         (option_copied sdp.entry) ways.now (WasRead S.gave S.ended) (zip files.old files.new)
         (O.took output.old) (O.took output.new)) (F.took faults.old) (F.took faults.new) }
     ensures silent { result ≡ 0 → faults.new ≡ faults.old }
+    ensures blamed { result ≡ 3 → Failed (F.failures faults.old) (F.failures faults.new)
+        ⊎ (F.took faults.new ≡ F.took faults.old ++ device_line) }
     ensures memory { result ≡ 4 → F.took faults.new ≡ F.took faults.old ++ memory_line }
 {
     let outcome = inspect_streams(alloc, wanted, form, sdp, files, ways, seen, output);

@@ -1,9 +1,10 @@
 //! The engines of texts, each with its status.
 ghost use Rattle.std.specs.Prelude.{◌≡◌, ◌≢◌, ◌⊎◌, ◌∷◌, ◌++◌, []};
+ghost use Rattle.st_format.specs.Device.{Failed};
 ghost use Rattle.st_format.specs.History.{GrewFrom};
 ghost use Rattle.run_outcome.specs.Fault.{StatusBlames, counts};
 ghost use Rattle.run_outcome.specs.Refusing.{TellsRefusal};
-ghost use Rattle.run_outcome.specs.Telling.{memory_line};
+ghost use Rattle.run_outcome.specs.Telling.{device_line, memory_line};
 ghost use Rattle.script_engines.specs.Described.{DescribesPart, DescribesVideo, IsUndescribed};
 ghost use Rattle.script_engines.specs.Reading.{DoesScript, IsRefusedFor};
 ghost use Rattle.script_engines.specs.Rehearsed.{IsRefusedScript, Rehearses, RehearsesPart};
@@ -45,6 +46,8 @@ where
     ensures part { result ≢ 0 → TracesPart (S.gave source.old) (S.gave source.new)
         (S.ended source.new) (O.took output.old) (O.took output.new) }
     ensures silent { result ≡ 0 → faults.new ≡ faults.old }
+    ensures blamed { result ≡ 3 → Failed (F.failures faults.old) (F.failures faults.new)
+        ⊎ (F.took faults.new ≡ F.took faults.old ++ device_line) }
     ensures memory { result ≡ 4 → F.took faults.new ≡ F.took faults.old ++ memory_line }
     // At 0 the script's lines were followed, and printed are their answers and what is known at the
     // end.
@@ -85,6 +88,8 @@ where
         ⊎ DoesScript DescribesPart (S.gave source.old) (S.gave source.new)
         (S.ended source.new) (O.took output.old) (O.took output.new) }
     ensures silent { result ≡ 0 → faults.new ≡ faults.old }
+    ensures blamed { result ≡ 3 → Failed (F.failures faults.old) (F.failures faults.new)
+        ⊎ (F.took faults.new ≡ F.took faults.old ++ device_line) }
     ensures memory { result ≡ 4 → F.took faults.new ≡ F.took faults.old ++ memory_line }
     // At 0 the canonical line of the text is printed; at 1 nothing is.
     ensures printed { result ≡ 0 → DoesScript DescribesVideo (S.gave source.old) (S.gave source.new)
@@ -126,6 +131,8 @@ where
         ⊎ DoesScript (RehearsesPart A) (S.gave source.old) (S.gave source.new)
         (S.ended source.new) (O.took output.old) (O.took output.new) }
     ensures silent { result ≡ 0 → faults.new ≡ faults.old }
+    ensures blamed { result ≡ 3 → Failed (F.failures faults.old) (F.failures faults.new)
+        ⊎ (F.took faults.new ≡ F.took faults.old ++ device_line) }
     ensures memory { result ≡ 4 → F.took faults.new ≡ F.took faults.old ++ memory_line }
     // At 0 what the script says is played, and printed; at 1 nothing is printed.
     ensures rehearses { result ≡ 0 → DoesScript (Rehearses A) (S.gave source.old)
