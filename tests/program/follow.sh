@@ -30,6 +30,10 @@ frame 8100 present 128 missing 0 contested 0 late 0
 frame 11700 present 128 missing 0 contested 0 late 1
 frames 4 kept 12 late 2 far 0 refused 0' --sdp "$recordings/late.sdp" --eager \
     "$recordings/late-a.pcap" "$recordings/late-b.pcap"
+# What comes late so is a repeat, and the pictures are those of frames that leave as they are due, octet for octet.
+run follow --sdp "$recordings/late.sdp" --out due.y4m "$recordings/late-a.pcap" "$recordings/late-b.pcap"
+run follow --sdp "$recordings/late.sdp" --eager --out early.y4m "$recordings/late-a.pcap" "$recordings/late-b.pcap"
+alike 'follow: two paths, eager: the same pictures' early.y4m due.y4m
 
 # Path A alone lacks packet 7 of the third frame and 9 of the fourth, of 48 samples each.
 follows 'path A alone' 'frame 900 present 128 missing 0 contested 0 late 0
