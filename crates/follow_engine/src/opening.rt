@@ -23,8 +23,7 @@ ghost use Rattle.st_format.specs.History.{IsRead};
 use crate::running::Run;
 use capture_engines::{Way, unopened};
 use flow::Flows;
-use following::MOST_FRAMES;
-use path_receiver::OpenFault;
+use path_receiver::{MOST_TIMESTAMPS, OpenFault};
 use recording_engines::{ImportFile, know};
 use recording_reader::FileOpeningFault;
 use run_outcome::{Fault, Refusal, read_source};
@@ -70,7 +69,7 @@ pub(crate) fn read_words(asked: FollowAsked<'_>) -> Result<Option<u32>, Fault>
     ensures first { IfErr result (λ f. OfRefusal f (IsBehindFrames asked.entry.frames)) }
     ensures failures { Accounts result [] }
 {
-    if asked.frames == 0 || asked.frames > MOST_FRAMES {
+    if asked.frames == 0 || asked.frames > MOST_TIMESTAMPS {
         return Err(Fault::Refused(Refusal::Open(OpenFault::BadWindow)));
     }
     match read_source(asked.ssrc) {

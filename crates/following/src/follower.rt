@@ -31,9 +31,6 @@ use std::alloc::{Allocator, Global};
 use std::marker::Model;
 use std::mem;
 
-/// The most frames that a follower has: as many as a receiver's window has timestamps (own).
-pub const MOST_FRAMES: usize = MOST_TIMESTAMPS;
-
 /// How many ticks of the 90 kHz clock a new timestamp may usually be ahead of the newest: 10 s.
 pub const TEN_SECONDS: u32 = 900_000;
 
@@ -54,7 +51,7 @@ pub struct Follower<A: Allocator = Global> {
     // A row and a column at which the oldest frame lacked something: a guess, of which nothing is
     // claimed.
     missing: (u32, u32),
-    window: ArrayVec<u32, MOST_FRAMES>,
+    window: ArrayVec<u32, MOST_TIMESTAMPS>,
     frames: Vec<Frame<A>, A>,
     spare: Vec<Frame<A>, A>,
 }
@@ -122,7 +119,7 @@ impl<A: Allocator + Copy> Follower<A> {
         ensures follower { IfOk result (λ f. IsFollower f) }
         ensures size { IsErrOf result FollowFault.BadSize ↔ (IsWindowSize size → ⊥) }
     {
-        if size == 0 || size > MOST_FRAMES {
+        if size == 0 || size > MOST_TIMESTAMPS {
             return Err(FollowFault::BadSize);
         }
         Follower::of_size(alloc, format, payload_type, ssrc, size, most_ahead)

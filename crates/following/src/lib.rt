@@ -20,7 +20,7 @@ mod turn;
 
 pub use answer::Followed;
 pub use fault::{FollowFault, FrameFault, StreamFault};
-pub use follower::{Follower, MOST_FRAMES, TEN_SECONDS};
+pub use follower::{Follower, TEN_SECONDS};
 pub use memory::{MemoryFrames, Shown};
 pub use need::WindowNeed;
 pub use restarts::Restarts;

@@ -3,10 +3,9 @@ ghost use Rattle.std.specs.Prelude.{◌≡◌, ◌≤◌, [], length};
 ghost use Rattle.following.specs.Need.{comes_of, newest_with, noted_after, noted_at};
 
 use crate::answer::Followed;
-use crate::follower::MOST_FRAMES;
 use crate::standing::{has_at, older_count};
 use arrayvec::ArrayVec;
-use path_receiver::Refusal;
+use path_receiver::{MOST_TIMESTAMPS, Refusal};
 use std::marker::Model;
 
 /// Tells how many frames a follower would have had to have so that no datagram came late: one more
@@ -16,7 +15,7 @@ use std::marker::Model;
 /// It keeps the 16 newest timestamps, and takes no memory.
 #[derive(Drop)]
 pub struct WindowNeed {
-    newest: ArrayVec<u32, MOST_FRAMES>,
+    newest: ArrayVec<u32, MOST_TIMESTAMPS>,
     need: usize,
 }
 
@@ -85,11 +84,11 @@ impl WindowNeed {
 
 /// Puts a timestamp at its place among the newest ones, of which the oldest goes where there are
 /// 16.
-fn put(newest: &mut ArrayVec<u32, MOST_FRAMES>, place: usize, timestamp: u32)
+fn put(newest: &mut ArrayVec<u32, MOST_TIMESTAMPS>, place: usize, timestamp: u32)
     requires { place ≤ length newest.old.items }
     ensures { newest.new.items ≡ newest_with newest.old.items place timestamp }
 {
-    if newest.len() < MOST_FRAMES {
+    if newest.len() < MOST_TIMESTAMPS {
         newest.insert(place, timestamp);
         return;
     }

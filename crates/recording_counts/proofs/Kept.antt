@@ -12,7 +12,7 @@ use Rattle.arrayvec.specs.ArrayVec.{ArrayVec}
 use Rattle.rtp_header.specs.Grammar.{Rtp}
 use Rattle.st_format.specs.Device.{capped}
 use Rattle.recording_counts.specs.Streams.{is_same}
-use Rattle.recording_counts.specs.Tables.{place_of}
+use Rattle.recording_counts.specs.Tables.{first_index}
 use Rattle.recording_counts.specs.declared.packet.StreamKey.{StreamKey}
 use Rattle.recording_counts.proofs.Keys.{stream_parts}
 use Rattle.recording_counts.proofs.Tables.{below, note_new, note_there}
@@ -93,7 +93,7 @@ goes old next r on k own e =
 -- ---- places among the first of a list
 
 abbrev pub place : StreamKey → List RtpStream → Option ℕ
-place k cs = place_of is_same k (map stream_key_of cs)
+place k cs = first_index is_same k (map stream_key_of cs)
 
 -- a place among the first n is the place in the whole list
 pub place_in : (k : StreamKey) (n : ℕ) (cs : List RtpStream) (i : ℕ)

@@ -8,7 +8,7 @@ use Rattle.std.specs.Ordering.{nat_cmp}
 use Rattle.arrayvec.specs.ArrayVec.{ArrayVec}
 use Rattle.recording_counts.specs.FlowPlaces.{FlowKey, flow_key_cmp, flow_key_of, is_same_key}
 use Rattle.recording_counts.specs.Flows.{is_same_flow}
-use Rattle.recording_counts.specs.Tables.{place_of}
+use Rattle.recording_counts.specs.Tables.{first_index}
 use Rattle.recording_counts.specs.declared.flow_count.FlowCount.{FlowCount}
 use Rattle.std.specs.declared.net.socket_addr.SocketAddr.{SocketAddr}
 use Rattle.recording_counts.specs.declared.packet.StreamKey.{StreamKey}
@@ -101,12 +101,12 @@ flow_parts = coded_parts is_same_key flow_key_of (parts_of is_same_key flow_keys
 
 -- a flow's place among counts is that of its key
 pub flow_place : (k : FlowKey) (d : SocketAddr) (counts : List FlowCount) → k ≡ flow_key_of d
-    → place_of is_same_flow d (map (λ c. c.destination) counts)
-    ≡ place_of is_same_key k (map (λ c. flow_key_of c.destination) counts)
+    → first_index is_same_flow d (map (λ c. c.destination) counts)
+    ≡ first_index is_same_key k (map (λ c. flow_key_of c.destination) counts)
 flow_place k d [] e = refl
 flow_place k d (c ∷ counts) e =
     ap (λ (o : Option ℕ). cond (is_same_flow d c.destination) (Some 0) (option_map (λ j. j + 1) o))
     (flow_place k d counts e)
     ∙ ap (λ (x : FlowKey). cond (is_same_key x (flow_key_of c.destination)) (Some 0)
     (option_map (λ j. j + 1)
-    (place_of is_same_key k (map (λ y. flow_key_of y.destination) counts)))) (sym e)
+    (first_index is_same_key k (map (λ y. flow_key_of y.destination) counts)))) (sym e)

@@ -14,7 +14,7 @@ use Rattle.std.specs.List.{list_any}
 use Rattle.std.specs.Ordering.{is_eq}
 use Rattle.std.specs.declared.cmp.Ordering.{Ordering}
 use Rattle.std.specs.declared.cmp.Ordering.TheVariants.{Less, Equal, Greater}
-use Rattle.recording_counts.specs.Tables.{IsIndexOf, counted_by, different, of_key, place_of}
+use Rattle.recording_counts.specs.Tables.{IsIndexOf, counted_by, different, of_key, first_index}
 use Rattle.recording_counts.proofs.Different.{added, different_more, without}
 
 -- the first place is here, or behind
@@ -34,16 +34,16 @@ nowhere false (Some j) e = absurd (cc)
 
 -- a place is one in the list
 within : {K : Type 0} (same : K → K → Bool) (k : K) (ds : List K) (i : ℕ)
-    → place_of same k ds ≡ Some i → i < length ds
+    → first_index same k ds ≡ Some i → i < length ds
 within same k [] i e = absurd (cc)
 within same k (d ∷ ds) i e =
     ⊎_elim (λ here. let z : i ≡ 0 = here.1 in omega arith)
     (λ there. let lt : there.1.0 < length ds = within same k ds there.1.0 there.1.1 in
     let n : i ≡ suc (there.1.0) = there.1.2 in omega arith)
-    (step (same k d) (place_of same k ds) i e)
+    (step (same k d) (first_index same k ds) i e)
 
 pub below : {K C : Type 0} (same : K → K → Bool) (of : C → K) (counts : List C) (k : K) (i : ℕ)
-    → place_of same k (map of counts) ≡ Some i → i < length counts
+    → first_index same k (map of counts) ≡ Some i → i < length counts
 below same of counts k i e =
     subst (λ (n : ℕ). i < n) (length-map counts of) (within same k (map of counts) i e)
 
@@ -112,7 +112,7 @@ module _ {K : Type 0} (same : K → K → Bool) (are : Parts same) where
   -- ---- places
 
   abbrev place : K → List K → Option ℕ
-  place d ds = place_of same d ds
+  place d ds = first_index same d ds
 
   added_there : (d : K) (ds : List K) (i : ℕ) → place d ds ≡ Some i → added same d ds ≡ ds
   added_there d [] i e = absurd (cc)
@@ -342,25 +342,25 @@ module _ {K R C : Type 0} (same : K → K → Bool) (are : Parts same) (key : R 
 
   pub note_there : ((d : K) (rs : List R) → of (count d rs) ≡ d) → (all : List R) (a : R)
       (counts : List C) (i : ℕ) (old next : C) (k : K) → counts ≡ all_of all → k ≡ key a
-      → place_of same k (map of counts) ≡ Some i → old ≡ get_or counts i old
+      → first_index same k (map of counts) ≡ Some i → old ≡ get_or counts i old
       → ((d : K) (rs : List R) → old ≡ count d rs → next ≡ count d (rs ++ a ∷ []))
       → slice_set counts i next ≡ all_of (all ++ a ∷ [])
   note_there is all a counts i old next k e k_is found at on =
       ap (λ (x : List C). slice_set x i next) e
       ∙ noted_there same are key count all a i old next
-      (ap (λ (x : K). place_of same x (different same (map key all))) (sym k_is)
-      ∙ ap (place_of same k) (sym (table_keys same are key count of is all counts e)) ∙ found)
+      (ap (λ (x : K). first_index same x (different same (map key all))) (sym k_is)
+      ∙ ap (first_index same k) (sym (table_keys same are key count of is all counts e)) ∙ found)
       (at ∙ ap (λ (x : List C). get_or x i old) e) on
 
   pub note_new : ((d : K) (rs : List R) → of (count d rs) ≡ d) → (all : List R) (a : R)
       (counts new : List C) (k : K) → counts ≡ all_of all → k ≡ key a
-      → place_of same k (map of counts) ≡ None → new ≡ counts ++ count (key a) (a ∷ []) ∷ []
+      → first_index same k (map of counts) ≡ None → new ≡ counts ++ count (key a) (a ∷ []) ∷ []
       → new ≡ all_of (all ++ a ∷ [])
   note_new is all a counts new k e k_is none n =
       n ∙ ap (λ (x : List C). x ++ count (key a) (a ∷ []) ∷ []) e
       ∙ noted_new same are key count all a
-      (ap (λ (x : K). place_of same x (different same (map key all))) (sym k_is)
-      ∙ ap (place_of same k) (sym (table_keys same are key count of is all counts e)) ∙ none)
+      (ap (λ (x : K). first_index same x (different same (map key all))) (sym k_is)
+      ∙ ap (first_index same k) (sym (table_keys same are key count of is all counts e)) ∙ none)
 
 module _ {K C : Type 0} (cmp : K → K → Ordering) (exact : CmpEqualImpliesEq cmp)
     (same : K → K → Bool) (keys : AreKeys same) (of : C → K) where
@@ -373,7 +373,7 @@ module _ {K C : Type 0} (cmp : K → K → Ordering) (exact : CmpEqualImpliesEq 
 
   -- the index of a table with one count more
   pub index_grown : (old new : BTreeMap K ℕ) (cs grown : List C) (c : C) (k : K) (n : ℕ)
-      → IsIndexOf cmp same old (map of cs) → k ≡ of c → place_of same k (map of cs) ≡ None
+      → IsIndexOf cmp same old (map of cs) → k ≡ of c → first_index same k (map of cs) ≡ None
       → n ≡ length cs → grown ≡ cs ++ c ∷ [] → Updates cmp old new k (Some n)
       → IsIndexOf cmp same new (map of grown)
   index_grown old new cs grown c k n index k_is none n_is g updates =

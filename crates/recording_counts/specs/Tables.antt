@@ -21,11 +21,11 @@ counted_by same key count records =
     map (λ k. count k (of_key same key k records)) (different same (map key records))
 
 -- the first place of a key
-abbrev pub place_of : {K : Type 0} → (K → K → Bool) → K → List K → Option ℕ
-place_of same k [] = None
-place_of same k (l ∷ ks) = if same k l then Some 0 else option_map (λ i. i + 1) (place_of same k ks)
+abbrev pub first_index : {K : Type 0} → (K → K → Bool) → K → List K → Option ℕ
+first_index same k [] = None
+first_index same k (l ∷ ks) = if same k l then Some 0 else option_map (λ i. i + 1) (first_index same k ks)
 
 -- an index has the place of each key, and nothing else
 abbrev pub IsIndexOf : {K : Type 0} → (K → K → Ordering) → (K → K → Bool) → BTreeMap K ℕ → List K
     → Type 0
-IsIndexOf {K} cmp same places ks = (k : K) → get cmp places k ≡ place_of same k ks
+IsIndexOf {K} cmp same places ks = (k : K) → get cmp places k ≡ first_index same k ks

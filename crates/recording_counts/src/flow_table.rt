@@ -4,7 +4,7 @@ ghost use Rattle.std.specs.Prelude.{None, map, length, ◌≤◌};
 ghost use Rattle.recording_counts.specs.FlowCounts.{flow_count_of, flow_counts};
 ghost use Rattle.recording_counts.specs.Flows.{Arrival, arrival_of};
 ghost use Rattle.recording_counts.specs.FlowPlaces.{flow_key_of, is_same_key};
-ghost use Rattle.recording_counts.specs.Tables.{place_of};
+ghost use Rattle.recording_counts.specs.Tables.{first_index};
 
 use crate::flow_count::FlowCount;
 use crate::noted::Noted;
@@ -76,7 +76,7 @@ impl<A: Allocator + Copy> FlowTable<A> {
     /// Adds a flow that no datagram was of.
     fn open(&mut self, key: FlowKey, datagram: &Noted<'_>) -> Result<(), AllocError>
         requires key { key ≡ flow_key_of datagram.now.destination }
-        requires absent { place_of is_same_key key
+        requires absent { first_index is_same_key key
             (map (λ c. flow_key_of c.destination) self.old) ≡ None }
         ensures added { OnOk result (self.new ≡ self.old
             ++ flow_count_of datagram.now.destination (arrival_of datagram.now ∷ []) ∷ []) }

@@ -5,7 +5,7 @@ ghost use Rattle.rtp_header.specs.Grammar.{Rtp};
 ghost use Rattle.rtp_header.specs.Views.{seen_rtp};
 ghost use Rattle.recording_counts.specs.FlowStreams.{stream_key_of, rtp_streams_of};
 ghost use Rattle.recording_counts.specs.Streams.{is_same};
-ghost use Rattle.recording_counts.specs.Tables.{place_of};
+ghost use Rattle.recording_counts.specs.Tables.{first_index};
 
 use crate::rtp_stream::RtpStream;
 use arrayvec::ArrayVec;
@@ -49,7 +49,7 @@ impl Streams {
 
     /// Notes a packet of a stream that isn't among those that are kept.
     fn open(&mut self, rtp: &RtpView<'_>)
-        requires { place_of is_same
+        requires { first_index is_same
             (record { payload_type = rtp.now.payload_type; ssrc = rtp.now.ssrc })
             (map stream_key_of self.old.kept.items) ≡ None }
         ensures { (said : List Rtp) → self.old ≡ rtp_streams_of said
@@ -66,7 +66,7 @@ impl Streams {
 
 /// The place of the stream of a payload type and a source, where it is kept.
 fn place_of_stream(streams: &[RtpStream], payload_type: u8, ssrc: u32) -> Option<usize>
-    ensures place { result ≡ place_of is_same
+    ensures place { result ≡ first_index is_same
         (record { payload_type = payload_type; ssrc = ssrc }) (map stream_key_of streams.now) }
     ensures within { IfSome result (λ i. i < length streams.now) }
 {

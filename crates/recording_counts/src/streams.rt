@@ -3,7 +3,7 @@ ghost use Rattle.std.specs.Prelude.{◌≡◌, ◌++◌, ◌∷◌, List, [], On
 ghost use Rattle.std.specs.Prelude.{None, map};
 ghost use Rattle.recording_counts.specs.declared.packet.Packet.{Packet as PacketValue};
 ghost use Rattle.recording_counts.specs.Streams.{is_same, key_of, stream_of, streams_of};
-ghost use Rattle.recording_counts.specs.Tables.{place_of};
+ghost use Rattle.recording_counts.specs.Tables.{first_index};
 
 use crate::packet::{Packet, StreamKey};
 use crate::stream::StreamCount;
@@ -71,7 +71,7 @@ impl<A: Allocator + Copy> StreamTable<A> {
     /// Adds a stream that no packet was of.
     fn open(&mut self, key: StreamKey, packet: &Packet) -> Result<(), AllocError>
         requires key { key ≡ key_of packet.now }
-        requires absent { place_of is_same key (map (λ c. c.key) self.old) ≡ None }
+        requires absent { first_index is_same key (map (λ c. c.key) self.old) ≡ None }
         ensures added { OnOk result (self.new ≡ self.old
             ++ stream_of (key_of packet.now) (packet.now ∷ []) ∷ []) }
         ensures kept { OnErr result (self.new ≡ self.old) }

@@ -4,7 +4,7 @@ ghost use Rattle.std.specs.Prelude.{None, map};
 ghost use Rattle.recording_counts.specs.declared.packet.Packet.{Packet as PacketValue};
 ghost use Rattle.recording_counts.specs.Timestamps.{is_same_timestamp, timestamp_key_of};
 ghost use Rattle.recording_counts.specs.Timestamps.{timestamp_of, timestamps_of};
-ghost use Rattle.recording_counts.specs.Tables.{place_of};
+ghost use Rattle.recording_counts.specs.Tables.{first_index};
 
 use crate::packet::{Packet, TimestampKey};
 use crate::table::append;
@@ -71,7 +71,7 @@ impl<A: Allocator + Copy> TimestampTable<A> {
     /// Adds a timestamp that no packet was of.
     fn open(&mut self, key: TimestampKey, packet: &Packet) -> Result<(), AllocError>
         requires key { key ≡ timestamp_key_of packet.now }
-        requires absent { place_of is_same_timestamp key (map (λ c. c.key) self.old) ≡ None }
+        requires absent { first_index is_same_timestamp key (map (λ c. c.key) self.old) ≡ None }
         ensures added { OnOk result (self.new ≡ self.old
             ++ timestamp_of (timestamp_key_of packet.now) (packet.now ∷ []) ∷ []) }
         ensures kept { OnErr result (self.new ≡ self.old) }

@@ -28,8 +28,8 @@ use Rattle.recording_reader.specs.declared.fault.FileOpeningFault.{FileOpeningFa
 use Rattle.recording_reader.specs.declared.fault.FileOpeningFault.TheVariants as opening
 use Rattle.recording_reader.specs.declared.fault.ReadingFault.TheVariants as fault
 use Rattle.recording_reader.specs.declared.way.Track.{Track}
-use Rattle.recording_reader.specs.declared.way.Way.{Way}
-use Rattle.recording_reader.specs.declared.way.Way.TheVariants.{Capture, Recording}
+use Rattle.recording_reader.specs.declared.way.FileKind.{FileKind}
+use Rattle.recording_reader.specs.declared.way.FileKind.TheVariants.{Capture, Recording}
 use Rattle.recording_reader.proofs.Captures.{capture_first}
 use Rattle.recording_reader.proofs.Magic.{kind_behind, kind_of_few}
 use Rattle.recording_reader.proofs.Recordings.{read_part, recording_first}
@@ -155,7 +155,7 @@ module _ (before was four : List ℕ) (size : length four ≡ 4) (magic : is_mag
 
 -- ---- by what a call behind the four answered
 
-pub begun_recording : {B E : Type 0} (way : B → Way) (len : B → ℕ) (r : Result B E)
+pub begun_recording : {B E : Type 0} (way : B → FileKind) (len : B → ℕ) (r : Result B E)
     (flows : Option Flows) (by : Flows) (before was now four text : List ℕ) (ended : Type 0)
     → flows ≡ Some by → was ≡ before ++ four
     → IfOk r (λ b. (since : List ℕ) → was ≡ since ++ four
@@ -187,7 +187,7 @@ pub stops_capture : {B : Type 0} (r : Result B FileOpeningFault) (flows : Option
 stops_capture (Ok b) flows before was now four ended is stops = tt
 stops_capture (Err f) flows before was now four ended is stops = stops before flows is
 
-pub begun_capture : {B E : Type 0} (way : B → Way) (len : B → ℕ) (r : Result B E)
+pub begun_capture : {B E : Type 0} (way : B → FileKind) (len : B → ℕ) (r : Result B E)
     (flows : Option Flows) (before was now four text : List ℕ) (ended : Type 0)
     → was ≡ before ++ four
     → IfOk r (λ b. (since : List ℕ) (by : Option Flows) → was ≡ since ++ four

@@ -24,8 +24,8 @@ use Rattle.recording_reader.specs.declared.fault.ReadingFault.TheVariants as fau
 use Rattle.recording_reader.specs.declared.found.Found.{Found}
 use Rattle.recording_reader.specs.declared.way.Standing.{Standing}
 use Rattle.recording_reader.specs.declared.way.Standing.TheVariants.{Reads, Ended, Failed}
-use Rattle.recording_reader.specs.declared.way.Way.{Way}
-use Rattle.recording_reader.specs.declared.way.Way.TheVariants.{Capture, Recording}
+use Rattle.recording_reader.specs.declared.way.FileKind.{FileKind}
+use Rattle.recording_reader.specs.declared.way.FileKind.TheVariants.{Capture, Recording}
 use Rattle.recording_reader.proofs.Standings.{at_hand, exact_between, same_room}
 use Rattle.recording_reader.proofs.Standings.{same_room_failed, way_again}
 use Rattle.recording_reader.proofs.Standings.{way_end, way_fails, way_has, way_known, way_said}
@@ -50,7 +50,7 @@ NotesOne came came' path = (records : List Entry) (e : Entry) → e.path ≡ pat
     → AreNoted came records → AreNoted came' (records ++ e ∷ [])
 
 -- a reader that was just opened
-module _ (way : Way) (flows : Option Flows) (before now : List ℕ) (ended : Type 0) (text : List ℕ)
+module _ (way : FileKind) (flows : Option Flows) (before now : List ℕ) (ended : Type 0) (text : List ℕ)
     (begins : BeginsWay way flows before now ended text) where
   pub text_first : text_of_file (since before now) ≡ text
   text_first = way_text way flows Reads before now ended text [] begins
@@ -86,7 +86,7 @@ module _ (way : Way) (flows : Option Flows) (before now : List ℕ) (ended : Typ
       })
 
 -- where a reader stood, and what a call read
-module _ (was way : Way) (flows : Option Flows) (standing : Standing) (before old new : List ℕ)
+module _ (was way : FileKind) (flows : Option Flows) (standing : Standing) (before old new : List ℕ)
     (ended ended' : Type 0) (text : List ℕ) (records : List Entry) (found : Option Found)
     (count : ℕ) (came : Came) (text_len : ℕ)
     (s : IsSound was flows standing before old ended text records found count came text_len)
@@ -172,7 +172,7 @@ none_there (Some f) buffer is = absurd cc
 
 -- ---- a capture, whose records are read into a buffer
 
-pub capture_finds : (way : Way) → is_recording_way way ≡ false → (o : Option Found)
+pub capture_finds : (way : FileKind) → is_recording_way way ≡ false → (o : Option Found)
     (buffer old new : List ℕ) (ended : Type 0)
     → MatchOption o ((new ≡ old) × ended) (λ f. ReadsRecord old new (entry_at f buffer))
     → FindsNext way way o buffer old new ended
@@ -180,7 +180,7 @@ capture_finds Capture is None buffer old new ended read = read
 capture_finds Capture is (Some f) buffer old new ended read = read
 capture_finds (Recording t) is o buffer old new ended read = absurd cc
 
-pub capture_fails : (way : Way) → is_recording_way way ≡ false → (f : FileFault)
+pub capture_fails : (way : FileKind) → is_recording_way way ≡ false → (f : FileFault)
     (old new : List ℕ) (ended : Type 0) → FailsRecord f old new ended
     → FailsNextBy way way (fault.Capture f) old new ended
 capture_fails Capture is f old new ended wrong = wrong

@@ -19,8 +19,8 @@ use Rattle.recording_reader.specs.declared.fault.ReadingFault.TheVariants as fau
 use Rattle.recording_reader.specs.declared.found.Found.{Found}
 use Rattle.recording_reader.specs.declared.way.Standing.{Standing}
 use Rattle.recording_reader.specs.declared.way.Standing.TheVariants.{Reads, Ended, Failed}
-use Rattle.recording_reader.specs.declared.way.Way.{Way}
-use Rattle.recording_reader.specs.declared.way.Way.TheVariants.{Capture, Recording}
+use Rattle.recording_reader.specs.declared.way.FileKind.{FileKind}
+use Rattle.recording_reader.specs.declared.way.FileKind.TheVariants.{Capture, Recording}
 use Rattle.recording_reader.proofs.Captures.{capture_again, capture_end, capture_fails, capture_grew}
 use Rattle.recording_reader.proofs.Captures.{capture_has, capture_kind, capture_known, capture_said}
 use Rattle.recording_reader.proofs.Captures.{capture_parts, capture_text_is}
@@ -34,7 +34,7 @@ some_flows flows = Some flows
 
 -- ---- what is known
 
-pub way_grew : (way : Way) (flows : Option Flows) (standing : Standing) (before now : List ℕ)
+pub way_grew : (way : FileKind) (flows : Option Flows) (standing : Standing) (before now : List ℕ)
     (ended : Type 0) (text : List ℕ) (records : List Entry)
     → WayStands way flows standing before now ended text records → GrewFrom before now
 way_grew Capture flows standing before now ended text records s =
@@ -42,7 +42,7 @@ way_grew Capture flows standing before now ended text records s =
 way_grew (Recording t) flows standing before now ended text records s =
     recording_grew t.flows standing t.layout before now ended records t.left_out s.2
 
-pub way_text : (way : Way) (flows : Option Flows) (standing : Standing) (before now : List ℕ)
+pub way_text : (way : FileKind) (flows : Option Flows) (standing : Standing) (before now : List ℕ)
     (ended : Type 0) (text : List ℕ) (records : List Entry)
     → WayStands way flows standing before now ended text records
     → text_of_file (since before now) ≡ text
@@ -51,7 +51,7 @@ way_text Capture flows standing before now ended text records s =
 way_text (Recording t) flows standing before now ended text records s =
     recording_text_is t.flows standing t.layout before now ended records t.left_out s.2 ∙ sym s.1
 
-pub way_has : (way : Way) (flows : Option Flows) (standing : Standing) (before now : List ℕ)
+pub way_has : (way : FileKind) (flows : Option Flows) (standing : Standing) (before now : List ℕ)
     (ended : Type 0) (text : List ℕ) (records : List Entry)
     → WayStands way flows standing before now ended text records → IsExact standing
     → HaveFileRecords flows (since before now) records (left_out_by way)
@@ -66,7 +66,7 @@ pub exact_between : (standing : Standing) → standing ≡ Reads → IsExact sta
 exact_between standing reads = subst (λ (s : Standing). IsExact s) (sym reads) tt
 
 -- of a capture wherever its reader stands
-pub way_given : (way : Way) (flows : Option Flows) (standing : Standing) (before now : List ℕ)
+pub way_given : (way : FileKind) (flows : Option Flows) (standing : Standing) (before now : List ℕ)
     (ended : Type 0) (text : List ℕ) (records : List Entry)
     → WayStands way flows standing before now ended text records → is_recording_way way ≡ false
     → HaveFileRecords flows (since before now) records (left_out_by way)
@@ -74,7 +74,7 @@ way_given Capture flows standing before now ended text records s kind =
     capture_has standing before now ended text records s flows
 way_given (Recording t) flows standing before now ended text records s kind = absurd cc
 
-pub way_parts : (way : Way) (flows : Option Flows) (standing : Standing) (before now : List ℕ)
+pub way_parts : (way : FileKind) (flows : Option Flows) (standing : Standing) (before now : List ℕ)
     (ended : Type 0) (text : List ℕ) (records : List Entry) (octets : List ℕ)
     → WayStands way flows standing before now ended text records → is_recording_way way ≡ false
     → IsRead before now ended octets → HasFirstRecords text records octets
@@ -83,7 +83,7 @@ way_parts Capture flows standing before now ended text records octets s kind rea
 way_parts (Recording t) flows standing before now ended text records octets s kind read = absurd cc
 
 -- a recording is read by flows
-pub way_by_flows : (way : Way) (flows : Option Flows) (standing : Standing)
+pub way_by_flows : (way : FileKind) (flows : Option Flows) (standing : Standing)
     (before now : List ℕ) (ended : Type 0) (text : List ℕ) (records : List Entry)
     → WayStands way flows standing before now ended text records → is_recording_way way ≡ true
     → IsSome flows
@@ -91,7 +91,7 @@ way_by_flows Capture flows standing before now ended text records s kind = absur
 way_by_flows (Recording t) flows standing before now ended text records s kind =
     subst (λ (f : Option Flows). IsSome f) (sym s.0) refl
 
-pub way_kind : (way : Way) (flows : Option Flows) (standing : Standing) (before now : List ℕ)
+pub way_kind : (way : FileKind) (flows : Option Flows) (standing : Standing) (before now : List ℕ)
     (ended : Type 0) (text : List ℕ) (records : List Entry) (octets : List ℕ)
     → WayStands way flows standing before now ended text records → IsRead before now ended octets
     → is_recording octets ≡ is_recording_way way
@@ -101,7 +101,7 @@ way_kind (Recording t) flows standing before now ended text records octets s rea
     recording_kind t.flows standing t.layout before now ended records t.left_out s.2 octets read
 
 -- its front is without a fault
-pub way_front : (way : Way) (flows : Option Flows) (standing : Standing) (before now : List ℕ)
+pub way_front : (way : FileKind) (flows : Option Flows) (standing : Standing) (before now : List ℕ)
     (ended : Type 0) (text : List ℕ) (records : List Entry) (octets : List ℕ)
     → WayStands way flows standing before now ended text records → IsRead before now ended octets
     → HasFrontBy (is_recording_way way) octets
@@ -111,7 +111,7 @@ way_front Capture flows standing before now ended text records octets s read =
 way_front (Recording t) flows standing before now ended text records octets s read =
     recording_front t.flows standing t.layout before now ended records t.left_out s.2 octets read
 
-pub way_said : (way : Way) (flows : Option Flows) (standing : Standing) (before now : List ℕ)
+pub way_said : (way : FileKind) (flows : Option Flows) (standing : Standing) (before now : List ℕ)
     (ended : Type 0) (text : List ℕ) (records : List Entry) (octets : List ℕ)
     → WayStands way flows standing before now ended text records → IsRead before now ended octets
     → text_of_file octets ≡ text
@@ -121,7 +121,7 @@ way_said (Recording t) flows standing before now ended text records octets s rea
     recording_said t.flows standing t.layout before now ended records t.left_out s.2 octets read
     ∙ sym s.1
 
-pub way_known : (way : Way) (flows : Option Flows) (standing : Standing) (before now : List ℕ)
+pub way_known : (way : FileKind) (flows : Option Flows) (standing : Standing) (before now : List ℕ)
     (ended : Type 0) (text : List ℕ) (records : List Entry) (octets : List ℕ)
     → WayStands way flows standing before now ended text records → IsRead before now ended octets
     → IsKnownBy flows standing octets records (left_out_by way)
@@ -135,7 +135,7 @@ way_known (Recording t) flows standing before now ended text records octets s re
 
 module _ (flows : Option Flows) (standing : Standing) (before old new : List ℕ)
     (ended ended' : Type 0) (text : List ℕ) (records : List Entry) (reads : standing ≡ Reads) where
-  pub way_again : (was way : Way) (f : Found) (buffer : List ℕ)
+  pub way_again : (was way : FileKind) (f : Found) (buffer : List ℕ)
       → WayStands was flows standing before old ended text records
       → FindsNext was way (Some f) buffer old new ended'
       → WayStands way flows standing before new ended' text (records ++ entry_at f buffer ∷ [])
@@ -153,7 +153,7 @@ module _ (flows : Option Flows) (standing : Standing) (before old new : List ℕ
         t.left_out u.left_out reads s.2 next.1 f buffer next.2),
   )
 
-  pub way_end : (was way : Way) (buffer : List ℕ)
+  pub way_end : (was way : FileKind) (buffer : List ℕ)
       → WayStands was flows standing before old ended text records
       → FindsNext was way None buffer old new ended'
       → WayStands way flows Ended before new ended' text records
@@ -170,7 +170,7 @@ module _ (flows : Option Flows) (standing : Standing) (before old new : List ℕ
         t.left_out u.left_out reads s.2 next.1 buffer next.2),
   )
 
-  pub way_fails : (was way : Way) (f : ReadingFault)
+  pub way_fails : (was way : FileKind) (f : ReadingFault)
       → WayStands was flows standing before old ended text records
       → FailsNextBy was way f old new ended'
       → WayStands way flows (Failed f) before new ended' text records
@@ -191,28 +191,28 @@ module _ (flows : Option Flows) (standing : Standing) (before old new : List ℕ
 
 -- ---- what stays
 
-pub same_kind : (was way : Way) (o : Option Found) (buffer old new : List ℕ) (ended : Type 0)
+pub same_kind : (was way : FileKind) (o : Option Found) (buffer old new : List ℕ) (ended : Type 0)
     → FindsNext was way o buffer old new ended → is_recording_way way ≡ is_recording_way was
 same_kind Capture Capture o buffer old new ended next = refl
 same_kind Capture (Recording u) o buffer old new ended next = absurd next
 same_kind (Recording t) Capture o buffer old new ended next = absurd next
 same_kind (Recording t) (Recording u) o buffer old new ended next = refl
 
-pub same_kind_failed : (was way : Way) (f : ReadingFault) (old new : List ℕ) (ended : Type 0)
+pub same_kind_failed : (was way : FileKind) (f : ReadingFault) (old new : List ℕ) (ended : Type 0)
     → FailsNextBy was way f old new ended → is_recording_way way ≡ is_recording_way was
 same_kind_failed Capture Capture f old new ended next = refl
 same_kind_failed Capture (Recording u) f old new ended next = absurd next
 same_kind_failed (Recording t) Capture f old new ended next = absurd next
 same_kind_failed (Recording t) (Recording u) f old new ended next = refl
 
-pub same_room : (was way : Way) (o : Option Found) (buffer old new : List ℕ) (ended : Type 0)
+pub same_room : (was way : FileKind) (o : Option Found) (buffer old new : List ℕ) (ended : Type 0)
     (count : ℕ) → FindsNext was way o buffer old new ended → HasSpace was count → HasSpace way count
 same_room Capture Capture o buffer old new ended count next is = is
 same_room Capture (Recording u) o buffer old new ended count next is = absurd next
 same_room (Recording t) Capture o buffer old new ended count next is = absurd next
 same_room (Recording t) (Recording u) o buffer old new ended count next is = is
 
-pub same_room_failed : (was way : Way) (f : ReadingFault) (old new : List ℕ) (ended : Type 0)
+pub same_room_failed : (was way : FileKind) (f : ReadingFault) (old new : List ℕ) (ended : Type 0)
     (count : ℕ) → FailsNextBy was way f old new ended → HasSpace was count → HasSpace way count
 same_room_failed Capture Capture f old new ended count next is = is
 same_room_failed Capture (Recording u) f old new ended count next is = absurd next

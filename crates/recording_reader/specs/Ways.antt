@@ -20,8 +20,8 @@ use Rattle.recording_reader.specs.declared.fault.ReadingFault.TheVariants as fau
 use Rattle.recording_reader.specs.declared.found.Found.{Found}
 use Rattle.recording_reader.specs.declared.way.Standing.{Standing}
 use Rattle.recording_reader.specs.declared.way.Standing.TheVariants.{Reads, Ended, Failed}
-use Rattle.recording_reader.specs.declared.way.Way.{Way}
-use Rattle.recording_reader.specs.declared.way.Way.TheVariants.{Capture, Recording}
+use Rattle.recording_reader.specs.declared.way.FileKind.{FileKind}
+use Rattle.recording_reader.specs.declared.way.FileKind.TheVariants.{Capture, Recording}
 use Rattle.st_format.specs.History.{GrewFrom}
 
 -- ---- a capture
@@ -83,7 +83,7 @@ pub record RecordingStands (flows : Flows) (standing : Standing) (layout : Layou
 -- ---- a file
 
 -- where its reader stands: its flows, and what it has read since its source gave `before`
-abbrev pub WayStands : Way → Option Flows → Standing → List ℕ → List ℕ → Type 0 → List ℕ
+abbrev pub WayStands : FileKind → Option Flows → Standing → List ℕ → List ℕ → Type 0 → List ℕ
     → List Entry → Type 0
 WayStands Capture flows standing before now ended text records =
     CaptureStands standing before now ended text records
@@ -92,21 +92,21 @@ WayStands (Recording t) flows standing before now ended text records =
     × RecordingStands t.flows standing t.layout before now ended records t.left_out
 
 -- of a file that was just opened
-abbrev pub BeginsWay : Way → Option Flows → List ℕ → List ℕ → Type 0 → List ℕ → Type 0
+abbrev pub BeginsWay : FileKind → Option Flows → List ℕ → List ℕ → Type 0 → List ℕ → Type 0
 BeginsWay way flows before now ended text = WayStands way flows Reads before now ended text []
 
 -- whether it is a recording
-abbrev pub is_recording_way : Way → Bool
+abbrev pub is_recording_way : FileKind → Bool
 is_recording_way Capture = false
 is_recording_way (Recording t) = true
 
 -- how many packets were left out; of a capture none
-abbrev pub left_out_by : Way → LeftOut
+abbrev pub left_out_by : FileKind → LeftOut
 left_out_by Capture = left_out_of []
 left_out_by (Recording t) = t.left_out
 
 -- there is the room that it needs
-abbrev pub HasSpace : Way → ℕ → Type 0
+abbrev pub HasSpace : FileKind → ℕ → Type 0
 HasSpace Capture count = 65535 ≤ count
 HasSpace (Recording t) count = count ≡ most_packet
 
@@ -123,7 +123,7 @@ ReadsNextRecord None buffer old new ended = (new ≡ old) × ended
 ReadsNextRecord (Some f) buffer old new ended = ReadsRecord old new (entry_at f buffer)
 
 -- so of a file, of the kind that it is
-abbrev pub FindsNext : Way → Way → Option Found → List ℕ → List ℕ → List ℕ → Type 0 → Type 0
+abbrev pub FindsNext : FileKind → FileKind → Option Found → List ℕ → List ℕ → List ℕ → Type 0 → Type 0
 FindsNext Capture Capture found buffer old new ended =
     ReadsNextRecord found buffer old new ended
 FindsNext (Recording t) (Recording u) found buffer old new ended = (u.flows ≡ t.flows)
@@ -132,7 +132,7 @@ FindsNext (Recording t) (Recording u) found buffer old new ended = (u.flows ≡ 
 FindsNext was way found buffer old new ended = ⊥
 
 -- a fault was found before the next record
-abbrev pub FailsNextBy : Way → Way → ReadingFault → List ℕ → List ℕ → Type 0 → Type 0
+abbrev pub FailsNextBy : FileKind → FileKind → ReadingFault → List ℕ → List ℕ → Type 0 → Type 0
 FailsNextBy Capture Capture (fault.Capture f) old new ended = FailsRecord f old new ended
 FailsNextBy (Recording t) (Recording u) (fault.Recording f) old new ended = (u.flows ≡ t.flows)
     × GrewFrom old new × FailsNext t.flows old new ended t.layout f t.left_out u.left_out

@@ -10,7 +10,7 @@ ghost use Rattle.recording_reader.specs.Ways.{BeginsWay, HasSpace, left_out_by};
 use crate::fault::{FileOpeningFault, ReadingFault};
 use crate::kinds::is_magic;
 use crate::room::Room;
-use crate::way::{Track, Way};
+use crate::way::{Track, FileKind};
 use flow::Flows;
 use media_file::{FileFault, read_front_behind};
 use pcap_file::{MOST_PACKET, open_behind};
@@ -21,7 +21,7 @@ use std::alloc::Allocator;
 /// A file that was opened, and how many octets its text has.
 #[derive(Drop)]
 pub(crate) struct Begun<A: Allocator> {
-    pub way: Way,
+    pub way: FileKind,
     pub room: Room<A>,
     pub text_len: usize,
 }
@@ -91,7 +91,7 @@ fn begin_capture<A: Allocator, S: ByteSource>(
     let room = Room::new(alloc, MOST_DATAGRAM)?;
     let text_len = read_front_behind(source, four, text)?;
     Ok(Begun {
-        way: Way::Capture,
+        way: FileKind::Capture,
         room,
         text_len,
     })
@@ -122,7 +122,7 @@ fn begin_recording<A: Allocator, S: ByteSource>(
     let mut room = Room::new(alloc, MOST_PACKET)?;
     let layout = open_behind(source, four, &mut room.octets)?;
     Ok(Begun {
-        way: Way::Recording(Track {
+        way: FileKind::Recording(Track {
             flows,
             layout,
             left_out: LeftOut::new(),

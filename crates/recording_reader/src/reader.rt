@@ -22,7 +22,7 @@ use crate::fault::{FileOpeningFault, ReadingFault};
 use crate::opening::begin;
 use crate::record::read_record;
 use crate::room::{RecordView, Room};
-use crate::way::{Standing, Way};
+use crate::way::{Standing, FileKind};
 use flow::Flows;
 use media_file::FileFault;
 use pcap_file::RecordingFault;
@@ -53,7 +53,7 @@ pub struct DatagramReader<A: Allocator, S: ByteSource> {
     last: Snapshot<S>,
     flows: Option<Flows>,
     text_len: usize,
-    way: Way,
+    way: FileKind,
     room: Room<A>,
     came: Came,
     standing: Standing,

@@ -10,7 +10,7 @@ ghost use Rattle.recording_reader.specs.Ways.{FailsNextBy, FindsNext, HasSpace};
 
 use crate::fault::ReadingFault;
 use crate::found::Found;
-use crate::way::Way;
+use crate::way::FileKind;
 use st_format::{ByteSource, Path};
 use std::alloc::{AllocError, Allocator};
 
@@ -53,7 +53,7 @@ impl<A: Allocator> Room<A> {
     /// after a fault.
     pub(crate) fn advance<S: ByteSource>(
         &mut self,
-        way: &mut Way,
+        way: &mut FileKind,
         source: &mut S,
     ) -> Result<Option<Path>, ReadingFault>
         requires { HasSpace way.old (vec_len self.old.octets) }

@@ -34,12 +34,12 @@ pub struct Track {
 
 /// What kind of file is read, and what was read of it between its records.
 #[derive(Drop)]
-pub enum Way {
+pub enum FileKind {
     Capture,
     Recording(Track),
 }
 
-impl Way {
+impl FileKind {
     /// Reads on to the next record, and finds it in `buf`, or reads on to the end.
     pub(crate) fn read_next<S: ByteSource>(
         &mut self,
@@ -59,11 +59,11 @@ impl Way {
         ensures few { IfOk result (λ r. IfSome r (λ f. f.end - f.start ≤ 65535)) }
     {
         match self {
-            Way::Capture => match read_record(source, buf) {
+            FileKind::Capture => match read_record(source, buf) {
                 Ok(found) => Ok(found),
                 Err(fault) => Err(ReadingFault::Capture(fault)),
             },
-            Way::Recording(track) => match read_on(
+            FileKind::Recording(track) => match read_on(
                 source,
                 &track.flows,
                 &mut track.layout,
@@ -80,8 +80,8 @@ impl Way {
         ensures { result ≡ is_recording_way self.now }
     {
         match self {
-            Way::Capture => false,
-            Way::Recording(_) => true,
+            FileKind::Capture => false,
+            FileKind::Recording(_) => true,
         }
     }
 
@@ -89,8 +89,8 @@ impl Way {
         ensures { result ≡ left_out_by self.now }
     {
         match self {
-            Way::Capture => LeftOut::new(),
-            Way::Recording(track) => track.left_out,
+            FileKind::Capture => LeftOut::new(),
+            FileKind::Recording(track) => track.left_out,
         }
     }
 }

@@ -9,13 +9,13 @@ pub fn split_once(text: &[u8], separator: u8) -> Option<(&[u8], &[u8])>
     ensures parts { option_map (λ p. (p.0.now, p.1.now)) result ≡ parted separator text.now }
     ensures shorter { IfSome result (λ p. length p.1.now < length text.now) }
 {
-    match place_of(text, separator) {
+    match place_of_octet(text, separator) {
         Some(place) => Some((&text[..place], &text[place + 1..])),
         None => None,
     }
 }
 
-fn place_of(text: &[u8], octet: u8) -> Option<usize>
+fn place_of_octet(text: &[u8], octet: u8) -> Option<usize>
     ensures { result ≡ position (λ x. x == octet) text.now }
 {
     text.iter().position(|x| *x == octet)

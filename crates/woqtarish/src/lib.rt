@@ -61,8 +61,8 @@ pub mod receive {
         Base, Cell, ContestedSamples, Counts, Frame, GroupState, MissingRuns,
     };
     pub use path_merge::{
-        Observer, OpenFault, OpenedUnlike, Opening, ReceiveFault, Received, Receiver, Refusal,
-        Refusals, SlideFault, Taken, WindowFrames, receive, receive_each,
+        MOST_TIMESTAMPS, Observer, OpenFault, OpenedUnlike, Opening, ReceiveFault, Received,
+        Receiver, Refusal, Refusals, SlideFault, Taken, WindowFrames, receive, receive_each,
     };
     pub use payload_header::PayloadFault;
     pub use rtp_header::RtpFault;
@@ -74,8 +74,8 @@ pub mod receive {
 pub mod follow {
     pub use following::{
         FollowFault, FollowObserver, FollowTally, Followed, Follower, FrameFault, FrameSink,
-        FrameSinkFault, MOST_FRAMES, MemoryFrames, Restarts, Shown, StreamFault, TEN_SECONDS,
-        TurnTaken, Unobserved, WindowNeed, finish, follow, follow_eagerly, hand_out, take_turn,
+        FrameSinkFault, MemoryFrames, Restarts, Shown, StreamFault, TEN_SECONDS, TurnTaken,
+        Unobserved, WindowNeed, finish, follow, follow_eagerly, hand_out, take_turn,
     };
 }
 

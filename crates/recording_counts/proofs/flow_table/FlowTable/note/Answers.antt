@@ -3,7 +3,7 @@ use Rattle.std.proofs.lemmas.Result.{on_ok_weaker}
 use Rattle.recording_counts.specs.Flows.{arrival_of, is_same_flow}
 use Rattle.recording_counts.specs.FlowPlaces.{FlowKey, flow_key_cmp, flow_key_of, is_same_key}
 use Rattle.recording_counts.specs.FlowCounts.{flow_count_of}
-use Rattle.recording_counts.specs.Tables.{place_of}
+use Rattle.recording_counts.specs.Tables.{first_index}
 use Rattle.recording_counts.specs.declared.flow_count.FlowCount.{FlowCount}
 use Rattle.recording_counts.proofs.Keys.{exact_flows, flow_keys, flow_parts, flow_place}
 use Rattle.recording_counts.proofs.Tables.{below, index_kept, note_new, note_there}
@@ -51,7 +51,7 @@ returns-in-None-clause-noted g c =
     note_new is_same_flow flow_parts (λ a. a.destination) flow_count_of (λ x. x.destination)
     (λ d rs. refl) arrivals (arrival_of c.args.datagram.now) c.args.self.now c.open.new.self
     c.args.datagram.now.destination e refl
-    (ap (λ (x : List FlowCount). place_of is_same_flow c.args.datagram.now.destination
+    (ap (λ (x : List FlowCount). first_index is_same_flow c.args.datagram.now.destination
     (map (λ y. y.destination) x)) (sym c.self.view_is)
     ∙ flow_place c.flow_key_of-key.result c.args.datagram.now.destination
     c.self.inside.counts.items c.flow_key_of-key.ensures

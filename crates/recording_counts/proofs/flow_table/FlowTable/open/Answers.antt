@@ -2,7 +2,7 @@ use Rattle.std.proofs.Common.{◌∙◌, ◌∷◌, [], List, ap, length, map, r
 use Rattle.recording_counts.specs.FlowCounts.{flow_count_of}
 use Rattle.recording_counts.specs.FlowPlaces.{flow_key_cmp, flow_key_of, is_same_key}
 use Rattle.recording_counts.specs.Flows.{arrival_of}
-use Rattle.recording_counts.specs.Tables.{place_of}
+use Rattle.recording_counts.specs.Tables.{first_index}
 use Rattle.recording_counts.specs.declared.flow_count.FlowCount.{FlowCount}
 use Rattle.recording_counts.proofs.Keys.{exact_flows, flow_keys}
 use Rattle.recording_counts.proofs.Tables.{grown, index_grown}
@@ -18,7 +18,7 @@ invariant_of-self-2 g c =
     ∙ ap flow_key_of
     (sym (c.note.ensures.same ∙ ap (λ (x : FlowCount). x.destination) c.new-count.ensures)))
     (ap
-    (λ (x : List FlowCount). place_of is_same_key c.args.key
+    (λ (x : List FlowCount). first_index is_same_key c.args.key
     (map (λ y. flow_key_of y.destination) x))
     c.self.view_is
     ∙ c.requires.absent)

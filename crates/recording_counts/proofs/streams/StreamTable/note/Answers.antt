@@ -2,7 +2,7 @@ use Rattle.std.proofs.Common.{◌∙◌, ◌<◌, List, ap, refl, arith, length,
 use Rattle.recording_counts.specs.declared.stream.StreamCount.{StreamCount}
 use Rattle.std.proofs.lemmas.Result.{on_ok_weaker}
 use Rattle.recording_counts.specs.Streams.{is_same, key_cmp, key_of, stream_of}
-use Rattle.recording_counts.specs.Tables.{place_of}
+use Rattle.recording_counts.specs.Tables.{first_index}
 use Rattle.recording_counts.proofs.Keys.{exact_streams, stream_keys, stream_parts}
 use Rattle.recording_counts.proofs.Tables.{below, index_kept, note_new, note_there}
 use Rattle.recording_counts.proofs.streams.StreamTable.note.Goals as goal
@@ -46,7 +46,7 @@ returns-in-None-clause-noted g c =
     note_new is_same stream_parts key_of stream_of (λ x. x.key) (λ d rs. refl) packets
     c.args.packet.now c.args.self.now c.open.new.self c.stream-key.result e
     c.stream-key.ensures
-    (ap (λ (x : List (StreamCount _)). place_of is_same c.stream-key.result (map (λ y. y.key) x))
+    (ap (λ (x : List (StreamCount _)). first_index is_same c.stream-key.result (map (λ y. y.key) x))
     (sym c.self.view_is)
     ∙ sym (c.self.invariant c.stream-key.result) ∙ sym c.get.ensures.value
     ∙ sym c.copied.ensures ∙ c.in-None.is)

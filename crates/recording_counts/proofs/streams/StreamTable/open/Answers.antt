@@ -2,7 +2,7 @@ use Rattle.std.proofs.Common.{◌∙◌, ◌∷◌, [], List, ap, length, map, r
 use Rattle.recording_counts.specs.declared.packet.StreamKey.{StreamKey}
 use Rattle.recording_counts.specs.declared.stream.StreamCount.{StreamCount}
 use Rattle.recording_counts.specs.Streams.{is_same, key_cmp, key_of, stream_of}
-use Rattle.recording_counts.specs.Tables.{place_of}
+use Rattle.recording_counts.specs.Tables.{first_index}
 use Rattle.recording_counts.proofs.Keys.{exact_streams, stream_keys}
 use Rattle.recording_counts.proofs.Tables.{grown, index_grown}
 use Rattle.recording_counts.proofs.streams.StreamTable.open.Goals as goal
@@ -13,7 +13,7 @@ invariant_of-self-2 g c =
     c.append.new.places c.self.inside.counts.items c.append.new.counts.items c.note.new.self
     c.args.key (length c.self.inside.counts.items) c.self.invariant
     (sym (c.note.ensures.same ∙ ap (λ (x : StreamCount _). x.key) c.new-count.ensures))
-    (ap (λ (x : List (StreamCount _)). place_of is_same c.args.key (map (λ y. y.key) x)) c.self.view_is
+    (ap (λ (x : List (StreamCount _)). first_index is_same c.args.key (map (λ y. y.key) x)) c.self.view_is
     ∙ c.requires.absent)
     refl c.in_ok-append.ensures.counted c.in_ok-append.ensures.indexed
 

@@ -3,7 +3,7 @@ use Rattle.recording_counts.specs.declared.timestamp.TimestampCount.{TimestampCo
 use Rattle.std.proofs.lemmas.Result.{on_ok_weaker}
 use Rattle.recording_counts.specs.Timestamps.{is_same_timestamp, timestamp_cmp, timestamp_key_of}
 use Rattle.recording_counts.specs.Timestamps.{timestamp_of}
-use Rattle.recording_counts.specs.Tables.{place_of}
+use Rattle.recording_counts.specs.Tables.{first_index}
 use Rattle.recording_counts.proofs.Keys.{exact_timestamps, timestamp_keys, timestamp_parts}
 use Rattle.recording_counts.proofs.Tables.{below, index_kept, note_new, note_there}
 use Rattle.recording_counts.proofs.timestamps.TimestampTable.note.Goals as goal
@@ -46,7 +46,7 @@ returns-in-None-clause-noted g c =
     note_new is_same_timestamp timestamp_parts timestamp_key_of timestamp_of (λ x. x.key) (λ d rs. refl) packets
     c.args.packet.now c.args.self.now c.open.new.self c.timestamp_key-key.result e
     c.timestamp_key-key.ensures
-    (ap (λ (x : List TimestampCount). place_of is_same_timestamp c.timestamp_key-key.result (map (λ y. y.key) x))
+    (ap (λ (x : List TimestampCount). first_index is_same_timestamp c.timestamp_key-key.result (map (λ y. y.key) x))
     (sym c.self.view_is)
     ∙ sym (c.self.invariant c.timestamp_key-key.result) ∙ sym c.get.ensures.value
     ∙ sym c.copied.ensures ∙ c.in-None.is)

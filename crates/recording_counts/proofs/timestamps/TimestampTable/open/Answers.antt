@@ -3,7 +3,7 @@ use Rattle.recording_counts.specs.declared.packet.TimestampKey.{TimestampKey}
 use Rattle.recording_counts.specs.declared.timestamp.TimestampCount.{TimestampCount}
 use Rattle.recording_counts.specs.Timestamps.{is_same_timestamp, timestamp_cmp, timestamp_key_of}
 use Rattle.recording_counts.specs.Timestamps.{timestamp_of}
-use Rattle.recording_counts.specs.Tables.{place_of}
+use Rattle.recording_counts.specs.Tables.{first_index}
 use Rattle.recording_counts.proofs.Keys.{exact_timestamps, timestamp_keys}
 use Rattle.recording_counts.proofs.Tables.{grown, index_grown}
 use Rattle.recording_counts.proofs.timestamps.TimestampTable.open.Goals as goal
@@ -16,7 +16,7 @@ invariant_of-self-2 g c =
     c.self.invariant
     (sym (c.note.ensures.same ∙ ap (λ (x : TimestampCount). x.key) c.new-count.ensures))
     (ap
-    (λ (x : List TimestampCount). place_of is_same_timestamp c.args.key (map (λ y. y.key) x))
+    (λ (x : List TimestampCount). first_index is_same_timestamp c.args.key (map (λ y. y.key) x))
     c.self.view_is
     ∙ c.requires.absent)
     refl c.in_ok-append.ensures.counted c.in_ok-append.ensures.indexed
