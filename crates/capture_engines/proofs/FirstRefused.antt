@@ -36,8 +36,8 @@ use Rattle.capture_engines.specs.declared.receiving.Asked.{Asked}
 use Rattle.capture_engines.specs.declared.way.Way.{Way}
 use Rattle.capture_engines.proofs.ReceivedRefusals.{at_fault, fault_stops, has_text, many_stop}
 use Rattle.capture_engines.proofs.ReceivedRefusals.{text_opens}
-use Rattle.capture_engines.proofs.Rescues.{Opened, opened, parts_counted, zip_parts}
 use Rattle.capture_engines.proofs.Untaken.{front_stop}
+use Rattle.capture_engines.proofs.InOrder.{At, at_place}
 
 -- ---- what holds of a refusal
 
@@ -260,30 +260,25 @@ pub first_refused : {S X : Type 0} (window : List ℕ) (ways : List (Result Flow
     → IsFirstFilesRefusal window before ways f (zip start new) r
 first_refused {S} window ways f start now new k before b whole opens begun front behind r one =
     let Is : S × S → Type 0 = λ s. IsTurnRefusal window (way_at ways k) (b ≡ None) (f s) r in
-    let x : Opened Is (zip (drop k now) (drop k new)) =
-    opened Is (zip (drop k now) (drop k new)) one in
+    let x : At Is start new k =
+    at_place Is start new k (subst (λ (l : List S). FirstIs Is (zip l (drop k new))) behind one) in
     let taken : List (S × S) = zip (take k start) (take k now) in
     let counted : length taken ≡ k =
-    ap (λ (l : List S). length (zip (take k start) l)) (sym front)
-    ∙ parts_counted Is k start new
-    (subst (λ (l : List S). FirstIs Is (zip l (drop k new))) behind one) in
+    ap (λ (l : List S). length (zip (take k start) l)) (sym front) ∙ x.counted in
     let none_taken : k ≡ 0 → taken ≡ [] =
     λ is. ap (λ (n : ℕ). zip (take n start) (take n now)) is in
     inr (record {
       front = taken;
-      at = x.first;
-      behind = x.rest;
-      parts = zip_parts k start new
-          ∙ ap (λ (l : List S). zip (take k start) l ++ zip (drop k start) (drop k new)) front
-          ∙ ap (λ (l : List S). zip (take k start) (take k now) ++ zip l (drop k new)) (sym behind)
-          ∙ ap (λ (l : List (S × S)). zip (take k start) (take k now) ++ l) x.whole;
+      at = x.next;
+      behind = x.behind;
+      parts = x.parts ∙ ap (λ (l : List S). zip (take k start) l ++ x.next ∷ x.behind) front;
       whole = whole;
       opened = opens;
       refused =
           subst (λ (m : ℕ). IsTurnRefusal window (way_at ways m)
-          ((before ≡ None) × (taken ≡ [])) (f x.first) r) (sym counted)
+          ((before ≡ None) × (taken ≡ [])) (f x.next) r) (sym counted)
           (turn_map window (way_at ways k) (b ≡ None) ((before ≡ None) × (taken ≡ []))
-          (f x.first) r
+          (f x.next) r
           (λ none. ((begun.0 none).0, none_taken (begun.0 none).1))
           (λ both. begun.1 both.0
           (sym counted ∙ ap (λ (l : List (S × S)). length l) both.1))

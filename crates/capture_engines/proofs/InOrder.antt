@@ -10,12 +10,13 @@ use Rattle.receiver_file.specs.Saved.{kept_of}
 use Rattle.run_outcome.specs.Sources.{IsSourceText}
 use Rattle.run_outcome.specs.Timestamps.{AreTimestamps}
 use Rattle.capture_engines.specs.Printed.{received_text, tally_text}
-use Rattle.capture_engines.specs.Taking.{AreRead, AnnouncesStream, ReceivesFiles}
+use Rattle.capture_engines.specs.Taking.{AnnouncesStream, ReceivesFiles}
 use Rattle.capture_engines.specs.Taking.{FileGoes, FilesGo, Holding, SavesHolding, Stands}
 use Rattle.capture_engines.specs.Taking.{TakesFiles}
-use Rattle.std.specs.List.{zip}
+use Rattle.std.specs.List.{AllZip, zip}
 use Rattle.flow.specs.declared.flows.Flows.{Flows}
 use Rattle.run_outcome.specs.declared.refusal.Refusal.{Refusal}
+use Rattle.run_outcome.proofs.Splits.{Split, split_tell}
 use Rattle.capture_engines.specs.Files.{AreReadWhole, IsReadWhole, file_datagrams}
 use Rattle.capture_engines.specs.Files.{files_datagrams, first_way, other_ways, way_at}
 use Rattle.capture_engines.specs.Taking.{said_behind}
@@ -37,46 +38,12 @@ none_taken ways f B = record {
     said_none (Some text) = refl
 
     none : (ways : List (Result Flows Refusal)) (octets : List (List ℕ))
-        (said : Option (List ℕ)) (ds : List (List ℕ)) → AreRead f [] octets → B said ds
+        (said : Option (List ℕ)) (ds : List (List ℕ)) → AllZip f [] octets → B said ds
         → B (said_behind said octets) (ds ++ files_datagrams ways octets)
     none ways [] said ds tell stands =
         subst (λ (t : Option (List ℕ)). B t (ds ++ [])) (said_none said)
         (subst (λ (xs : List (List ℕ)). B said xs) (sym (append-nil ds)) stands)
     none ways (p ∷ ps) said ds tell stands = absurd tell
-
--- the octets of some sources and of one more
-record Split {S : Type 0} (f : S → List ℕ → Type 0) (xs : List S) (x : S)
-    (octets : List (List ℕ)) : Type 0 where
-  pub front : List (List ℕ)
-  pub last : List ℕ
-  pub whole : octets ≡ front ++ last ∷ []
-  pub counted : length front ≡ length xs
-  pub tell : AreRead f xs front
-  pub one : f x last
-
-split_tell : {S : Type 0} (f : S → List ℕ → Type 0) (xs : List S) (x : S)
-    (octets : List (List ℕ)) → AreRead f (xs ++ x ∷ []) octets → Split f xs x octets
-split_tell f [] x [] tell = absurd tell
-split_tell f [] x (p ∷ []) tell = record {
-  front = [];
-  last = p;
-  whole = refl;
-  counted = refl;
-  tell = tt;
-  one = tell.0;
-}
-split_tell f [] x (p ∷ (q ∷ ps)) tell = absurd tell.1
-split_tell f (y ∷ xs) x [] tell = absurd tell
-split_tell f (y ∷ xs) x (p ∷ ps) tell =
-    let rest : Split f xs x ps = split_tell f xs x ps tell.1 in
-    record {
-      front = p ∷ rest.front;
-      last = rest.last;
-      whole = ap (λ (l : List (List ℕ)). p ∷ l) rest.whole;
-      counted = ap suc rest.counted;
-      tell = (tell.0, rest.tell);
-      one = rest.one;
-    }
 
 -- the text is that behind some files, and then behind one more
 pub said_then : (said : Option (List ℕ)) (ps : List (List ℕ)) (p : List ℕ)
@@ -126,11 +93,9 @@ one_more ways f xs x Before B A files file = record {
 
 -- ---- pairs of sources
 
-first_is : {X : Type 0} (x y : X) (xs ys : List X) → x ∷ xs ≡ y ∷ ys → x ≡ y
-first_is x y xs ys e = cc
-
-rest_is : {X : Type 0} (x y : X) (xs ys : List X) → x ∷ xs ≡ y ∷ ys → xs ≡ ys
-rest_is x y xs ys e = cc
+no_pairs : {S : Type 0} (Is : S × S → Type 0) (xs : List S) → FirstIs Is (zip xs []) → ⊥
+no_pairs Is [] is = is
+no_pairs Is (x ∷ xs) is = is
 
 -- one source more, with what it is
 pub record NextPair {S : Type 0} (Is : S × S → Type 0) (start now : List S) (k : ℕ) : Type 0
@@ -149,16 +114,38 @@ next_pair Is (s ∷ ss) (t ∷ ts) zero is =
     record { next = (s, t); is = is; whole = refl; counted = refl }
 next_pair Is [] now (suc k) is = absurd is
 next_pair Is (s ∷ ss) [] (suc k) is = absurd (no_pairs Is (drop k ss) is)
-  where
-    no_pairs : {S : Type 0} (Is : S × S → Type 0) (xs : List S) → FirstIs Is (zip xs []) → ⊥
-    no_pairs Is [] is = is
-    no_pairs Is (x ∷ xs) is = is
 next_pair {S} Is (s ∷ ss) (t ∷ ts) (suc k) is =
     let n : NextPair Is ss ts k = next_pair Is ss ts k is in
     record {
       next = n.next;
       is = n.is;
       whole = ap (λ (l : List (S × S)). (s, t) ∷ l) n.whole;
+      counted = ap suc n.counted;
+    }
+
+-- the pair of a place, with those before it and behind it
+pub record At {S : Type 0} (Is : S × S → Type 0) (start now : List S) (k : ℕ) : Type 0 where
+  pub next : S × S
+  pub is : Is next
+  pub behind : List (S × S)
+  pub parts : zip start now ≡ zip (take k start) (take k now) ++ next ∷ behind
+  pub counted : length (zip (take k start) (take k now)) ≡ k
+
+pub at_place : {S : Type 0} (Is : S × S → Type 0) (start now : List S) (k : ℕ)
+    → FirstIs Is (zip (drop k start) (drop k now)) → At Is start now k
+at_place Is [] now zero is = absurd is
+at_place Is (s ∷ ss) [] zero is = absurd is
+at_place Is (s ∷ ss) (t ∷ ts) zero is =
+    record { next = (s, t); is = is; behind = zip ss ts; parts = refl; counted = refl }
+at_place Is [] now (suc k) is = absurd is
+at_place Is (s ∷ ss) [] (suc k) is = absurd (no_pairs Is (drop k ss) is)
+at_place {S} Is (s ∷ ss) (t ∷ ts) (suc k) is =
+    let n : At Is ss ts k = at_place Is ss ts k is in
+    record {
+      next = n.next;
+      is = n.is;
+      behind = n.behind;
+      parts = ap (λ (l : List (S × S)). (s, t) ∷ l) n.parts;
       counted = ap suc n.counted;
     }
 
@@ -308,7 +295,7 @@ no_receiver : {S A : Type 0} (o : Asked A) (ways : List (Result Flows Refusal))
     (sdp : Option (List ℕ)) → Stands o begun sdp []
     → FilesGo ways f files (Stands o begun) (Stands o (Some s)) → sdp ≡ None → files ≡ [] → ⊥
 no_receiver {S} o ways f files begun s sdp begins goes none empty =
-    let tell : AreRead f files [] = subst (λ (l : List S). AreRead f l []) (sym empty) tt in
+    let tell : AllZip f files [] = subst (λ (l : List S). AllZip f l []) (sym empty) tt in
     subst (λ (t : Option (List ℕ)). Stands o (Some s) (said_behind t []) []) none
     (goes.stands [] sdp [] tell begins)
 

@@ -1,5 +1,5 @@
 -- Pictures sent one after the other into a capture.
-use Rattle.std.proofs.Common.{◌≡◌, ℕ, zero, suc, ◌+◌, ◌-◌, ◌%◌, ◌^◌, ◌<◌, ◌≤◌, List, [], ◌∷◌}
+use Rattle.std.proofs.Common.{◌≡◌, ℕ, zero, suc, ◌+◌, ◌-◌, ◌^◌, ◌<◌, ◌≤◌, List, [], ◌∷◌}
 use Rattle.std.proofs.Common.{false, drop, Option, Result, Ok, Err, refl, sym, ap}
 use Rattle.std.proofs.Common.{◌++◌, length, subst, ◌∙◌, arith, inl, inr}
 use Rattle.std.proofs.Common.{append_assoc, append-nil, length-append, length-drop, take}
@@ -14,9 +14,6 @@ use Rattle.st_format.specs.Picture.{Values}
 use Rattle.st_format.specs.declared.device.ByteSink.{Ghosts}
 use Rattle.st_format.specs.declared.format.Format.{Format}
 use Rattle.media_file.proofs.Putting.{each_written, fails_once}
-use Rattle.media_file.specs.Faults.{CountsFault, IsDevice}
-use Rattle.media_file.specs.declared.fault.FileFault.{FileFault}
-use Rattle.media_file.specs.declared.fault.FileFault.TheVariants.{Device}
 use Rattle.media_file.proofs.Written.{records_append, took_both}
 use Rattle.media_file.specs.Fronts.{front_text}
 use Rattle.media_file.specs.Records.{Entry, records_text}
@@ -94,13 +91,6 @@ counted_once old new one = elim (cases_lt old (2 ^ 64 - 1)) [
   | inl lt ↦ inl (omega (arith, one, lt))
   | inr le ↦ inr (omega (arith, le))
 ]
-
--- a capture that could not be begun: its sink, which was lent, failed
-pub open_failed : (f : FileFault) (old now new : ℕ) → IsDevice f → CountsFault f old now
-    → new ≡ now → Failed old new
-open_failed Device old now new is one same =
-    subst (λ (n : ℕ). Failed old n) (sym same) (counted_once old now one)
-open_failed f old now new is one same = absurd is
 
 -- not all of them: its sink failed
 pub fails_picture : {K : Type 0} (held : K → Option (List ℕ)) (took : K → List ℕ)

@@ -1,5 +1,6 @@
 -- What `receive` counts of the datagrams that it was given (own).
 use Rattle.std.specs.Prelude.{◌≡◌, ℕ, List, Option, Some, Result, length, map}
+use Rattle.std.specs.List.{AllZip}
 use Rattle.flow.specs.declared.flows.Flows.{Flows}
 use Rattle.st_format.specs.Device.{capped}
 use Rattle.path_receiver.specs.Answers.{taken_at}
@@ -8,7 +9,7 @@ use Rattle.run_outcome.specs.Sources.{IsSourceText}
 use Rattle.run_outcome.specs.Timestamps.{AreTimestamps}
 use Rattle.run_outcome.specs.declared.refusal.Refusal.{Refusal}
 use Rattle.capture_engines.specs.Files.{files_datagrams}
-use Rattle.capture_engines.specs.Taking.{AnnouncesStream, AreRead, said_behind}
+use Rattle.capture_engines.specs.Taking.{AnnouncesStream, said_behind}
 use Rattle.path_receiver.specs.Tallied.{Tallies}
 use Rattle.capture_engines.specs.declared.reception.Reception.{Reception}
 
@@ -27,6 +28,6 @@ pub record CountsHolding (window source : List ℕ) (IsText : List ℕ → Type 
 pub record CountsReceived {S : Type 0} (window source : List ℕ)
     (sdp : Option (List ℕ)) (ways : List (Result Flows Refusal)) (told : S → List ℕ → Type 0)
     (files : List S) (r : Reception) : Type 0 where
-  pub counted : (octets : List (List ℕ)) → AreRead told files octets
+  pub counted : (octets : List (List ℕ)) → AllZip told files octets
       → CountsHolding window source (λ text. said_behind sdp octets ≡ Some text)
       (files_datagrams ways octets) r

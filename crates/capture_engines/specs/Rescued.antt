@@ -1,6 +1,7 @@
 -- What `receive` saves of files of which one is at fault (own).
 use Rattle.std.specs.Prelude.{◌≡◌, ◌⊎◌, ◌∷◌, ◌++◌, ℕ, Bool, List, [], Option, None, Some, Result}
 use Rattle.std.specs.Prelude.{length, false, IsTrue, MatchOption, ⊤}
+use Rattle.std.specs.List.{AllZip}
 use Rattle.flow.specs.declared.flows.Flows.{Flows}
 use Rattle.path_receiver.specs.Frames.{State}
 use Rattle.run_outcome.specs.Fault.{Blames, Failures, NoneFailed}
@@ -14,7 +15,7 @@ use Rattle.st_format.specs.History.{since}
 use Rattle.capture_engines.specs.Counted.{CountsHolding}
 use Rattle.capture_engines.specs.Files.{file_datagrams, files_datagrams, way_at}
 use Rattle.capture_engines.specs.Received.{IsFirstFilesRefusal}
-use Rattle.capture_engines.specs.Taking.{AreRead, IsOpenedHolding, IsReceiverOfFiles, SavesHolding}
+use Rattle.capture_engines.specs.Taking.{IsOpenedHolding, IsReceiverOfFiles, SavesHolding}
 use Rattle.capture_engines.specs.Taking.{TakesFiles, TakesRecords}
 use Rattle.capture_engines.specs.Taking.{said_behind, said_by}
 use Rattle.capture_engines.specs.declared.intake.Intake.{Intake}
@@ -103,10 +104,10 @@ pub record Rescues {S : Type 0} (window source : List ℕ) (sdp : Option (List �
   pub part : Option Front
   pub part_is : MatchOption part ⊤
       (IsFrontOf (way_at ways (length front)) gave ended f at)
-  pub saved : (octets : List (List ℕ)) → AreRead (WasRead gave ended) front octets
+  pub saved : (octets : List (List ℕ)) → AllZip (WasRead gave ended) front octets
       → SavesHolding window source (λ text. said_if (said_behind sdp octets) part ≡ Some text)
       (files_datagrams ways octets ++ datagrams_if part) wanted shown shown' old new
-  pub counted : (octets : List (List ℕ)) → AreRead (WasRead gave ended) front octets
+  pub counted : (octets : List (List ℕ)) → AllZip (WasRead gave ended) front octets
       → CountsHolding window source (λ text. said_if (said_behind sdp octets) part ≡ Some text)
       (files_datagrams ways octets ++ datagrams_if part) r
 
@@ -124,7 +125,7 @@ pub record IsReceiverOfPart {S : Type 0} (window source : List ℕ) (sdp : Optio
   pub part : Option Front
   pub part_is : MatchOption part ⊤
       (IsFrontOf (way_at ways (length front)) gave ended fault at)
-  pub held : (octets : List (List ℕ)) → AreRead (WasRead gave ended) front octets
+  pub held : (octets : List (List ℕ)) → AllZip (WasRead gave ended) front octets
       → IsOpenedHolding window source (λ text. said_if (said_behind sdp octets) part ≡ Some text)
       (files_datagrams ways octets ++ datagrams_if part) receiver
 

@@ -1,6 +1,6 @@
 -- Which refusal ends a run of `send`: the first in the order in which it looks (own). A list of
 -- sources is one of pairs: each source as it was before the run, and as it is behind it.
-use Rattle.std.specs.Prelude.{◌≡◌, ℕ, ◌<◌, ◌≤◌, ◌⊎◌, List, [], ◌∷◌, Option, Some}
+use Rattle.std.specs.Prelude.{◌≡◌, ℕ, ◌<◌, ◌≤◌, ◌⊎◌, List, [], ◌∷◌, Option}
 use Rattle.st_format.specs.declared.format.Format.{Format}
 use Rattle.packet_plan.specs.Plan.{IsSize}
 use Rattle.run_outcome.specs.TextRefusals.{IsTextOfRun, SaysTextOfRun}

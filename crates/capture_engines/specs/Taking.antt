@@ -2,7 +2,7 @@
 -- that begin with it, and of no others where the source has ended.
 use Rattle.std.specs.Prelude.{◌≡◌, ℕ, ◌+◌, List, [], ◌∷◌, ◌++◌, length, ⊤}
 use Rattle.std.specs.Prelude.{Bool, Option, None, Some, Result, map, MatchOption, ◌≤◌}
-use Rattle.std.specs.List.{flat_map}
+use Rattle.std.specs.List.{AllZip, flat_map}
 use Rattle.sdp_format.specs.Bytes.{lines}
 use Rattle.sdp_format.specs.Grammar.{IsDescribed}
 use Rattle.sdp_format.specs.Sections.{Description, video_sections}
@@ -39,13 +39,6 @@ pub record AnnouncesStream (text : List ℕ) (opening : Opening) : Type 0 where
   pub described : IsDescribed (video_sections (lines text)) description
   pub format : fields_of opening.format ≡ description.leg.format
   pub payload_type : opening.payload_type ≡ description.leg.payload_type
-
--- these octets were read, one list of each source
-abbrev pub AreRead : {S : Type 0} → (S → List ℕ → Type 0) → List S → List (List ℕ) → Type 0
-AreRead told [] [] = ⊤
-AreRead told [] (o ∷ os) = ⊥
-AreRead told (s ∷ ss) [] = ⊥
-AreRead told (s ∷ ss) (o ∷ os) = told s o × AreRead told ss os
 
 -- an intake's tally counts the answers to these datagrams
 abbrev pub CountsAnswers : {A : Type 0} → Intake A → List (List ℕ) → Type 0
@@ -112,7 +105,7 @@ pub record FileGoes (w : Way) (told : List ℕ → Type 0) (Before After : Holdi
 pub record FilesGo {S : Type 0} (ways : List (Result Flows Refusal)) (told : S → List ℕ → Type 0)
     (files : List S) (Before After : Holding) : Type 0 where
   pub stands : (octets : List (List ℕ)) (said : Option (List ℕ)) (earlier : List (List ℕ))
-      → AreRead told files octets → Before said earlier
+      → AllZip told files octets → Before said earlier
       → After (said_behind said octets) (earlier ++ files_datagrams ways octets)
 
 -- the same of an intake: datagrams were taken, a file to its end, and so all files
@@ -172,7 +165,7 @@ pub record SavesHolding (window source : List ℕ) (IsText : List ℕ → Type 0
 pub record Receives {S : Type 0} (window source : List ℕ) (sdp : Option S)
     (told : S → List ℕ → Type 0) (captures : List S) (wanted : Bool)
     (shown shown' old new : List ℕ) : Type 0 where
-  pub saved : (octets : List (List ℕ)) → AreRead told captures octets
+  pub saved : (octets : List (List ℕ)) → AllZip told captures octets
       → SavesHolding window source (IsOpeningText told sdp octets)
       (flat_map capture_datagrams octets) wanted shown shown' old new
   pub opened : sdp ≡ None → captures ≡ [] → ⊥
@@ -183,7 +176,7 @@ pub record Receives {S : Type 0} (window source : List ℕ) (sdp : Option S)
 pub record ReceivesFiles {S : Type 0} (window source : List ℕ) (sdp : Option (List ℕ))
     (ways : List (Result Flows Refusal)) (told : S → List ℕ → Type 0) (files : List S)
     (wanted : Bool) (shown shown' old new : List ℕ) : Type 0 where
-  pub saved : (octets : List (List ℕ)) → AreRead told files octets
+  pub saved : (octets : List (List ℕ)) → AllZip told files octets
       → SavesHolding window source (λ text. said_behind sdp octets ≡ Some text)
       (files_datagrams ways octets) wanted shown shown' old new
   pub opened : sdp ≡ None → files ≡ [] → ⊥
@@ -204,12 +197,12 @@ pub record IsOpenedHolding (window source : List ℕ) (IsText : List ℕ → Typ
 abbrev pub IsReceiverOfRun : {S : Type 0} → List ℕ → List ℕ → Option S → (S → List ℕ → Type 0)
     → List S → State → Type 0
 IsReceiverOfRun window source sdp told captures receiver = (octets : List (List ℕ))
-    → AreRead told captures octets → IsOpenedHolding window source (IsOpeningText told sdp octets)
+    → AllZip told captures octets → IsOpenedHolding window source (IsOpeningText told sdp octets)
     (flat_map capture_datagrams octets) receiver
 
 -- the same of files, each taken so, where the SDP text is given itself
 abbrev pub IsReceiverOfFiles : {S : Type 0} → List ℕ → List ℕ → Option (List ℕ)
     → List (Result Flows Refusal) → (S → List ℕ → Type 0) → List S → State → Type 0
 IsReceiverOfFiles window source sdp ways told files receiver = (octets : List (List ℕ))
-    → AreRead told files octets → IsOpenedHolding window source
+    → AllZip told files octets → IsOpenedHolding window source
     (λ text. said_behind sdp octets ≡ Some text) (files_datagrams ways octets) receiver

@@ -1,5 +1,5 @@
 -- What the first octets of a file say of it, and of several files.
-use Rattle.std.proofs.Common.{◌≡◌, ◌∙◌, ◌⊎◌, ◌++◌, ◌<◌, ◌≤◌, ◌∷◌, [], All, Bool, List, ap}
+use Rattle.std.proofs.Common.{◌≡◌, ◌∙◌, ◌++◌, ◌<◌, ◌≤◌, ◌∷◌, [], All, Bool, List, ap}
 use Rattle.std.proofs.Common.{append-nil, arith, false, inl, inr, length, refl, subst}
 use Rattle.std.proofs.Common.{sym, take, true, ℕ}
 use Rattle.std.proofs.Math.Nat.{eq-or-lt_of_le}
@@ -10,7 +10,6 @@ use Rattle.std.proofs.lemmas.List.Elements.{All-append, All-cons, All-nil}
 use Rattle.std.specs.Prelude.{Any}
 use Rattle.capture_runs.specs.Looked.{BeginsAsCapture, BeginsCapture, HaveCapture, IsLooked}
 use Rattle.capture_runs.specs.Looked.{IsNoCapture}
-use Rattle.capture_runs.specs.Looked.{is_capture}
 use Rattle.capture_runs.specs.Replayed.{replayed_ended, replayed_gave}
 use Rattle.capture_runs.specs.declared.replayed.Replayed.{Replayed}
 use Rattle.media_file.specs.Fronts.{capture_name}

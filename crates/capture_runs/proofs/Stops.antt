@@ -1,5 +1,5 @@
 -- The files of `follow` where a run is refused.
-use Rattle.std.proofs.Common.{◌≡◌, ℕ, ◌⊎◌, inl, inr, List, [], Option, Result, Ok, Err, IfErr, refl}
+use Rattle.std.proofs.Common.{◌≡◌, ℕ, inl, inr, List, [], Option, Result, Ok, Err, IfErr, refl}
 use Rattle.std.proofs.Common.{subst, sym}
 use Rattle.capture_runs.specs.Followed.{StopsFiles}
 use Rattle.capture_runs.specs.Outputs.{AreSinksOver, FilesFrames, FollowSinks, SameOutputs}

@@ -1,7 +1,7 @@
 -- The files that `follow` writes, where they are named (own).
 use Rattle.std.specs.Prelude.{◌≡◌, ◌⊎◌, ◌+◌, ℕ, Bool, List, [], ◌++◌, Option, None, Some, IfSome}
 use Rattle.std.specs.Prelude.{IsFalse, IsSome, option_map}
-use Rattle.capture_runs.specs.Pictured.{IsSinkOver, SameFile, TakesPictureStream, failures_under}
+use Rattle.capture_runs.specs.Pictured.{IsSinkOver, SameFile, failures_under}
 use Rattle.capture_runs.specs.Pictured.{file_under, octets_under}
 use Rattle.capture_runs.specs.declared.outputs.FollowOutputs.{FollowOutputs}
 use Rattle.capture_runs.specs.declared.picture_directory.PictureDirectory.{PictureDirectory}

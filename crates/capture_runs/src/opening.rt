@@ -1,9 +1,8 @@
 //! What `receive`, `inspect` and `follow` read: the SDP, where one is named, and captures and
 //! recordings.
-ghost use Rattle.std.specs.Prelude.{◌≡◌, ◌⊎◌, [], All, IfErr, IfOk, IsFalse, None, OnOk, Some};
-ghost use Rattle.std.specs.Prelude.{length, vec_len};
+ghost use Rattle.std.specs.Prelude.{◌≡◌, [], IfErr, IfOk, IsFalse, None, OnOk, Some};
+ghost use Rattle.std.specs.Prelude.{length};
 ghost use Rattle.std.specs.Option.{option_copied};
-ghost use Rattle.capture_runs.specs.Looked.{ReadNone};
 ghost use Rattle.capture_runs.specs.Opened.{AreUnread, said_text};
 ghost use Rattle.capture_runs.specs.Refused.{HasSdpText, IsFlowRefusal, IsReceiveStartRefusal};
 ghost use Rattle.capture_runs.specs.Refused.{IsTooLongSdp};

@@ -1,12 +1,7 @@
 -- What several clauses say of one outcome, and lists of devices that were lent and come back.
-use Rattle.std.proofs.Common.{◌≡◌, ℕ, ◌+◌, ◌≤◌, List, [], ◌++◌, length, take, drop}
-use Rattle.std.proofs.Common.{append-nil, sym, ◌∙◌, ap, subst, refl, inl, Result, Ok, Err, arith}
-use Rattle.std.specs.Prelude.{◌⊎◌, IfErr, OnOk}
-use Rattle.run_outcome.specs.Refusing.{OfRefusal}
-use Rattle.run_outcome.specs.declared.fault.Fault.{Fault}
-use Rattle.run_outcome.specs.declared.fault.Fault.TheVariants.{Refused, Device, Memory}
-use Rattle.run_outcome.specs.declared.refusal.Refusal.{Refusal}
-use Rattle.std.proofs.Math.Seq.{take-length}
+use Rattle.std.proofs.Common.{◌≡◌, ℕ, ◌+◌, List, [], ◌++◌, length, take, drop}
+use Rattle.std.proofs.Common.{append-nil, ◌∙◌, ap, Result, Ok, Err, arith}
+use Rattle.std.specs.Prelude.{OnOk}
 use Rattle.std.proofs.lemmas.List.{take_all, drop_all}
 
 -- two of an outcome that is no fault
@@ -20,14 +15,6 @@ pub on_ok_all : {V E : Type 0} (P Q R S : Type 0) (r : Result V E) → OnOk r P 
     → OnOk r (R × S) → OnOk r (P × Q × R × S)
 on_ok_all P Q R S (Ok v) p q rs = (p, q, rs.0, rs.1)
 on_ok_all P Q R S (Err e) p q rs = tt
-
--- a refusal that speaks against one thing speaks against it or another
-pub refused_or : {V : Type 0} (P Q : Refusal → Type 0) (r : Result V Fault)
-    → IfErr r (λ f. OfRefusal f P) → IfErr r (λ f. OfRefusal f (λ x. P x ⊎ Q x))
-refused_or P Q (Ok v) is = tt
-refused_or P Q (Err (Refused x)) is = inl is
-refused_or P Q (Err Device) is = tt
-refused_or P Q (Err Memory) is = tt
 
 -- what a vector of so many holds behind a loan of all of it
 pub vec_back : {A : Type 0} (len : ℕ) (items lent : List A) → len ≡ length items

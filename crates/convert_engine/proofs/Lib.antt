@@ -1,4 +1,4 @@
 mod Contents
 mod Passing
-mod Saying
-mod Refusals
+pub mod Saying
+pub mod Refusals

@@ -21,7 +21,7 @@ use Rattle.convert_engine.specs.Inputs.{frame_at_place}
 use Rattle.convert_engine.proofs.Contents.{content_map, content_told}
 
 -- what was read first, then, and is behind it
-two_parts : (a b c first next octets : List ℕ) (ended : Type 0) → b ≡ a ++ first → c ≡ b ++ next
+pub two_parts : (a b c first next octets : List ℕ) (ended : Type 0) → b ≡ a ++ first → c ≡ b ++ next
     → (q : IsRead a c ended octets) → octets ≡ first ++ (next ++ q.behind)
 two_parts a b c first next octets ended p r q =
     let grown : c ≡ a ++ (first ++ next) =
@@ -29,7 +29,7 @@ two_parts a b c first next octets ended p r q =
     q.parts ∙ ap (λ (l : List ℕ). l ++ q.behind) (since_is a c (first ++ next) grown)
     ∙ append_assoc first next q.behind
 
-one_part : (a b first octets : List ℕ) (ended : Type 0) → b ≡ a ++ first
+pub one_part : (a b first octets : List ℕ) (ended : Type 0) → b ≡ a ++ first
     → (q : IsRead a b ended octets) → octets ≡ first ++ q.behind
 one_part a b first octets ended p q =
     q.parts ∙ ap (λ (l : List ℕ). l ++ q.behind) (since_is a b first p)

@@ -8,8 +8,8 @@ use Rattle.media_file.specs.Records.{Entry}
 use Rattle.flow.specs.FlowText.{Finds, IsFlowText, IsInterfaceText, SpellsSource}
 use Rattle.interface_name.specs.declared.name.InterfaceName.{InterfaceName}
 use Rattle.flow.specs.declared.flows.Flow.{Flow}
-use Rattle.export_engine.specs.Packets.{IsEnvelopeText, datagram_by, envelope_from, packet_by}
-use Rattle.export_engine.specs.Packets.{packet_text, sent_by}
+use Rattle.export_engine.specs.Packets.{IsEnvelopeText, datagram_record, envelope_from}
+use Rattle.export_engine.specs.Packets.{packet_record, packet_text, sent_by}
 use Rattle.export_engine.specs.declared.places.Envelopes.{Envelopes}
 use Rattle.export_engine.specs.declared.places.IpEnvelope.{IpEnvelope}
 
@@ -37,14 +37,14 @@ front_written count n text old new value is same room =
 
 -- the packet of a record
 pub packet_taken : (es : Envelopes) (e : Entry) (envelope : IpEnvelope) (text : List ℕ)
-    → Some envelope ≡ sent_by es e → text ≡ datagram_by envelope e.moment e.octets
+    → Some envelope ≡ sent_by es e → text ≡ datagram_record envelope e.moment e.octets
     → text ≡ packet_text es e
 packet_taken es e envelope text sent is =
-    is ∙ ap (λ (o : Option IpEnvelope). packet_by o e) sent
+    is ∙ ap (λ (o : Option IpEnvelope). packet_record o e) sent
 
 -- ---- flows
 
-abbrev flow_at : Option IpAddr → IpAddr → ℕ → Flow
+abbrev pub flow_at : Option IpAddr → IpAddr → ℕ → Flow
 flow_at source address port =
     record { interface = None; source = source; address = Some address; port = port }
 

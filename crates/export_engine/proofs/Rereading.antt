@@ -23,10 +23,11 @@ use Rattle.pcap_file.specs.declared.link.Link.TheVariants.{Ethernet}
 use Rattle.pcap_file.proofs.Writes.{is_datagram, is_record}
 use Rattle.pcap_file.proofs.Writes6.{is_datagram6, is_record6}
 use Rattle.export_engine.specs.Packets.{AreEnvelopes, IsEnvelopeText, IsSecondText, can_say}
-use Rattle.export_engine.specs.Packets.{datagram_by, envelope_4, envelope_6, envelope_from}
-use Rattle.export_engine.specs.Packets.{envelope_of, if_said, most_payload, packet_by, packets_text}
-use Rattle.export_engine.specs.Packets.{pcap_text, sender, sender6, sent_by}
-use Rattle.export_engine.specs.Reread.{datagram_in, frame_by, packet_of, packets_of, recorded_by}
+use Rattle.export_engine.specs.Packets.{datagram_record, envelope_4, envelope_6, envelope_from}
+use Rattle.export_engine.specs.Packets.{envelope_of, if_said, most_payload, packet_record}
+use Rattle.export_engine.specs.Packets.{packets_text, pcap_text, sender, sender6, sent_by}
+use Rattle.export_engine.specs.Reread.{enveloped_datagram, frame_by, packet_of, packets_of}
+use Rattle.export_engine.specs.Reread.{recorded_by}
 use Rattle.export_engine.specs.declared.places.Envelopes.{Envelopes}
 use Rattle.export_engine.specs.declared.places.IpEnvelope.{IpEnvelope}
 use Rattle.export_engine.specs.declared.places.IpEnvelope.TheVariants.{V4, V6}
@@ -166,13 +167,13 @@ sent es e envelope is = of (envelope_of es e.path) refl is
 -- ---- the recording
 
 one_datagram : (w : IpEnvelope) → Fits w → (payload : List ℕ) → length payload ≤ most_payload w
-    → IsDatagram Ethernet (frame_by w payload) (datagram_in w payload)
+    → IsDatagram Ethernet (frame_by w payload) (enveloped_datagram w payload)
 one_datagram (V4 w) fits payload few = is_datagram w fits payload few
 one_datagram (V6 w) fits payload few = is_datagram6 w fits payload few
 
 one_record : (w : IpEnvelope) → Fits w → (payload : List ℕ) → length payload ≤ most_payload w
     → (time : ℕ) → time < 2 ^ 32 * 1000000000
-    → IsRecord written_file (datagram_by w time payload) (recorded_by w time payload)
+    → IsRecord written_file (datagram_record w time payload) (recorded_by w time payload)
 one_record (V4 w) fits payload few time small = is_record w fits payload few time small
 one_record (V6 w) fits payload few time small = is_record6 w fits payload few time small
 
@@ -181,16 +182,16 @@ module _ (a : List ℕ) (b : Option (List ℕ)) (es : Envelopes) (are : AreEnvel
   fits e envelope is = path_fits a b es are e.path envelope (sent es e envelope is).from
 
   pub are_datagrams : (e : Entry) (envelope : IpEnvelope) → sent_by es e ≡ Some envelope
-      → IsDatagram Ethernet (frame_by envelope e.octets) (datagram_in envelope e.octets)
+      → IsDatagram Ethernet (frame_by envelope e.octets) (enveloped_datagram envelope e.octets)
   are_datagrams e envelope is =
       one_datagram envelope (fits e envelope is) e.octets (sent es e envelope is).few
 
   one_more : (e : Entry) (o : Option IpEnvelope) → sent_by es e ≡ o → (text : List ℕ)
       (packets : List Recorded) → AreRecords written_file text packets
-      → AreRecords written_file (packet_by o e ++ text) (cons_option (packet_of o e) packets)
+      → AreRecords written_file (packet_record o e ++ text) (cons_option (packet_of o e) packets)
   one_more e None is text packets all = all
   one_more e (Some envelope) is text packets all = (
-    datagram_by envelope e.moment e.octets,
+    datagram_record envelope e.moment e.octets,
     text,
     one_record envelope (fits e envelope is) e.octets (sent es e envelope is).few e.moment
         (sent es e envelope is).time,

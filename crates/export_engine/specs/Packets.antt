@@ -107,18 +107,18 @@ abbrev pub sent_by : Envelopes → Entry → Option IpEnvelope
 sent_by es e = if_said (envelope_of es e.path) e.moment (length e.octets)
 
 -- a datagram, as a record of pcap
-abbrev pub datagram_by : IpEnvelope → ℕ → List ℕ → List ℕ
-datagram_by (V4 e) time payload = datagram_text e time payload
-datagram_by (V6 e) time payload = datagram6_text e time payload
+abbrev pub datagram_record : IpEnvelope → ℕ → List ℕ → List ℕ
+datagram_record (V4 e) time payload = datagram_text e time payload
+datagram_record (V6 e) time payload = datagram6_text e time payload
 
 -- a packet, at the record's moment
-abbrev pub packet_by : Option IpEnvelope → Entry → List ℕ
-packet_by None e = []
-packet_by (Some envelope) e = datagram_by envelope e.moment e.octets
+abbrev pub packet_record : Option IpEnvelope → Entry → List ℕ
+packet_record None e = []
+packet_record (Some envelope) e = datagram_record envelope e.moment e.octets
 
 -- the packet of a record, at its moment; nothing, where the record is left out
 abbrev pub packet_text : Envelopes → Entry → List ℕ
-packet_text es e = packet_by (sent_by es e) e
+packet_text es e = packet_record (sent_by es e) e
 
 -- packets, one after the other
 abbrev pub packets_text : Envelopes → List Entry → List ℕ

@@ -24,9 +24,9 @@ frame_by (V4 e) payload = frame_text e payload
 frame_by (V6 e) payload = frame6_text e payload
 
 -- the datagram that these are
-abbrev pub datagram_in : IpEnvelope → List ℕ → Datagram
-datagram_in (V4 e) payload = datagram_of e payload
-datagram_in (V6 e) payload = datagram_of (ends_of e) payload
+abbrev pub enveloped_datagram : IpEnvelope → List ℕ → Datagram
+enveloped_datagram (V4 e) payload = datagram_of e payload
+enveloped_datagram (V6 e) payload = datagram_of (ends_of e) payload
 
 -- the packet that a record has: at its moment
 abbrev pub packet_of : Option IpEnvelope → Entry → Option Recorded
@@ -46,4 +46,4 @@ IsReread = (a : List ℕ) (b : Option (List ℕ)) (es : Envelopes) → AreEnvelo
 abbrev pub AreDatagrams : Type 0
 AreDatagrams = (a : List ℕ) (b : Option (List ℕ)) (es : Envelopes) → AreEnvelopes a b es
     → (e : Entry) (envelope : IpEnvelope) → sent_by es e ≡ Some envelope
-    → IsDatagram Ethernet (frame_by envelope e.octets) (datagram_in envelope e.octets)
+    → IsDatagram Ethernet (frame_by envelope e.octets) (enveloped_datagram envelope e.octets)

@@ -6,7 +6,7 @@ ghost use Rattle.media_file.specs.Capture.{capture_walk, records_at};
 ghost use Rattle.media_file.specs.Fields.{GaveFault};
 ghost use Rattle.media_file.specs.Migrated.{CountsEither, IsOfCapture};
 ghost use Rattle.pcap_file.specs.Writing.{file_text};
-ghost use Rattle.export_engine.specs.Packets.{datagram_by, most_payload, packet_count};
+ghost use Rattle.export_engine.specs.Packets.{datagram_record, most_payload, packet_count};
 ghost use Rattle.export_engine.specs.Packets.{packet_text};
 ghost use Rattle.export_engine.specs.Exported.{ExportsCapture, ExportsRecords, StopsExport};
 ghost use Rattle.export_engine.specs.Exported.{StopsPackets};
@@ -37,7 +37,7 @@ fn write_datagram(packet: &mut [u8], envelope: &IpEnvelope, time: u64, payload: 
     requires time { time < 2 ^ 32 * 1000000000 }
     ensures room { length packet.new ≡ length packet.old }
     ensures count { result ≤ length packet.new }
-    ensures written { take result packet.new ≡ datagram_by envelope.now time payload.now }
+    ensures written { take result packet.new ≡ datagram_record envelope.now time payload.now }
 {
     match envelope {
         IpEnvelope::V4(envelope) => write_record(packet, envelope, time, payload),

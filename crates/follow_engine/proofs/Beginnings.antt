@@ -52,7 +52,7 @@ none_given w ssrc (Some text) (Some r) none is = absurd cc
 
 -- ---- files that were opened
 
-fresh_file : {A S : Type 0} (f : ImportFile A S) → IsUnread f → IsFreshFile f
+pub fresh_file : {A S : Type 0} (f : ImportFile A S) → IsUnread f → IsFreshFile f
 fresh_file (Closed s) unread = tt
 fresh_file (Open r) unread = (unread.reading, unread.none)
 fresh_file Taken unread = tt

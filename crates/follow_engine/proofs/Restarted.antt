@@ -1,6 +1,6 @@
 -- A stream that is followed anew: what leaves it behind that depends on what came behind it alone.
-use Rattle.std.proofs.Common.{◌≡◌, ℕ, Bool, true, false, cond, List, [], ◌∷◌, ◌++◌, Option, None, Some}
-use Rattle.std.proofs.Common.{Result, refl, sym, ap, ◌∙◌, append_assoc, append-nil}
+use Rattle.std.proofs.Common.{◌≡◌, ℕ, Bool, true, false, cond, List, [], ◌∷◌, ◌++◌, Option, None}
+use Rattle.std.proofs.Common.{Some, Result, refl, sym, ap, ◌∙◌, append_assoc, append-nil}
 use Rattle.std.proofs.lemmas.List.Elements.{filter_map-append}
 use Rattle.path_receiver.specs.Opening.{Opening}
 use Rattle.path_receiver.specs.declared.answer.Refusal.{Refusal}
@@ -18,6 +18,7 @@ use Rattle.follow_engine.specs.Events.{turn_taken}
 use Rattle.follow_engine.specs.Plain.{NoneAnew}
 use Rattle.follow_engine.proofs.Turns.{stays_turned}
 use Rattle.follow_engine.proofs.Without.{follower_behind, frames_at, leaving_frames}
+use Rattle.follow_engine.proofs.Leaving.{begun_by}
 
 -- ---- what leaves a follower, where only lost datagrams came since
 
@@ -117,24 +118,15 @@ all_frames eager r (octets ∷ ds) =
 
 -- ---- followed anew
 
-abbrev empty_of : Opening → ℕ → ℕ → Following
-empty_of o size ahead = record {
-  opening = o;
-  frames = [];
-  size = size;
-  most_ahead = ahead;
-  gone = None;
-}
-
 -- a follower that begins again is the same behind a turn
 begun_turned : (eager : Bool) (f : Following) (octets : List ℕ)
     → begun_again (turned eager f octets) ≡ begun_again f
 begun_turned eager f octets =
     let t : Following = turned eager f octets in
     let stays = stays_turned eager f octets in
-    ap (λ (o : Opening). empty_of o t.size t.most_ahead) stays.opening
-    ∙ ap (λ (n : ℕ). empty_of (begun_again f).opening n t.most_ahead) stays.size
-    ∙ ap (λ (n : ℕ). empty_of (begun_again f).opening f.size n) stays.ahead
+    ap (λ (o : Opening). begun_by o t.size t.most_ahead) stays.opening
+    ∙ ap (λ (n : ℕ). begun_by (begun_again f).opening n t.most_ahead) stays.size
+    ∙ ap (λ (n : ℕ). begun_by (begun_again f).opening f.size n) stays.ahead
 
 -- nothing is noted then
 since_none : (bound : ℕ) (since time : Option ℕ) (answer : Result Followed Refusal)

@@ -7,7 +7,7 @@ use Rattle.std.specs.List.{list_all}
 use Rattle.std.proofs.lemmas.Bool.{cases_lt, le-ltb}
 use Rattle.st_format.specs.Member.{IsMember}
 use Rattle.st_format.specs.Raster.{Raster}
-use Rattle.st_format.proofs.Members.{member_cases, member_left, member_right}
+use Rattle.st_format.proofs.Members.{member_left, member_right}
 use Rattle.path_receiver.specs.declared.answer.Refusal.{Refusal}
 use Rattle.path_receiver.specs.Grammar.{Datagram}
 use Rattle.path_receiver.specs.Opening.{Opening}
@@ -31,10 +31,11 @@ use Rattle.following.proofs.Insertions.{AllNear, IsInReach, IsPast, count_older,
 use Rattle.following.proofs.Insertions.{place_near}
 use Rattle.following.proofs.Insertions.{standing-new, wrapped_if}
 use Rattle.following.proofs.Near.{newer-near}
-use Rattle.following.proofs.Ordered.{Rises, length-with_time, order_keeps, parts_rise}
+use Rattle.following.proofs.Ordered.{Rises, length-with_time, parts_rise}
 use Rattle.following.proofs.Ordered.{rises_last, with_time-there}
 use Rattle.following.proofs.Streams.{Ends, EndsIn, below_end, came, cases_member, end_in, few_at}
-use Rattle.following.proofs.Streams.{order_more, rises, times_at, times_refused}
+use Rattle.following.proofs.Streams.{fresh_is, older_all, order_more, rises, times_at}
+use Rattle.following.proofs.Streams.{times_refused}
 use Rattle.following.proofs.Taken.{answer-for}
 use Rattle.following.proofs.Windows.{after-inside, after-new, after-refused, due-full, due-inside}
 use Rattle.following.proofs.Windows.{due-new, due-refused, frames_in-shaped, shaped, stands-shaped}
@@ -108,15 +109,6 @@ gone_older u gone win None h ends past x m =
 gone_older u gone win (Some g) h ends past x m =
     let le : x ≤ g = below_end gone win g h ends x m in
     let lt : g < u = past.0 in omega (arith, le, lt)
-
-fresh_is : (u : ℕ) (us gone win : List ℕ) → in_order us ≡ gone ++ win
-    → ((x : ℕ) → IsMember x gone → x < u) → (IsMember u win → ⊥) → IsMember u us → ⊥
-fresh_is u us gone win e less out m =
-    elim (member_cases u gone win
-    (subst (λ (xs : List ℕ). IsMember u xs) e (order_keeps u [] us (inr m)))) [
-      | inl k ↦ let lt : u < u = less u k in absurd (omega (arith, lt))
-      | inr k ↦ out k
-    ]
 
 -- ---- one that has no place is late
 
@@ -347,15 +339,6 @@ step_room o size ahead xs acts y d read stamp next go gone win last stage none w
     (λ x k. one_more x u (reading_of o y.octets) (times_of o (taken_of acts))
     (not_newer x u (less x k)))
     (go gone new last more)
-
-older_all : (u v : ℕ) (gone : List ℕ) → ((x : ℕ) → IsMember x gone → x < u) → v < u → (x : ℕ)
-    → IsMember x (gone ++ v ∷ []) → x < u
-older_all u v gone less lt x m = at (member_cases x gone (v ∷ []) m)
-  where
-    at : IsMember x gone ⊎ IsMember x (v ∷ []) → x < u
-    at (inl k) = less x k
-    at (inr (inl e)) = omega (arith, lt, e)
-    at (inr (inr k)) = absurd k
 
 step_full : (o : Opening) (size ahead : ℕ) (xs : List Timed) (acts : List Act) (y : Timed)
     (d : Datagram) → reading_of o y.octets ≡ Ok d → d.timestamp ≡ wrapped y.time

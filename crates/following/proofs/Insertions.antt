@@ -89,7 +89,7 @@ all_later u (v ∷ vs) near all =
     (newer-near v u (near_back u v (near v (inl refl))) ∙ lt-ltb u v (all v (inl refl)))
     (all_later u vs (rest_near u v vs near) (λ x m. all x (inr m)))
 
-less_than : (u v : ℕ) → (u ≡ v → ⊥) → u ≤ v → u < v
+pub less_than : (u v : ℕ) → (u ≡ v → ⊥) → u ≤ v → u < v
 less_than u v ne le = omega arith
 
 behind_at : (u v : ℕ) (vs : List ℕ) (b : Bool) → nat_lt v u ≡ b → AllNear u (v ∷ vs)

@@ -1,7 +1,7 @@
 -- How many frames hold a stream of times that come in an order.
 use Rattle.std.proofs.Common.{◌≡◌, ℕ, suc, ◌+◌, ◌-◌, ◌<◌, ◌≤◌, ◌⊎◌, inl, inr, Bool, true, false}
-use Rattle.std.proofs.Common.{cond, eqb, List, [], ◌∷◌, ◌++◌, length, map, drop, Option, refl, sym, ap}
-use Rattle.std.proofs.Common.{subst, ◌∙◌, arith, append_assoc, append-nil}
+use Rattle.std.proofs.Common.{cond, eqb, List, [], ◌∷◌, ◌++◌, length, map, drop, Option, refl, sym}
+use Rattle.std.proofs.Common.{ap, subst, ◌∙◌, arith, append_assoc, append-nil}
 use Rattle.std.specs.Prelude.{nat_lt, max}
 use Rattle.std.specs.List.{AllByRecursion, filter, insert}
 use Rattle.std.proofs.lemmas.Bool.{cases_lt, eq-eqb, eqb-false, eqb-true, le-ltb, lt-ltb, ltb-false}
@@ -14,7 +14,8 @@ use Rattle.following.specs.Need.{noted_behind}
 use Rattle.following.specs.Serial.{wrapped}
 use Rattle.following.specs.Standing.{is_that, is_there, place_in}
 use Rattle.following.specs.Times.{AreWithin, IsOrderly, in_order, newer_than, with_time}
-use Rattle.following.proofs.Insertions.{AllNear, count_older, insert-map, not_there, place_near, there}
+use Rattle.following.proofs.Insertions.{AllNear, count_older, insert-map, less_than, not_there}
+use Rattle.following.proofs.Insertions.{place_near, there}
 use Rattle.following.proofs.Ordered.{Rises, few_newer, in_order-more, later, length-with_time}
 use Rattle.following.proofs.Ordered.{order_from, parts_rise, rises_behind, rises_last}
 use Rattle.following.proofs.Ordered.{with_time-behind, with_time-there}
@@ -224,9 +225,6 @@ some_older c e = omega (arith, e)
 
 less_one : (c : ℕ) → suc c - 1 ≡ c
 less_one c = omega arith
-
-less_than : (u v : ℕ) → (u ≡ v → ⊥) → u ≤ v → u < v
-less_than u v ne le = omega arith
 
 all_less : (gone : List ℕ) (v u : ℕ) (win : List ℕ) → Rises (gone ++ v ∷ win) → v < u
     → AllByRecursion (λ x. x < u) (gone ++ v ∷ [])

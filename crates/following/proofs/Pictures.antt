@@ -1,7 +1,7 @@
 -- A sender's pictures are handed out in order, with nothing missing.
-use Rattle.std.proofs.Common.{◌≡◌, ℕ, zero, suc, ◌+◌, ◌*◌, ◌/◌, ◌%◌, ◌^◌, ◌<◌, ◌≤◌, inl, inr}
-use Rattle.std.proofs.Common.{Bool, true, false, cond, eqb, List, [], ◌∷◌, length, map, Option}
-use Rattle.std.proofs.Common.{None, Some, Result, Ok, Err, refl, sym, ap, ◌∙◌, subst, arith, mul-pos}
+use Rattle.std.proofs.Common.{◌≡◌, ℕ, zero, suc, ◌+◌, ◌*◌, ◌/◌, ◌%◌, ◌^◌, ◌<◌, ◌≤◌, inl, inr, Bool}
+use Rattle.std.proofs.Common.{true, false, cond, eqb, List, [], ◌∷◌, length, map, Option, None}
+use Rattle.std.proofs.Common.{Some, Result, Ok, Err, refl, sym, ap, ◌∙◌, subst, arith, mul-pos}
 use Rattle.std.specs.Prelude.{slice_get}
 use Rattle.std.specs.List.{AllByRecursion, range_with_len}
 use Rattle.std.proofs.lemmas.Bool.{eq-eqb}
@@ -35,8 +35,8 @@ use Rattle.following.specs.Following.{Handed, handed_out}
 use Rattle.following.specs.Pictures.{BroughtAll, picture_time, pictures_from, time_behind}
 use Rattle.following.specs.Pictures.{timed_from, times_from}
 use Rattle.following.specs.Times.{AreInHalf, AreInRound, AreTimed, IsInHalf, IsOrderly, Timed}
-use Rattle.following.specs.Times.{frame_of, handed_at, handed_of, in_order, octets_of, time_if, time_of}
-use Rattle.following.specs.Times.{times_of}
+use Rattle.following.specs.Times.{frame_of, handed_at, handed_of, in_order, octets_of, time_if}
+use Rattle.following.specs.Times.{time_of, times_of}
 use Rattle.following.proofs.Ordered.{Rises, rises_behind}
 use Rattle.following.proofs.Orders.{order_members, same_rising}
 use Rattle.following.proofs.Streams.{whole_stream}
@@ -80,7 +80,7 @@ packet_read o p stamp i l rs octets open_for sent =
     } in
     record { datagram = g; read = admitted_for o octets g f; is = sent.timestamp }
 
-picture_read : (o : Opening) (p : Values) (stamp : Stamp) (i : ℕ) (qs : List (List PacketRun))
+pub picture_read : (o : Opening) (p : Values) (stamp : Stamp) (i : ℕ) (qs : List (List PacketRun))
     (ds : List (List ℕ)) (octets : List ℕ) → IsOpenFor o p.format stamp.payload_type stamp.ssrc
     → AreSent ds p stamp i qs → IsMember octets ds → IsStamped o octets stamp.timestamp
 picture_read o p stamp i [] [] octets open_for sent m = absurd m
@@ -157,7 +157,7 @@ some_sent p stamp size qs (d ∷ ds) is = (d, inl refl)
 abbrev ticks : Format → ℕ → ℕ
 ticks f k = k * 90000 * f.d / f.n
 
-ticks_below : (k n d : ℕ) → 0 < n → d ≤ n → k < 10000 → k * 90000 * d / n ≤ 899910000
+pub ticks_below : (k n d : ℕ) → 0 < n → d ≤ n → k < 10000 → k * 90000 * d / n ≤ 899910000
 ticks_below k n d pos le lt =
     div-le_of_le-mul n {n = 899910000}
     (omega (arith, mul-le (k * 90000) d 899910000 n (omega arith) le))
@@ -177,7 +177,7 @@ few_ticks f k lt = ticks_below k f.n f.d f.sane_rate.some_n f.sane_rate.at_least
 more_ticks : (f : Format) (j k : ℕ) → j < k → ticks f j < ticks f k
 more_ticks f j k lt = ticks_up j k f.n f.d f.sane_rate.some_n f.sane_rate.at_most_300 lt
 
-ahead_ticks : (base t ts : ℕ) → t ≤ 899910000 → ts ≡ (base + t) % 2 ^ 32 → ahead_of ts base ≡ t
+pub ahead_ticks : (base t ts : ℕ) → t ≤ 899910000 → ts ≡ (base + t) % 2 ^ 32 → ahead_of ts base ≡ t
 ahead_ticks base t ts few e = omega arith
 
 -- a datagram's time is its picture's

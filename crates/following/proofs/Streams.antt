@@ -1,7 +1,7 @@
 -- What a follower hands out of a whole list of datagrams.
 use Rattle.std.proofs.Common.{◌≡◌, ℕ, suc, ◌+◌, ◌<◌, ◌≤◌, ◌⊎◌, inl, inr, Bool, true, false, cond}
-use Rattle.std.proofs.Common.{List, [], ◌∷◌, ◌++◌, length, map, take, Option, None, Some, Result, Ok}
-use Rattle.std.proofs.Common.{Err, refl, sym, ap, ◌∙◌, subst, arith, append_assoc, append-nil}
+use Rattle.std.proofs.Common.{List, [], ◌∷◌, ◌++◌, length, map, take, Option, None, Some, Result}
+use Rattle.std.proofs.Common.{Ok, Err, refl, sym, ap, ◌∙◌, subst, arith, append_assoc, append-nil}
 use Rattle.std.specs.List.{AllByRecursion, filter}
 use Rattle.std.proofs.lemmas.Bool.{cases_eq, cases_lt}
 use Rattle.std.proofs.lemmas.List.Concat.{flat_map-append}
@@ -15,9 +15,9 @@ use Rattle.following.specs.Serial.{wrapped}
 use Rattle.following.specs.Standing.{is_beyond}
 use Rattle.following.specs.Follower.{Following, opened, reading_of, state_after, without_oldest}
 use Rattle.following.specs.Following.{Handed, frames_in, handed_out, is_due}
-use Rattle.following.specs.Times.{AreTimed, IsGreatest, IsNear, IsOrderly, Timed, handed_at, in_order}
-use Rattle.following.specs.Times.{newer_than, octets_of, time_if, time_of, times_of, with_time}
-use Rattle.following.specs.Times.{in_order_behind}
+use Rattle.following.specs.Times.{AreTimed, IsGreatest, IsNear, IsOrderly, Timed, handed_at}
+use Rattle.following.specs.Times.{in_order, newer_than, octets_of, time_if, time_of, times_of}
+use Rattle.following.specs.Times.{with_time, in_order_behind}
 use Rattle.following.proofs.FrameLemmas.{frame_kept}
 use Rattle.following.proofs.Insertions.{AllNear, IsInReach, IsPast}
 use Rattle.following.proofs.Newest.{last_in, last_of, newest-map, time_within}
@@ -221,7 +221,8 @@ end_in gone g ends =
 
 -- ---- the newest is the greatest
 
-le_greatest : (x : ℕ) (w : List ℕ) (y : ℕ) → Rises (x ∷ w) → IsMember y (x ∷ w) → y ≤ last_of x w
+pub le_greatest : (x : ℕ) (w : List ℕ) (y : ℕ) → Rises (x ∷ w) → IsMember y (x ∷ w)
+    → y ≤ last_of x w
 le_greatest x [] y h (inl e) = omega (arith, e)
 le_greatest x [] y h (inr m) = absurd m
 le_greatest x (z ∷ w) y h (inl e) =
@@ -305,7 +306,7 @@ gone_older size ahead u us gone win (Some g) next e h is x m =
     omega (arith, lt, le)
 
 -- a new time has not come before
-fresh_is : (u : ℕ) (us gone win : List ℕ) → in_order us ≡ gone ++ win
+pub fresh_is : (u : ℕ) (us gone win : List ℕ) → in_order us ≡ gone ++ win
     → ((x : ℕ) → IsMember x gone → x < u) → (IsMember u win → ⊥) → IsMember u us → ⊥
 fresh_is u us gone win e less out m =
     elim (member_cases u gone win
@@ -510,6 +511,16 @@ all_newer_than u v win lt all x m = at (from_times x u win m)
     at (inl e) = omega (arith, lt, e)
     at (inr k) = all_member (λ y. v < y) x win all k
 
+-- what has gone with the oldest is older
+pub older_all : (u v : ℕ) (gone : List ℕ) → ((x : ℕ) → IsMember x gone → x < u) → v < u → (x : ℕ)
+    → IsMember x (gone ++ v ∷ []) → x < u
+older_all u v gone less lt x m = at (member_cases x gone (v ∷ []) m)
+  where
+    at : IsMember x gone ⊎ IsMember x (v ∷ []) → x < u
+    at (inl k) = less x k
+    at (inr (inl e)) = omega (arith, lt, e)
+    at (inr (inr k)) = absurd k
+
 step_full : (o : Opening) (size ahead : ℕ) (xs ys : List Timed) (y : Timed) (d : Datagram)
     → reading_of o y.octets ≡ Ok d → d.timestamp ≡ wrapped y.time
     → IsOrderly size ahead (times_of o (xs ++ y ∷ ys))
@@ -538,7 +549,7 @@ step_full o size ahead xs ys y d read stamp orderly next go gone v win last stag
     let parts : in_order us ≡ (gone ++ v ∷ []) ++ win =
     stage.times ∙ sym (append_assoc gone (v ∷ []) win) in
     let order : in_order (times_of o (xs ++ y ∷ [])) ≡ (gone ++ v ∷ []) ++ new =
-    order_more o xs y d (gone ++ v ∷ []) win read parts (older gone less newer) in
+    order_more o xs y d (gone ++ v ∷ []) win read parts (older_all u v gone less newer) in
     let more : IsStage o size ahead (xs ++ y ∷ []) (gone ++ v ∷ []) (Some v) new = record {
       times = order;
       room = omega (arith, count, stage.room);
@@ -552,15 +563,6 @@ step_full o size ahead xs ys y d read stamp orderly next go gone v win last stag
     (over_at o size ahead xs ys y d v (gone ++ v ∷ []) new read orderly newer order
     (omega (arith, count, full)) (all_newer_than u v win newer up.0))
     (go (gone ++ v ∷ []) new (Some v) more)
-  where
-    older : (gone : List ℕ) → ((x : ℕ) → IsMember x gone → x < y.time) → v < y.time → (x : ℕ)
-        → IsMember x (gone ++ v ∷ []) → x < y.time
-    older gone less lt x m = at (member_cases x gone (v ∷ []) m)
-      where
-        at : IsMember x gone ⊎ IsMember x (v ∷ []) → x < y.time
-        at (inl k) = less x k
-        at (inr (inl e)) = omega (arith, lt, e)
-        at (inr (inr k)) = absurd k
 
 step_new : (o : Opening) (size ahead : ℕ) → 0 < size → (xs ys : List Timed) (y : Timed) (d : Datagram)
     → reading_of o y.octets ≡ Ok d → d.timestamp ≡ wrapped y.time

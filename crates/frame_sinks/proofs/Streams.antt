@@ -12,7 +12,7 @@ use Rattle.frame_sinks.specs.Sinks.{FailsFrame, SinkTakes, text_for}
 use Rattle.frame_sinks.specs.declared.filling.Filling.{Filling}
 use Rattle.frame_sinks.specs.declared.form_sink.FormSink.{FormSink}
 use Rattle.frame_sinks.specs.declared.settling.Settling.{Settling}
-use Rattle.frame_sinks.proofs.Written.{picture_format}
+use Rattle.frame_sinks.proofs.Written.{picture_format, ycc_form}
 use Rattle.picture_forms.specs.Layouts.{IsRgb, IsYcc, frame_text, pixmap_text, y4m_head, y4m_text}
 use Rattle.settled_forms.specs.Settled.{form_by, form_text}
 use Rattle.st_format.proofs.SameFields.{fields_self}
@@ -86,12 +86,6 @@ cut_written took k m l (g ∷ hs) h is cut =
 
 -- ---- pictures of one format
 
--- the form of a picture's text
-ycc_by : (s : Sampling) (p : Values) → IsYcc s → form_by s p ≡ frame_text p
-ycc_by Ycc422 p is = refl
-ycc_by Ycc444 p is = refl
-ycc_by Rgb p is = absurd is
-
 rgb_by : (s : Sampling) (p : Values) → IsRgb s → form_by s p ≡ pixmap_text p
 rgb_by Ycc422 p is = absurd is
 rgb_by Ycc444 p is = absurd is
@@ -101,7 +95,7 @@ ycc_text : (f : Format) (p : Values) → IsYcc f.sampling → p.format ≡ f
     → form_text p ≡ frame_text p
 unfolding form_text
 ycc_text f p is same =
-    ycc_by p.format.sampling p (subst (λ (g : Format). IsYcc g.sampling) (sym same) is)
+    ycc_form p.format.sampling p (subst (λ (g : Format). IsYcc g.sampling) (sym same) is)
 
 rgb_text : (f : Format) (p : Values) → IsRgb f.sampling → p.format ≡ f
     → form_text p ≡ pixmap_text p

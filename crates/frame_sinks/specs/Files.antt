@@ -1,9 +1,8 @@
 -- Pictures of frames as files, each by a name of its own (own).
-use Rattle.std.specs.Prelude.{◌≡◌, ℕ, List, [], ◌∷◌, ◌++◌, codes, Option}
+use Rattle.std.specs.Prelude.{◌≡◌, ℕ, List, [], ◌∷◌, ◌++◌, codes}
 use Rattle.std.specs.Fmt.{decimal}
 use Rattle.following.specs.Following.{Handed}
-use Rattle.frame_sinks.specs.Pictures.{held_by, picture_of, pictures_of}
-use Rattle.frame_sinks.specs.declared.filling.Filling.{Filling}
+use Rattle.frame_sinks.specs.Pictures.{held_by, picture_of}
 use Rattle.frame_sinks.specs.declared.files_sink.FilesSink.{FilesSink}
 use Rattle.media_file.specs.PictureFile.{picture_text}
 use Rattle.st_format.specs.Picture.{Values}

@@ -1,8 +1,8 @@
 -- Packets that are noted, recording by recording.
 use Rattle.std.proofs.Common.{◌≡◌, ℕ, zero, suc, ◌+◌, ◌-◌, ◌<◌, ◌≤◌, Bool, true, false, ◌||◌, ◌&&◌}
-use Rattle.std.proofs.Common.{List, [], ◌∷◌, ◌++◌, length, take, drop, get_or, set, Option, None, Some}
-use Rattle.std.proofs.Common.{Result, Ok, Err, refl, ap, sym, ◌∙◌, subst, arith, append_assoc, append-nil}
-use Rattle.std.proofs.Common.{inl, inr, IfOk}
+use Rattle.std.proofs.Common.{List, [], ◌∷◌, ◌++◌, length, take, drop, get_or, set, Option, None}
+use Rattle.std.proofs.Common.{Some, Result, Ok, Err, refl, ap, sym, ◌∙◌, subst, arith, append_assoc}
+use Rattle.std.proofs.Common.{append-nil, inl, inr, IfOk}
 use Rattle.std.proofs.lemmas.Grind.{flat_map-append}
 use Rattle.std.proofs.lemmas.List.{drop_at, length-drop, length-take, take_all}
 use Rattle.std.specs.List.{AllZip, flat_map, list_all, list_any, zip}
@@ -26,7 +26,8 @@ use Rattle.pcap_file.specs.declared.fault.RecordingFault.TheVariants.{BadInterfa
 use Rattle.pcap_file.specs.declared.fault.RecordingFault.TheVariants.{TooManyInterfaces}
 use Rattle.pcap_file.specs.declared.fault.RecordingFault.TheVariants.{PacketTooLong, Packed}
 use Rattle.pcap_file.specs.declared.fault.RecordingFault.TheVariants.{TooManyBlocks}
-use Rattle.inspect_engine.specs.Arrivals.{IsAddress, arrival_by, arrivals_of, omission_by, omissions_of}
+use Rattle.inspect_engine.specs.Arrivals.{IsAddress, arrival_by, arrivals_of, omission_by}
+use Rattle.inspect_engine.specs.Arrivals.{omissions_of}
 use Rattle.inspect_engine.specs.Inspected.{HasReadUpTo, NotesAll, NotesBehind, NotesEach}
 use Rattle.inspect_engine.specs.Inspected.{NotesOctets}
 use Rattle.inspect_engine.specs.Inspected.{NotesUnless}
@@ -36,6 +37,7 @@ use Rattle.recording_counts.specs.declared.omission.Omission.{Omission}
 use Rattle.recording_counts.specs.declared.omission.Omission.TheVariants as by
 use Rattle.inspect_engine.specs.declared.inspection.Inspection.{Inspection}
 use Rattle.pcap_file.specs.PacketDatagram.{HasDatagram, datagram_in}
+use Rattle.run_outcome.proofs.Splits.{Split, split_tell}
 
 -- ---- packets
 
@@ -82,23 +84,6 @@ notes_datagram p d a old new e is flows same = record {
       ∙ ap left_out_of
       (sym (ap (λ (r : Result Datagram NoDatagram). omissions ++ (omission_by r ++ [])) e
       ∙ append-nil omissions));
-}
-
-pub notes_reason : {A : Type 0} (p : Recorded) (reason : NoDatagram) (old new : Inspection A)
-    → datagram_in p ≡ Err reason → new.flows ≡ old.flows
-    → ((omissions : List Omission) → old.left_out ≡ left_out_of omissions
-    → new.left_out ≡ left_out_of (omissions ++ by.NoDatagram reason ∷ []))
-    → NotesEach (p ∷ []) old new
-notes_reason p reason old new e same left_out = record {
-  flows = λ arrivals was.
-      same ∙ was
-      ∙ ap flow_counts
-      (sym (ap (λ (r : Result Datagram NoDatagram). arrivals ++ (arrival_by p r ++ [])) e
-      ∙ append-nil arrivals));
-  left_out = λ omissions was.
-      left_out omissions was
-      ∙ ap (λ (x : List Omission). left_out_of (omissions ++ x))
-      (sym (ap (λ (r : Result Datagram NoDatagram). omission_by r ++ []) e));
 }
 
 -- the address of a datagram
@@ -270,32 +255,6 @@ behind_noted (Ok end) room n seen before read now ended old new e h noted =
 behind_noted (Err f) room n seen before read now ended old new e h noted = tt
 
 -- ---- recordings
-
--- the octets of some sources and of one more
-record Split {S : Type 0} (f : S → List ℕ → Type 0) (xs : List S) (x : S)
-    (octets : List (List ℕ)) : Type 0 where
-  pub front : List (List ℕ)
-  pub last : List ℕ
-  pub whole : octets ≡ front ++ last ∷ []
-  pub tell : AllZip f xs front
-  pub one : f x last
-
-split_tell : {S : Type 0} (f : S → List ℕ → Type 0) (xs : List S) (x : S)
-    (octets : List (List ℕ)) → AllZip f (xs ++ x ∷ []) octets → Split f xs x octets
-split_tell f [] x [] tell = absurd tell
-split_tell f [] x (p ∷ []) tell =
-    record { front = []; last = p; whole = refl; tell = tt; one = tell.0 }
-split_tell f [] x (p ∷ (q ∷ ps)) tell = absurd tell.1
-split_tell f (y ∷ xs) x [] tell = absurd tell
-split_tell f (y ∷ xs) x (p ∷ ps) tell =
-    let rest : Split f xs x ps = split_tell f xs x ps tell.1 in
-    record {
-      front = p ∷ rest.front;
-      last = rest.last;
-      whole = ap (λ (l : List (List ℕ)). p ∷ l) rest.whole;
-      tell = (tell.0, rest.tell);
-      one = rest.one;
-    }
 
 all_more : {X : Type 0} (p : X → Bool) (xs : List X) (x : X) → list_all p xs ≡ true
     → p x ≡ true → list_all p (xs ++ x ∷ []) ≡ true

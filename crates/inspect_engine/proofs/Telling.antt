@@ -1,24 +1,14 @@
 -- What is told of recordings that were noted, and the refusals of recordings.
-use Rattle.std.proofs.Common.{◌≡◌, ℕ, zero, suc, ◌+◌, ◌<◌, ◌≤◌, Bool, true, List, [], ◌∷◌, ◌++◌, length}
-use Rattle.std.proofs.Common.{Option, Some, drop, get_or, set, take, refl, ap, sym, ◌∙◌, subst}
+use Rattle.std.proofs.Common.{◌≡◌, ℕ, zero, suc, ◌+◌, ◌<◌, Bool, List, [], ◌∷◌, ◌++◌, length}
+use Rattle.std.proofs.Common.{drop, get_or, set, take, ap, sym, ◌∙◌}
 use Rattle.std.proofs.Common.{arith}
 use Rattle.std.specs.List.{flat_map, zip}
 use Rattle.recording_counts.specs.FlowCounts.{flow_counts}
 use Rattle.recording_counts.specs.declared.flow_count.FlowCount.{FlowCount}
-use Rattle.pcap_file.specs.Fields.{IfContent}
 use Rattle.pcap_file.specs.Runs.{packets_in, most_packet}
-use Rattle.pcap_file.specs.declared.fault.RecordingFault.{RecordingFault}
-use Rattle.pcap_file.specs.declared.fault.RecordingFault.TheVariants.{Device, Truncated, BadMagic}
-use Rattle.pcap_file.specs.declared.fault.RecordingFault.TheVariants.{BadVersion, BadBlock}
-use Rattle.pcap_file.specs.declared.fault.RecordingFault.TheVariants.{BadInterface, BadTime}
-use Rattle.pcap_file.specs.declared.fault.RecordingFault.TheVariants.{TooManyInterfaces}
-use Rattle.pcap_file.specs.declared.fault.RecordingFault.TheVariants.{PacketTooLong, Packed}
-use Rattle.pcap_file.specs.declared.fault.RecordingFault.TheVariants.{TooManyBlocks}
-use Rattle.run_outcome.specs.LowerFaults.{of_recording}
-use Rattle.run_outcome.specs.Refusing.{OfRefusal}
 use Rattle.run_outcome.specs.declared.refusal.Refusal.{Refusal}
 use Rattle.inspect_engine.specs.Arrivals.{arrivals_of}
-use Rattle.inspect_engine.specs.Inspected.{IsFaultOf, IsFirstFailed, NotesAll, NotesOctets}
+use Rattle.inspect_engine.specs.Inspected.{IsFaultOf, IsFirstFailed, NotesAll}
 use Rattle.inspect_engine.specs.Inspected.{inspection_text}
 use Rattle.recording_counts.specs.LeftOut.{left_out_of}
 use Rattle.recording_counts.specs.declared.left_out.LeftOut.{LeftOut}
@@ -48,23 +38,6 @@ tells_noted form told recordings cut old new shown shown' counted reasons notes 
 }
 
 -- ---- refusals
-
--- a fault but `Truncated` is a recording's refusal, if it isn't the device's
-pub fault_refused : {A : Type 0} (room : ℕ) (told : List ℕ → Type 0) (f : RecordingFault)
-    (old new : Inspection A) → (f ≡ Truncated → ⊥)
-    → IfContent f (NotesOctets room told (Some f) old new)
-    → OfRefusal (of_recording f) (IsFaultOf room told)
-fault_refused room told Device old new not is = tt
-fault_refused room told Truncated old new not is = absurd (not refl)
-fault_refused room told BadMagic old new not is = is.ends
-fault_refused room told BadVersion old new not is = is.ends
-fault_refused room told BadBlock old new not is = is.ends
-fault_refused room told BadInterface old new not is = is.ends
-fault_refused room told TooManyInterfaces old new not is = is.ends
-fault_refused room told BadTime old new not is = is.ends
-fault_refused room told PacketTooLong old new not is = is.ends
-fault_refused room told Packed old new not is = is.ends
-fault_refused room told TooManyBlocks old new not is = is.ends
 
 -- the sources that were read, the one that was read last, and those behind it
 pairs_at : {S : Type 0} (start now : List S) (k : ℕ) (d y : S) → drop k now ≡ drop k start

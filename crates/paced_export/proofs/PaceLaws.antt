@@ -1,5 +1,5 @@
 -- Shares of a time: they rise, and are within it.
-use Rattle.std.proofs.Common.{◌≡◌, ℕ, ◌+◌, ◌*◌, ◌/◌, ◌≤◌, ◌<◌, arith}
+use Rattle.std.proofs.Common.{ℕ, ◌*◌, ◌/◌, ◌≤◌, ◌<◌, arith}
 use Rattle.std.specs.Prelude.{max}
 use Rattle.std.proofs.Math.Nat.{div-le_of_le-mul, le-max_left, le-max_right}
 use Rattle.std.proofs.lemmas.Nat.{div-add-mod', le-div, mul-le}

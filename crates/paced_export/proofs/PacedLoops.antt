@@ -11,7 +11,7 @@ use Rattle.media_file.specs.Capture.{records_at}
 use Rattle.media_file.specs.Faults.{IsDevice}
 use Rattle.media_file.specs.Fields.{GaveFault}
 use Rattle.media_file.specs.Given.{GivesWrong}
-use Rattle.media_file.specs.Reading.{entries_in, entries_up_to, rest_at}
+use Rattle.media_file.specs.Reading.{entries_in, rest_at}
 use Rattle.media_file.specs.Records.{AllFit, Entry, Fits, path_octet, record_text, records_text}
 use Rattle.media_file.specs.Records.{rest_text}
 use Rattle.media_file.proofs.Moved.{fit_more, one_text}
@@ -22,7 +22,8 @@ use Rattle.media_file.proofs.Written.{part_then, took_both}
 use Rattle.export_engine.specs.Packets.{has_packet, packet_count, packet_text, packets_text}
 use Rattle.export_engine.specs.Exported.{TakesUpTo}
 use Rattle.export_engine.specs.declared.places.Envelopes.{Envelopes}
-use Rattle.export_engine.proofs.PacketLoops.{more_packets, none_wrong, more_counted, takes_whole}
+use Rattle.export_engine.proofs.PacketLoops.{more_counted, more_packets, no_entries, none_wrong}
+use Rattle.export_engine.proofs.PacketLoops.{takes_whole}
 use Rattle.st_format.specs.declared.path.Path.{Path}
 use Rattle.paced_export.specs.Counts.{Counts, counted}
 use Rattle.paced_export.specs.Paced.{paced, paced_entry}
@@ -178,10 +179,6 @@ stops_at left written es p all seen f before now new took took' rest m grown non
   none = none;
   taken = takes_whole f took took' (packets_text es (paced p all m.entries)) m.taken;
 }
-
-pub no_entries : entries_in [] ≡ []
-unfolding entries_up_to
-no_entries = refl
 
 -- the source failed before a record
 pub stops_before : {Al : Type 0} (left written : ℕ) (es : Envelopes) (p : Pace)

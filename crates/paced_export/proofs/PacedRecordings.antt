@@ -1,7 +1,7 @@
 -- The recording of a capture: its head behind the capture's front, and the packets behind it; and
 -- the records of a first reading.
 use Rattle.std.proofs.Common.{◌≡◌, ◌≤◌, ℕ, ◌+◌, ◌-◌, List, [], ◌∷◌, ◌++◌, inr, Result, Ok, Err}
-use Rattle.std.proofs.Common.{append-nil, sym, ap, ◌∙◌, length, arith, refl}
+use Rattle.std.proofs.Common.{append-nil, sym, length, arith}
 use Rattle.std.specs.Prelude.{IfErr, IfOk}
 use Rattle.std.proofs.lemmas.List.{length-append}
 use Rattle.st_format.specs.Device.{GrowsPart}
@@ -21,6 +21,7 @@ use Rattle.export_engine.specs.Packets.{packets_text}
 use Rattle.export_engine.specs.declared.packets.ExportCounts.{ExportCounts}
 use Rattle.export_engine.specs.declared.places.Envelopes.{Envelopes}
 use Rattle.export_engine.proofs.Recordings.{takes_behind}
+use Rattle.export_engine.proofs.PacketLoops.{no_entries}
 use Rattle.paced_export.specs.Counts.{Counts, counted}
 use Rattle.paced_export.specs.Paced.{paced}
 use Rattle.paced_export.specs.PacedExported.{CountsRecords, PacesCapture, PacesRecords, StopsPaced}
@@ -29,7 +30,6 @@ use Rattle.paced_export.specs.PacedExported.StopsPacing.{Begun}
 use Rattle.paced_export.specs.declared.pace.Pace.{Pace}
 use Rattle.paced_export.specs.declared.tally.FrameCounts.{FrameCounts}
 use Rattle.paced_export.proofs.CountLemmas.{counted_few}
-use Rattle.paced_export.proofs.PacedLoops.{no_entries}
 
 -- ---- the second reading
 

@@ -1,5 +1,5 @@
 //! The first reading of a capture: the rate that its text says, and how many records frames have.
-ghost use Rattle.std.specs.Prelude.{◌≡◌, ◌≤◌, ◌<◌, ◌∷◌, [], length, IfErr, IfOk, OnOk};
+ghost use Rattle.std.specs.Prelude.{◌≤◌, ◌<◌, ◌∷◌, [], length, IfErr, IfOk, OnOk};
 ghost use Rattle.media_file.specs.Capture.{records_at};
 ghost use Rattle.media_file.specs.Faults.{CountsDevice};
 ghost use Rattle.media_file.specs.Fields.{GaveFault};

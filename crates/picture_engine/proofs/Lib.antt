@@ -1,4 +1,4 @@
 mod Fills
 mod Forms
-mod Settled
+pub mod Settled
 pub mod Reasons

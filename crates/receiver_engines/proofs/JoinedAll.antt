@@ -45,10 +45,10 @@ again_all s r (t ∷ ts) [] is each = absurd each
 again_all s r (t ∷ ts) (q ∷ rs) is each =
     again_all (merged_state s t) (merged_state r q) ts rs (again_both s t r q is each.0) each.1
 
-alike_head : (s t : State) (ts : List State) → AreOpenAlike s (t ∷ ts) → s.opening ≡ t.opening
+pub alike_head : (s t : State) (ts : List State) → AreOpenAlike s (t ∷ ts) → s.opening ≡ t.opening
 alike_head s t ts alike = alike 0 t (omega arith)
 
-alike_tail : (s t : State) (ts : List State) → AreOpenAlike s (t ∷ ts) → AreOpenAlike s ts
+pub alike_tail : (s t : State) (ts : List State) → AreOpenAlike s (t ∷ ts) → AreOpenAlike s ts
 alike_tail s t ts alike = λ k d lt. alike (suc k) d (omega (arith, lt))
 
 alike_again : (s r : State) (ts rs : List State) → IsAgain s r → AllZip IsAgain ts rs
@@ -63,7 +63,7 @@ alike_again s r (t ∷ ts) (q ∷ rs) is each alike =
 
 -- ---- one more
 
-all_opening : (s : State) (ts : List State) → (merged_all s ts).opening ≡ s.opening
+pub all_opening : (s : State) (ts : List State) → (merged_all s ts).opening ≡ s.opening
 all_opening s [] = refl
 all_opening s (t ∷ ts) = all_opening (merged_state s t) ts
 

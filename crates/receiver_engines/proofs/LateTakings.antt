@@ -14,7 +14,7 @@ use Rattle.media_file.specs.declared.paths.Paths.TheVariants.{OnlyA}
 use Rattle.media_file.proofs.Datagrams.{holds, keeps, takes, writes}
 use Rattle.media_file.proofs.Dues.{entries_none}
 use Rattle.media_file.proofs.Told.{stands_new, takes_new}
-use Rattle.st_format.proofs.Histories.{grew_more, grew_none, since_more, since_none}
+use Rattle.st_format.proofs.Histories.{grew_more, since_more}
 use Rattle.st_format.specs.Device.{GrowsPart}
 use Rattle.st_format.specs.History.{since}
 use Rattle.st_format.specs.declared.path.Path.TheVariants.{A}
@@ -147,16 +147,6 @@ late_keeps false text m o d k few is lt fits short =
     ∙ sym (nothing_in n o is.0)
 
 -- ---- by what its sink took
-
--- a new one
-pub stands_made : (text took : List ℕ) → length text < 2 ^ 16
-    → StandsLate false false text 0 took took
-stands_made text took few = record {
-  fits = lit< tt;
-  few = few;
-  grew = grew_none took;
-  whole = λ _. (since_none took, refl);
-}
 
 -- behind a datagram
 pub stands_behind : (b cut : Bool) (text : List ℕ) (m n : ℕ) (before old new d : List ℕ)

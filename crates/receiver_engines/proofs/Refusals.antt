@@ -1,5 +1,5 @@
 -- Which refusal ends a run.
-use Rattle.std.proofs.Common.{◌≡◌, ℕ, ◌<◌, zero, suc, ◌⊎◌, inl, inr, List, [], ◌∷◌, length}
+use Rattle.std.proofs.Common.{◌≡◌, ℕ, ◌<◌, zero, suc, inl, inr, List, [], ◌∷◌, length}
 use Rattle.std.proofs.Common.{get_or, Option, None, Some, Result, Ok, Err, IfOk}
 use Rattle.std.proofs.Common.{refl, ap, arith, subst, sym, ◌∙◌, ◌↔◌, IsSome, OnOk}
 use Rattle.std.proofs.lemmas.Bool.{false≢true}
@@ -11,6 +11,7 @@ use Rattle.run_outcome.specs.declared.fault.Fault.{Fault}
 use Rattle.run_outcome.specs.declared.fault.Fault.TheVariants.{Refused}
 use Rattle.run_outcome.specs.declared.refusal.Refusal.{Refusal}
 use Rattle.run_outcome.specs.declared.refusal.Refusal.TheVariants as why
+use Rattle.run_outcome.proofs.Refusals.{either}
 use Rattle.key_mix.specs.Sending.{IsSendFault}
 use Rattle.key_mix.specs.declared.Job.{Job}
 use Rattle.key_mix.specs.declared.faults.JobFault.TheVariants as job_fault
@@ -28,7 +29,7 @@ use Rattle.receiver_engines.specs.Inputs.{AreFramesAt, AreValues, FitsFrames, Is
 use Rattle.receiver_engines.specs.Inputs.{frames_lent}
 use Rattle.receiver_engines.specs.Processing.{of_send_job}
 use Rattle.receiver_engines.specs.Refused.{AreReceivers, HasNoFill, IsHeldRefusal, IsJobRefusal}
-use Rattle.receiver_engines.specs.Refused.{IsReceiversRefusal, IsRefusalOfRead, IsRunRefusal}
+use Rattle.receiver_engines.specs.Refused.{IsRefusalOfRead, IsRunRefusal}
 use Rattle.receiver_engines.specs.Refused.{IsJobOrPlanRefusal, OfFormats, OfFrames, SaysJob}
 
 -- ---- what holds of a refusal
@@ -138,10 +139,6 @@ unfit_fill text fill fs k d some is values unfit = λ other other_is.
 
 -- ---- the job
 
-either : {X Y : Type 0} → (X → ⊥) → X ⊎ Y → Y
-either none (inl x) = absurd (none x)
-either none (inr y) = y
-
 pub send_refused : (e : SendJobFault) (j : Job) (fs : List Format) (size : ℕ)
     → IsSendFault e j fs size → OfRefusal (of_send_job e) (λ r. IsJobOrPlanRefusal j size r fs)
 send_refused (sending.Job job_fault.NoMemory) j fs size is = tt
@@ -193,12 +190,6 @@ sent_refusal j w rs held why.ProcessHold has = absurd has.holds.holds
 sent_refusal j w rs held r has = has
 
 -- ---- the run
-
-pub receivers_refused : {S : Type 0} (told : S → List ℕ → Type 0) (states : List S)
-    (hold : Option S) (w : Processing) (r : Refusal) → SaysJob w
-    → IsReceiversRefusal told states r → IsRunRefusal told states hold w r
-receivers_refused told states hold w (why.State f) says is = (says, is)
-receivers_refused told states hold w r says is = absurd is.refused.refused
 
 pub held_refused : {S : Type 0} (told : S → List ℕ → Type 0) (states : List S)
     (hold : Option S) (w : Processing) (r : Refusal) → SaysJob w → AreReceivers told states

@@ -61,13 +61,6 @@ settled_unheld A fill None fs items none is =
     ap settled_inputs is ∙ filled_settled A fill fs
 settled_unheld A fill (Some p) fs items none is = absurd (none p refl)
 
-pub settled_empty : (A : Type 0) (fill : List ℕ) (held : Option Values) (fs : List (Bor Raster))
-    (items : List (JobInput A)) → length fs ≡ 0 → items ≡ map (filled_input fill) fs
-    → settled_inputs items ≡ settled_frames held fill (frames_lent fs)
-settled_empty A fill None fs items none is = ap settled_inputs is ∙ filled_settled A fill fs
-settled_empty A fill (Some p) [] items none is = ap settled_inputs is
-settled_empty A fill (Some p) (f ∷ fs) items none is = absurd (omega (arith, none))
-
 pub settled_held : (A : Type 0) (fill : List ℕ) (held : Option Values) (p : Bor Values)
     (fs : List (Bor Raster)) (f : Bor Raster) (items new : List (JobInput A))
     → held ≡ Some p.now → f ≡ get_or fs 0 f → 0 < length fs

@@ -1,5 +1,5 @@
 -- What the files say that are processed (own). What was read of a source is told by a predicate.
-use Rattle.std.specs.Prelude.{ℕ, List, [], ◌∷◌, Option, None, Some, ⊤}
+use Rattle.std.specs.Prelude.{ℕ, List, Option, None, Some, ⊤}
 use Rattle.std.specs.List.{AllZip}
 use Rattle.path_receiver.specs.Frames.{State}
 use Rattle.receiver_engines.specs.Merging.{SaysReceiver}

@@ -1,5 +1,5 @@
 -- The first fault of a file, and what it is as a fault that ends a run.
-use Rattle.std.proofs.Common.{◌≡◌, ℕ, zero, suc, ◌-◌, ◌≤◌, inl, inr, List, [], ◌∷◌, ◌++◌}
+use Rattle.std.proofs.Common.{◌≡◌, ℕ, zero, suc, ◌≤◌, inl, inr, List, [], ◌∷◌, ◌++◌}
 use Rattle.std.proofs.Common.{Bool, true, false, Option, None, Some, Result, Ok, Err, length}
 use Rattle.std.proofs.Common.{append-nil, append_assoc, arith, refl, sym, ap, ◌∙◌}
 use Rattle.std.proofs.lemmas.List.{length-append}
@@ -173,10 +173,10 @@ front_strand flows (Recording f) octets (kind, wrong) =
 
 -- ---- as a fault that ends a run
 
-not_memory : (r : Refusal) → Memory ≡ Refused r → ⊥
+pub not_memory : (r : Refusal) → Memory ≡ Refused r → ⊥
 not_memory r is = cc
 
-not_device : (r : Refusal) → Device ≡ Refused r → ⊥
+pub not_device : (r : Refusal) → Device ≡ Refused r → ⊥
 not_device r is = cc
 
 -- a refusal is told of a fault of the file

@@ -4,11 +4,9 @@ use Rattle.std.proofs.Common.{None, Some, refl, sym, ap, subst, ◌∙◌, appen
 use Rattle.std.proofs.Common.{append-nil, get_or, set, length, length-append}
 use Rattle.std.proofs.lemmas.Grind.{flat_map-append}
 use Rattle.std.proofs.lemmas.List.Sums.{sum_by-append}
-use Rattle.std.specs.Prelude.{cond}
 use Rattle.media_file.specs.Records.{Entry, record_text, records_text}
 use Rattle.st_format.specs.declared.path.Path.{Path}
 use Rattle.st_format.specs.declared.path.Path.TheVariants.{A, B}
-use Rattle.st_format.specs.Turns.{is_path}
 use Rattle.run_outcome.specs.declared.fault.Fault.{Fault}
 use Rattle.run_outcome.specs.declared.fault.Fault.TheVariants.{Refused}
 use Rattle.run_outcome.specs.declared.refusal.Refusal.{Refusal}
@@ -16,7 +14,7 @@ use Rattle.run_outcome.specs.declared.refusal.Refusal.TheVariants.{ImportRecords
 use Rattle.recording_reader.specs.declared.fault.ReadingFault.{ReadingFault}
 use Rattle.recording_engines.specs.Files.{AllReady, Leads, ReadsFileOn, ReadsToFault, next_entry}
 use Rattle.recording_engines.specs.Files.{standing_of, standings}
-use Rattle.recording_engines.specs.Progress.{CountsPath, HasWritten}
+use Rattle.recording_engines.specs.Progress.{HasWritten}
 use Rattle.recording_engines.specs.Progress.{OneComes, StopsBy, StopsJoining, WritesEarliest}
 use Rattle.recording_engines.specs.Progress.{WritesNext, WritesRecords, count_of_path}
 use Rattle.recording_engines.specs.Steps.{Ahead, AllFresh, Over, ReadsMore, Standing}
@@ -160,29 +158,3 @@ many_joined fs old new w w' n k moment had most ready leads = inr (
 pub next_none : {X S : Type 0} (f : ImportFile X S) (old new : List ℕ) (w w' : Written)
     → next_entry f ≡ None → WritesNext f old new w w'
 next_none f old new w w' none e some = let both : None ≡ Some e = sym none ∙ some in absurd cc
-
-pub next_written : {X S : Type 0} (f : ImportFile X S) (x : Entry) (old new : List ℕ)
-    (w w' : Written) → next_entry f ≡ Some x → WritesRecords (x ∷ []) old new w w'
-    → WritesNext f old new w w'
-next_written f x old new w w' is writes e some =
-    let both : Some x ≡ Some e = sym is ∙ some in
-    let equal : x ≡ e = cc in
-    subst (λ (y : Entry). WritesRecords (y ∷ []) old new w w') equal writes
-
-counts_a : (path : Path) (w w' : Written) → CountsPath path w w'
-    → w'.a ≡ w.a + (0 + cond (is_path A path) 1 0)
-counts_a A w w' counts = omega (arith, counts.0)
-counts_a B w w' counts = omega (arith, counts.0)
-
-counts_b : (path : Path) (w w' : Written) → CountsPath path w w'
-    → w'.b ≡ w.b + (0 + cond (is_path B path) 1 0)
-counts_b A w w' counts = omega (arith, counts.1)
-counts_b B w w' counts = omega (arith, counts.1)
-
-pub one_writes : (e : Entry) (old new : List ℕ) (w w' : Written)
-    → new ≡ old ++ record_text e → CountsPath e.path w w' → WritesRecords (e ∷ []) old new w w'
-one_writes e old new w w' took counts = record {
-  text = took ∙ ap (λ (l : List ℕ). old ++ l) (sym (append-nil (record_text e)));
-  a = counts_a e.path w w' counts;
-  b = counts_b e.path w w' counts;
-}

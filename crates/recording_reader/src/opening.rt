@@ -10,7 +10,7 @@ ghost use Rattle.recording_reader.specs.Ways.{BeginsWay, HasSpace, left_out_by};
 use crate::fault::{FileOpeningFault, ReadingFault};
 use crate::kinds::is_magic;
 use crate::room::Room;
-use crate::way::{Track, FileKind};
+use crate::way::{FileKind, Track};
 use flow::Flows;
 use media_file::{FileFault, read_front_behind};
 use pcap_file::{MOST_PACKET, open_behind};

@@ -22,7 +22,7 @@ use crate::fault::{FileOpeningFault, ReadingFault};
 use crate::opening::begin;
 use crate::record::read_record;
 use crate::room::{RecordView, Room};
-use crate::way::{Standing, FileKind};
+use crate::way::{FileKind, Standing};
 use flow::Flows;
 use media_file::FileFault;
 use pcap_file::RecordingFault;

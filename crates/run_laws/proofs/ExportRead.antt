@@ -53,11 +53,13 @@ use Rattle.export_engine.specs.Packets.{AreEnvelopes, IsEnvelopeText, IsSecondTe
 use Rattle.export_engine.specs.Packets.{envelope_4, envelope_6, envelope_from, envelope_of}
 use Rattle.export_engine.specs.Packets.{has_packet, if_said, is_there, most_payload, packet_count}
 use Rattle.export_engine.specs.Packets.{packets_text, pcap_text, sender, sender6, sent_by}
-use Rattle.export_engine.specs.Reread.{datagram_in, frame_by, packet_of, packets_of, recorded_by}
+use Rattle.export_engine.specs.Reread.{enveloped_datagram, frame_by, packet_of, packets_of}
+use Rattle.export_engine.specs.Reread.{recorded_by}
 use Rattle.export_engine.specs.declared.places.Envelopes.{Envelopes}
 use Rattle.export_engine.specs.declared.places.IpEnvelope.{IpEnvelope}
 use Rattle.export_engine.specs.declared.places.IpEnvelope.TheVariants.{V4, V6}
 use Rattle.export_engine.proofs.Rereading.{are_datagrams, is_reread}
+use Rattle.export_engine.proofs.PacketTexts.{flow_at}
 use Rattle.recording_engines.specs.Imported.{IsAsked}
 use Rattle.run_laws.specs.Exported.{HaveTwoPlaces, address_of, port_of, sent_records}
 
@@ -157,10 +159,6 @@ not_some x same = cc
 abbrev pub some_flow : Flow → Option Flow
 some_flow f = Some f
 
-abbrev pub flow_from : Option IpAddr → IpAddr → ℕ → Flow
-flow_from source address port =
-    record { interface = None; source = source; address = Some address; port = port }
-
 -- the address from which datagrams are sent
 abbrev source_by : IpEnvelope → List ℕ
 source_by (V4 e) = e.source
@@ -182,19 +180,19 @@ abbrev Has : Flow → IpEnvelope → Type 0
 Has f w = has_flow f None (source_by w) (address_of w) (port_of w) ≡ true
 
 own_flow : (source : Option IpAddr) (address : IpAddr) (port : ℕ) (w : IpEnvelope)
-    → envelope_from source address port ≡ Some w → Has (flow_from source address port) w
+    → envelope_from source address port ≡ Some w → Has (flow_at source address port) w
 own_flow None (ip.V4 a) port w same =
-    subst (λ (x : IpEnvelope). Has (flow_from None (ip.V4 a) port) x)
+    subst (λ (x : IpEnvelope). Has (flow_at None (ip.V4 a) port) x)
     (some_is (envelope_4 sender a port) w same)
     (all_three (port == port) (bytes_eq (ipv4_octets a) (ipv4_octets a)) true
     (eq-eqb port port refl) (itself (ipv4_octets a)) refl)
 own_flow None (ip.V6 a) port w same =
-    subst (λ (x : IpEnvelope). Has (flow_from None (ip.V6 a) port) x)
+    subst (λ (x : IpEnvelope). Has (flow_at None (ip.V6 a) port) x)
     (some_is (envelope_6 sender6 a port) w same)
     (all_three (port == port) (bytes_eq (ipv6_octets a) (ipv6_octets a)) true
     (eq-eqb port port refl) (itself (ipv6_octets a)) refl)
 own_flow (Some (ip.V4 s)) (ip.V4 a) port w same =
-    subst (λ (x : IpEnvelope). Has (flow_from (Some (ip.V4 s)) (ip.V4 a) port) x)
+    subst (λ (x : IpEnvelope). Has (flow_at (Some (ip.V4 s)) (ip.V4 a) port) x)
     (some_is (envelope_4 (ipv4_octets s) a port) w same)
     (all_three (port == port) (bytes_eq (ipv4_octets a) (ipv4_octets a))
     (bytes_eq (ipv4_octets s) (ipv4_octets s)) (eq-eqb port port refl) (itself (ipv4_octets a))
@@ -202,7 +200,7 @@ own_flow (Some (ip.V4 s)) (ip.V4 a) port w same =
 own_flow (Some (ip.V4 s)) (ip.V6 a) port w same = absurd (not_some w same)
 own_flow (Some (ip.V6 s)) (ip.V4 a) port w same = absurd (not_some w same)
 own_flow (Some (ip.V6 s)) (ip.V6 a) port w same =
-    subst (λ (x : IpEnvelope). Has (flow_from (Some (ip.V6 s)) (ip.V6 a) port) x)
+    subst (λ (x : IpEnvelope). Has (flow_at (Some (ip.V6 s)) (ip.V6 a) port) x)
     (some_is (envelope_6 (ipv6_octets s) a port) w same)
     (all_three (port == port) (bytes_eq (ipv6_octets a) (ipv6_octets a))
     (bytes_eq (ipv6_octets s) (ipv6_octets s)) (eq-eqb port port refl) (itself (ipv6_octets a))
@@ -241,7 +239,7 @@ named address octets is = (bytes_eq-Decides (address_octets address) octets).0 i
 
 other_flow : (source : Option IpAddr) (address : IpAddr) (port : ℕ) (w : IpEnvelope)
     → (address_octets address ≡ address_of w → port ≡ port_of w → ⊥)
-    → has_flow (flow_from source address port) None (source_by w) (address_of w) (port_of w)
+    → has_flow (flow_at source address port) None (source_by w) (address_of w) (port_of w)
     ≡ false
 other_flow source address port w apart =
     not_both (port == port_of w) (is_named (Some address) (address_of w))
@@ -249,11 +247,11 @@ other_flow source address port w apart =
     (λ p q. apart (named address (address_of w) q) (eqb-true port (port_of w) p))
 
 pub asked_flow : (text : List ℕ) (o : Option Flow) (e : IpEnvelope) (is : IsEnvelopeText text e)
-    → IsAsked (Some text) o → o ≡ some_flow (flow_from is.source is.address is.port)
+    → IsAsked (Some text) o → o ≡ some_flow (flow_at is.source is.address is.port)
 asked_flow text None e is asked = absurd asked
 asked_flow text (Some f) e is asked =
     ap (λ (g : Flow). some_flow g)
-    (flow_once text f (flow_from is.source is.address is.port) asked is.flow)
+    (flow_once text f (flow_at is.source is.address is.port) asked is.flow)
 
 -- ---- one record
 
@@ -268,7 +266,7 @@ abbrev path_by : Flows → IpEnvelope → Option Path
 path_by flows w = path_to flows None (source_by w) (address_of w) (port_of w)
 
 read_back : (flows : Flows) (w : IpEnvelope) (moment : ℕ) (payload : List ℕ)
-    → datagram_walk Ethernet (frame_by w payload) ≡ walked (datagram_in w payload)
+    → datagram_walk Ethernet (frame_by w payload) ≡ walked (enveloped_datagram w payload)
     → record_of flows (recorded_by w moment payload) ≡ entry_by (path_by flows w) moment payload
 read_back flows (V4 e) moment payload is = ap (λ (r : Walk). entry_of flows None moment r) is
 read_back flows (V6 e) moment payload is = ap (λ (r : Walk). entry_of flows None moment r) is
@@ -325,7 +323,7 @@ module _ (a : List ℕ) (b : Option (List ℕ)) (es : Envelopes) (are : AreEnvel
     (flows : Flows) (asked_a : IsAsked (Some a) flows.a) (asked_b : IsAsked b flows.b)
     (two : HaveTwoPlaces es)
   where
-    flow_a : flows.a ≡ some_flow (flow_from are.first.source are.first.address are.first.port)
+    flow_a : flows.a ≡ some_flow (flow_at are.first.source are.first.address are.first.port)
     flow_a = asked_flow a flows.a es.a are.first asked_a
 
     path_a : path_by flows es.a ≡ Some A
@@ -377,7 +375,7 @@ module _ (a : List ℕ) (b : Option (List ℕ)) (es : Envelopes) (are : AreEnvel
         → record_of flows (recorded_by w e.moment e.octets) ≡ Some e
     one_record e w is =
         read_back flows w e.moment e.octets
-        ((datagram_exact Ethernet (frame_by w e.octets)).again (datagram_in w e.octets)
+        ((datagram_exact Ethernet (frame_by w e.octets)).again (enveloped_datagram w e.octets)
         (are_datagrams a b es are e w is))
         ∙ ap (λ (p : Option Path). entry_by p e.moment e.octets)
         (path_is e.path w

@@ -22,6 +22,7 @@ use Rattle.export_engine.specs.Exported.{Exports}
 use Rattle.export_engine.specs.Packets.{IsSecondText, pcap_text}
 use Rattle.export_engine.specs.declared.packets.ExportCounts.{ExportCounts}
 use Rattle.export_engine.specs.declared.places.IpEnvelope.{IpEnvelope}
+use Rattle.export_engine.proofs.PacketTexts.{flow_at}
 use Rattle.recording_engines.specs.Imported.{AreOver, AsksFlows, Imports, IsAsked}
 use Rattle.recording_engines.specs.Joining.{IsJoinedNext, JoinsByMoment, JoinsTo, Strand}
 use Rattle.recording_engines.specs.Strands.{TakesBy, strand_in, strands_in}
@@ -29,7 +30,7 @@ use Rattle.recording_engines.specs.declared.importing.ImportCounts.{ImportCounts
 use Rattle.run_laws.specs.Exported.{HaveTwoPlaces, address_of, port_of, sent_records}
 use Rattle.run_laws.specs.Received.{IsReceivedFile}
 use Rattle.run_laws.proofs.Captures.{content, content_read}
-use Rattle.run_laws.proofs.ExportRead.{address_from, all_sent, asked_flow, flow_from, port_from}
+use Rattle.run_laws.proofs.ExportRead.{address_from, all_sent, asked_flow, port_from}
 use Rattle.run_laws.proofs.ExportRead.{recording_records, recording_sound, some_envelope, some_flow}
 use Rattle.run_laws.proofs.Receiving.{same_file}
 
@@ -79,7 +80,7 @@ second None o None f is asked there = let bad : None ≡ some_flow f = there in 
 second None o (Some h) f is asked there = absurd asked
 second (Some t) None g f is asked there = absurd is
 second (Some t) (Some v) g f is asked there =
-    let flow : Flow = flow_from is.source is.address is.port in
+    let flow : Flow = flow_at is.source is.address is.port in
     let same : f ≡ flow = flow_is f flow (sym there ∙ asked_flow t g v is asked) in
     record {
       envelope = v;
@@ -168,7 +169,7 @@ module _ (a : List ℕ) (b : Option (List ℕ)) (counts : ExportCounts) (before 
     not_one text flows asked two one =
         let f : Flow = one.0 in
         let first = run.are.first in
-        let flow : Flow = flow_from first.source first.address first.port in
+        let flow : Flow = flow_at first.source first.address first.port in
         let same : f ≡ flow =
         flow_is f flow (sym one.1 ∙ asked_flow a flows.a run.envelopes.a first asked.0) in
         let other : Second run.envelopes.b f =

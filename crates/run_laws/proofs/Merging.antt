@@ -1,6 +1,6 @@
 -- Received files, merged, are received files.
-use Rattle.std.proofs.Common.{◌≡◌, ℕ, suc, ◌≤◌, List, [], ◌∷◌, ◌++◌, length, append-nil}
-use Rattle.std.proofs.Common.{append_assoc, refl, sym, subst, arith}
+use Rattle.std.proofs.Common.{◌≡◌, ℕ, ◌≤◌, List, [], ◌∷◌, ◌++◌, length, append-nil}
+use Rattle.std.proofs.Common.{append_assoc, sym, subst, arith}
 use Rattle.std.specs.List.{AllZip}
 use Rattle.std.proofs.lemmas.List.Elements.{All-cons, All-nil}
 use Rattle.st_format.specs.History.{since}
@@ -19,6 +19,7 @@ use Rattle.receiver_engines.specs.MergedAll.{behind_each_other, merged_all}
 use Rattle.receiver_engines.specs.Merging.{GivesReceiver, MergesFiles, merged_state}
 use Rattle.receiver_engines.specs.Reading.{SayReceivers}
 use Rattle.receiver_engines.proofs.Merged.{holds_both}
+use Rattle.receiver_engines.proofs.JoinedAll.{alike_head, alike_tail, all_opening}
 use Rattle.run_laws.specs.Merged.{AreFilesOf, AreReceivedFiles, AreReceiverFiles, IsMergedFile}
 use Rattle.run_laws.specs.Merged.{Trees, datagrams_below}
 use Rattle.run_laws.specs.Merged.Trees.{NoTree, Received, Merged}
@@ -98,20 +99,10 @@ run_merged gave ended also_gave also_ended left right old new m = record {
 
 -- ---- receivers merged
 
-merged_opening : (s : State) (ts : List State) → (merged_all s ts).opening ≡ s.opening
-merged_opening s [] = refl
-merged_opening s (t ∷ ts) = merged_opening (merged_state s t) ts
-
 few_refusals : (s : State) (ts : List State) → length s.refusals ≤ 64
     → length (merged_all s ts).refusals ≤ 64
 few_refusals s [] few = few
 few_refusals s (t ∷ ts) few = few_refusals (merged_state s t) ts (omega arith)
-
-alike_head : (s t : State) (ts : List State) → AreOpenAlike s (t ∷ ts) → s.opening ≡ t.opening
-alike_head s t ts alike = alike 0 t (omega arith)
-
-alike_tail : (s t : State) (ts : List State) → AreOpenAlike s (t ∷ ts) → AreOpenAlike s ts
-alike_tail s t ts alike = λ k d lt. alike (suc k) d (omega (arith, lt))
 
 holds_all : (s : State) (ts : List State) (datagrams : List (List ℕ))
     (lists : List (List (List ℕ))) → AreOpenAlike s ts → Holds s datagrams → AllZip Holds ts lists
@@ -156,7 +147,7 @@ pieces window source text datagrams lists first others file a are m =
     let s : State = a.receiver in
     let all : State = merged_all s g.receivers in
     let is = m.merged s g.receivers a.file_is g.are in
-    let opening : s.opening ≡ all.opening = sym (merged_opening s g.receivers) in
+    let opening : s.opening ≡ all.opening = sym (all_opening s g.receivers) in
     let holds : Holds all (datagrams ++ behind_each_other lists) =
     holds_all s g.receivers datagrams lists is.0 a.holds g.hold in
     let writable : IsWritable all =

@@ -30,6 +30,7 @@ use Rattle.recording_engines.specs.declared.importing.ImportCounts.{ImportCounts
 use Rattle.run_laws.specs.Received.{all_read, read_of}
 use Rattle.run_laws.proofs.NoProcessRefusals.{not_text}
 use Rattle.run_laws.proofs.Receiving.{was_read}
+use Rattle.run_laws.proofs.ExportRead.{some_flow}
 
 -- ---- the flows of a text
 
@@ -97,9 +98,6 @@ flows_by a b = record { a = a; b = b }
 flows_is : (fs gs : Flows) → fs.a ≡ gs.a → fs.b ≡ gs.b → fs ≡ gs
 flows_is fs gs a b =
     ap (λ (x : Option Flow). flows_by x fs.b) a ∙ ap (λ (x : Option Flow). flows_by gs.a x) b
-
-abbrev some_flow : Flow → Option Flow
-some_flow f = Some f
 
 asked_once : (word : Option (List ℕ)) (o q : Option Flow) → IsAsked word o → IsAsked word q → o ≡ q
 asked_once None None None h k = refl

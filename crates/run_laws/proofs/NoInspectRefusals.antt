@@ -1,7 +1,7 @@
 -- Against what a run of `inspect` read that ended well no refusal speaks.
 use Rattle.std.proofs.Common.{◌≡◌, ℕ, Bool, true, false, List, [], ◌∷◌, ◌++◌, Option, Some, inl}
 use Rattle.std.proofs.Common.{inr, sym, ap, ◌∙◌, subst}
-use Rattle.std.specs.List.{AllZip, list_all}
+use Rattle.std.specs.List.{list_all}
 use Rattle.std.proofs.lemmas.Bool.{and_parts}
 use Rattle.pcap_file.specs.Runs.{fault_in, most_packet}
 use Rattle.pcap_file.specs.declared.fault.RecordingFault.{RecordingFault}
@@ -13,7 +13,7 @@ use Rattle.inspect_engine.specs.Inspected.{IsFaultOf, is_told}
 use Rattle.inspect_engine.specs.Told.{IsInspectRefusal, Tells}
 use Rattle.inspect_engine.specs.declared.form.Form.{Form}
 use Rattle.run_laws.specs.Received.{all_read, read_of}
-use Rattle.run_laws.proofs.Receiving.{was_read}
+use Rattle.run_laws.proofs.Receiving.{all_were_read, was_read}
 
 not_both : {X : Type 0} → (let t : Bool = true in let f : Bool = false in f ≡ t) → X
 not_both e = absurd cc
@@ -31,10 +31,6 @@ not_fault told octets (why.Recording f) there ends wrong =
 not_fault told octets r there ends wrong = absurd wrong
 
 module _ {S : Type 0} (gave : S → List ℕ) (ended : S → Type 0) where
-  all_zip : (files : List (S × S)) → AllZip (WasRead gave ended) files (all_read gave files)
-  all_zip [] = tt
-  all_zip (s ∷ ss) = (was_read gave ended s, all_zip ss)
-
   -- what holds of the octets of each file holds of those of one
   at_one : (test : List ℕ → Bool) (front : List (S × S)) (x : S × S) (behind : List (S × S))
       → list_all test (all_read gave (front ++ x ∷ behind)) ≡ true
@@ -51,12 +47,12 @@ pub inspect_not : {S : Type 0} (gave : S → List ℕ) (ended : S → Type 0) (f
     → IsInspectRefusal form (WasRead gave ended) files shown shown' r → ⊥
 inspect_not gave ended form files shown shown' r tells (inl cut) =
     let octets : List (List ℕ) = all_read gave files in
-    let zipped = all_zip gave ended files in
+    let zipped = all_were_read gave ended files in
     not_both (tells.cuts octets zipped ∙ sym (cut.1.cuts octets zipped))
 inspect_not {S} gave ended form files shown shown' r tells (inr (same, first)) =
     let octets : List (List ℕ) = all_read gave files in
     let test = λ (o : List ℕ). is_told (fault_in most_packet o) in
-    let all = tells.ends octets (all_zip gave ended files) in
+    let all = tells.ends octets (all_were_read gave ended files) in
     not_fault (WasRead gave ended first.at) (read_of gave first.at) r
     (was_read gave ended first.at)
     (at_one gave ended test first.front first.at first.behind

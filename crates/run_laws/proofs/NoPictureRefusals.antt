@@ -24,10 +24,10 @@ use Rattle.picture_engine.specs.Refused.{IsMarkedRefusal, IsSettledRefusal, IsSh
 use Rattle.picture_engine.specs.Refused.{IsViewRefusal}
 use Rattle.picture_engine.specs.Shown.{IsViewOf, OfFrame, ShowsFrame}
 use Rattle.picture_engine.specs.Views.{IsFillOf, IsMarkedView, SaysNoFill, SettlesFrame}
-use Rattle.picture_engine.specs.Views.{settled_with}
 use Rattle.picture_engine.specs.declared.asked.PictureAsked.{PictureAsked}
 use Rattle.picture_engine.specs.declared.asked.View.{View}
 use Rattle.picture_engine.specs.declared.asked.View.TheVariants.{Settled, Marked}
+use Rattle.picture_engine.proofs.Settled.{settled_format}
 use Rattle.run_laws.specs.Received.{read_of}
 use Rattle.run_laws.proofs.NoProcessRefusals.{found, frame_for, frame_inside, one_receiver}
 use Rattle.run_laws.proofs.NoProcessRefusals.{same_frame, same_held_for, same_raster}
@@ -64,11 +64,6 @@ marking_not form q v is holds why.FrameForm wrong =
 marking_not form q v is holds e wrong = absurd wrong
 
 -- ---- a frame that is settled
-
-settled_format : (held : Option Values) (fill : List ℕ) (q : Raster)
-    → (settled_with held fill q).format ≡ q.format
-settled_format None fill q = refl
-settled_format (Some p) fill q = refl
 
 -- a text that says a fill says one
 said_not : (text : Option (Bor (List ℕ))) (fill : List ℕ) (q : Raster) → IsFillOf text fill q

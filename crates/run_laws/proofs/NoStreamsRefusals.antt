@@ -3,7 +3,6 @@ use Rattle.std.proofs.Common.{◌≡◌, ℕ, zero, suc, ◌<◌, inl, inr, true
 use Rattle.std.proofs.Common.{length, length-append, take, Option, None, Some, Result}
 use Rattle.std.proofs.Common.{sym, ap, subst, arith, ◌∙◌, ◌++◌}
 use Rattle.std.specs.Prelude.{IsSome}
-use Rattle.std.specs.List.{AllZip}
 use Rattle.flow.specs.declared.flows.Flows.{Flows}
 use Rattle.media_file.specs.Records.{Entry}
 use Rattle.path_receiver.specs.Opening.{IsWindow}
@@ -29,7 +28,7 @@ use Rattle.stream_inspection.specs.declared.text.Form.{Form}
 use Rattle.run_laws.specs.Received.{all_read, read_of}
 use Rattle.run_laws.specs.Streams.{HaveFew}
 use Rattle.run_laws.proofs.NoTextFault.{no_text_fault}
-use Rattle.run_laws.proofs.Receiving.{was_read}
+use Rattle.run_laws.proofs.Receiving.{all_were_read, was_read}
 use Rattle.run_laws.proofs.WholeFiles.{fault_twice, not_both, stops_not, text_is, window_not}
 
 -- ---- opening
@@ -100,10 +99,6 @@ module _ {S : Type 0} (gave : S → List ℕ) (ended : S → Type 0) where
   abbrev Whole : List (Result Flows Refusal) → List (S × S) → Type 0
   Whole ways [] = Unit {0}
   Whole ways (s ∷ ss) = IsTakenWhole (first_way ways) (read_of gave s) × Whole (other_ways ways) ss
-
-  zipped : (files : List (S × S)) → AllZip (WasRead gave ended) files (all_read gave files)
-  zipped [] = tt
-  zipped (s ∷ ss) = (was_read gave ended s, zipped ss)
 
   are_whole : (ways : List (Result Flows Refusal)) (files : List (S × S)) (records : List Entry)
       → HaveRecords ways (all_read gave files) records None → HaveFew ways (all_read gave files)
@@ -183,20 +178,22 @@ module _ {S : Type 0} (gave : S → List ℕ) (ended : S → Type 0) where
       → HaveFew ways (all_read gave files)
       → IsStreamsRefusal w form sdp ways (WasRead gave ended) files other other' r → ⊥
   streams_not w form sdp ways files shown shown' other other' r tells few (inl (same, inl begin)) =
-      let run = tells.printed (all_read gave files) (zipped files) in
+      let run = tells.printed (all_read gave files) (all_were_read gave ended files) in
       begin_not w sdp (all_read gave files) run.0 r run.1 begin
   streams_not w form sdp ways files shown shown' other other' r tells few
       (inl (same, inr (inl (none, empty, is)))) =
-      let run = tells.printed (all_read gave files) (zipped files) in
+      let run = tells.printed (all_read gave files) (all_were_read gave ended files) in
       empty_not w sdp run.0
       (subst (λ (l : List (S × S)). IsTarget w sdp (all_read gave l) run.0) empty run.1) none
   streams_not w form sdp ways files shown shown' other other' r tells few
       (inl (same, inr (inr first))) =
-      let run = tells.printed (all_read gave files) (zipped files) in
+      let run = tells.printed (all_read gave files) (all_were_read gave ended files) in
       first_not w sdp ways files first.front first.at first.behind run.0 r first.parts run.1
       (are_whole ways files run.2 run.3 few) first.refused
   streams_not w form sdp ways files shown shown' other other' r tells few
       (inr (f, count, is, told)) =
-      let run = tells.printed (all_read gave files) (zipped files) in
-      let part = told.printed (all_read gave (take count files)) (zipped (take count files)) in
+      let run = tells.printed (all_read gave files) (all_were_read gave ended files) in
+      let part =
+      told.printed (all_read gave (take count files))
+      (all_were_read gave ended (take count files)) in
       ends_not ways files count part.2 f (are_whole ways files run.2 run.3 few) part.3

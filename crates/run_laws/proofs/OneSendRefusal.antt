@@ -1,6 +1,6 @@
 -- Of what a run of `send` read one refusal is told, but for the place of an SDP text's fault.
 use Rattle.std.proofs.Common.{◌≡◌, ℕ, ◌<◌, ◌≤◌, ◌⊎◌, inl, inr, List, [], ◌∷◌, Option}
-use Rattle.std.proofs.Common.{None, Some, refl, sym, ap, ◌∙◌, subst, arith}
+use Rattle.std.proofs.Common.{Some, refl, sym, ap, ◌∙◌, subst, arith}
 use Rattle.st_format.specs.Device.{AreOctets}
 use Rattle.st_format.specs.Member.{IsMember}
 use Rattle.st_format.specs.declared.format.Format.{Format}
@@ -24,9 +24,7 @@ use Rattle.run_laws.proofs.NoProcessRefusals.{not_text}
 use Rattle.run_laws.proofs.NoTextFault.{of_one_fault, one_text_fault}
 use Rattle.run_laws.proofs.NoSendRefusals.{file_not, first_not, format_read, later_not}
 use Rattle.run_laws.proofs.Receiving.{was_read}
-
-abbrev One : Refusal → Refusal → Type 0
-One r q = (r ≡ q) ⊎ AreOfOneFault r q
+use Rattle.run_laws.proofs.OneTextRefusal.{One}
 
 -- ---- which it is
 

@@ -6,14 +6,12 @@ use Rattle.std.specs.Int.{w16, to_be_bytes}
 use Rattle.std.specs.List.{flat_map, range_with_len, AllByRecursion, AllZip}
 use Rattle.std.proofs.lemmas.List.{append-nil}
 use Rattle.std.proofs.lemmas.Nat.{mul-le}
-use Rattle.st_format.specs.Device.{AreOctets}
 use Rattle.st_format.specs.Pgroup.{bits_of}
 use Rattle.st_format.specs.Picture.{Values}
 use Rattle.st_format.specs.Position.{group_count, row_groups, sample_count}
 use Rattle.st_format.specs.Raster.{Segment}
 use Rattle.st_format.specs.Samples.{octets_in}
 use Rattle.st_format.specs.declared.format.Format.{Format}
-use Rattle.st_format.proofs.Octets.{all_octets}
 use Rattle.st_format.proofs.SpelledOctets.{octets_in-spelled}
 use Rattle.rtp_header.specs.Grammar.{IsPlainRtp, Rtp, fixed_text, plain_flags}
 use Rattle.payload_header.specs.Payload.{Header, IsChain, IsHeaderOf, group_of, header_text}
@@ -221,18 +219,6 @@ pub picture_texts : (ds : List (List ℕ)) (p : Values) (stamp : Stamp) (size : 
     → IsSentPicture ds p stamp size packets → ds ≡ datagram_texts p stamp 0 packets
 picture_texts ds p stamp size packets small sent =
     datagrams_once p stamp size 0 ds packets sent.plan.each small sent.sent
-
-each_small : (ds : List (List ℕ)) → AllByRecursion AreOctets ds → AllByRecursion Small ds
-each_small [] octets = tt
-each_small (d ∷ ds) octets = (all_octets d octets.0, each_small ds octets.1)
-
--- So two lists of octets that are the datagrams of one picture by one plan are one list.
-pub one_picture_sent : (ds es : List (List ℕ)) (p : Values) (stamp : Stamp) (size : ℕ)
-    (packets : List (List PacketRun)) → AllByRecursion AreOctets ds → AllByRecursion AreOctets es
-    → IsSentPicture ds p stamp size packets → IsSentPicture es p stamp size packets → ds ≡ es
-one_picture_sent ds es p stamp size packets octets others sent again =
-    picture_texts ds p stamp size packets (each_small ds octets) sent
-    ∙ sym (picture_texts es p stamp size packets (each_small es others) again)
 
 -- ---- pictures with the same values have the same texts
 

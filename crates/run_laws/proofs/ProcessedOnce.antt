@@ -29,8 +29,8 @@ use Rattle.run_laws.specs.Received.{all_read, read_of}
 use Rattle.run_laws.specs.Sent.{AreOnePicture}
 use Rattle.run_laws.proofs.NoProcessRefusals.{frame_for, one_receiver, same_found, same_frame}
 use Rattle.run_laws.proofs.OneJob.{one_job, one_resampled}
-use Rattle.run_laws.proofs.Opened.{one_number}
 use Rattle.run_laws.proofs.Receiving.{was_read}
+use Rattle.script_engines.proofs.LinesOnce.{one_number}
 
 -- ---- a job of pictures makes one picture
 

@@ -1,6 +1,7 @@
 -- What a run of `receive` wrote is a received file, and there is one.
 use Rattle.std.proofs.Common.{◌≡◌, ℕ, List, [], ◌∷◌, Bool, Option, None, Some, Result, append-nil}
 use Rattle.std.proofs.Common.{refl, sym, ap, ◌∙◌, subst}
+use Rattle.std.specs.List.{AllZip}
 use Rattle.st_format.specs.History.{since}
 use Rattle.st_format.specs.Member.{SameDatagrams}
 use Rattle.st_format.proofs.Histories.{since_is}
@@ -17,7 +18,7 @@ use Rattle.run_outcome.specs.declared.refusal.Refusal.{Refusal}
 use Rattle.flow.specs.declared.flows.Flows.{Flows}
 use Rattle.capture_engines.specs.Files.{files_datagrams}
 use Rattle.capture_engines.specs.Receiving.{SavesShown}
-use Rattle.capture_engines.specs.Taking.{AnnouncesStream, AreRead, IsOpeningText, Receives}
+use Rattle.capture_engines.specs.Taking.{AnnouncesStream, IsOpeningText, Receives}
 use Rattle.capture_engines.specs.Taking.{ReceivesFiles, SavesHolding, said_behind}
 use Rattle.run_laws.specs.Received.{IsReceivedFile, all_read, datagrams_read, read_of, text_read}
 use Rattle.run_laws.proofs.Opened.{one_opening, source_fits, window_fits}
@@ -35,7 +36,7 @@ was_read gave ended s = record {
 }
 
 pub all_were_read : {S : Type 0} (gave : S → List ℕ) (ended : S → Type 0) (sources : List (S × S))
-    → AreRead (WasRead gave ended) sources (all_read gave sources)
+    → AllZip (WasRead gave ended) sources (all_read gave sources)
 all_were_read gave ended [] = tt
 all_were_read gave ended (s ∷ ss) = (was_read gave ended s, all_were_read gave ended ss)
 

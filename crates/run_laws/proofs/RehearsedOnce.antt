@@ -20,9 +20,10 @@ use Rattle.script_engines.specs.Forms.{IsWindowText}
 use Rattle.script_engines.specs.Rehearsal.{IsBody, IsFaultyBody, IsPictureLine}
 use Rattle.script_engines.specs.RehearsalForms.{IsCountLine, IsEventLine, IsNumberLine}
 use Rattle.script_engines.specs.RehearsalForms.{IsWindowLine}
+use Rattle.script_engines.proofs.LinesOnce.{one_number}
 use Rattle.run_laws.proofs.OneJob.{letter_at}
-use Rattle.run_laws.proofs.Opened.{one_number}
-use Rattle.run_laws.proofs.ScriptLines.{same_rest, same_window}
+use Rattle.script_engines.proofs.FormLemmas.{same_rest}
+use Rattle.run_laws.proofs.ScriptLines.{same_window}
 use Rattle.run_laws.proofs.ScriptOnce.{Numbered, no_line}
 
 -- ---- lines of the head

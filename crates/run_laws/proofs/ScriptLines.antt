@@ -1,7 +1,6 @@
 -- The first two lines of a script open a receiver in one way.
-use Rattle.std.proofs.Common.{◌≡◌, ℕ, List, [], ◌∷◌, ◌++◌, drop, Option, None, Some}
+use Rattle.std.proofs.Common.{◌≡◌, ℕ, List, [], ◌∷◌, Option, None}
 use Rattle.std.proofs.Common.{codes, length, get_or, refl, sym, ap, ◌∙◌, subst, arith}
-use Rattle.std.proofs.lemmas.Option.{some_pair_parts}
 use Rattle.std.proofs.lemmas.Str.Parse.{digit_at}
 use Rattle.st_format.specs.declared.format.Format.{Format}
 use Rattle.st_format.specs.Text.{parted}
@@ -10,25 +9,9 @@ use Rattle.run_outcome.specs.Sources.{IsSourceText}
 use Rattle.run_outcome.specs.Timestamps.{AreTimestamps}
 use Rattle.script_engines.specs.FirstLines.{ReadsOpening}
 use Rattle.script_engines.specs.Forms.{IsWindowText}
-use Rattle.run_laws.proofs.Opened.{one_number, one_source, one_window}
-
-pub same_rest : (w a b : List ℕ) → w ++ a ≡ w ++ b → a ≡ b
-same_rest [] a b e = e
-same_rest (x ∷ w) a b e = same_rest w a b (ap (λ (l : List ℕ). drop 1 l) e)
-
-abbrev Part : Type 0
-Part = Option (List ℕ × List ℕ)
-
--- the two parts of one text
-pub parts : (mark : ℕ) (text other a b x y : List ℕ) → text ≡ other → parted mark text ≡ Some (a, b)
-    → parted mark other ≡ Some (x, y) → (a ≡ x) × (b ≡ y)
-parts mark text other a b x y same p q =
-    some_pair_parts a x b y
-    (sym p ∙ ap (λ (l : List ℕ). let r : Part = parted mark l in r) same ∙ q)
-
-none_some : (r : Part) (a b : List ℕ) → r ≡ None → r ≡ Some (a, b) → ⊥
-none_some None a b none some = absurd cc
-none_some (Some p) a b none some = absurd cc
+use Rattle.script_engines.proofs.LinesOnce.{one_number, parts}
+use Rattle.script_engines.proofs.FormLemmas.{same_rest}
+use Rattle.run_laws.proofs.Opened.{Part, none_some, one_source, one_window}
 
 -- `-` is no list of timestamps
 dash_none : (text : List ℕ) (t : ℕ) (ts : List ℕ) → text ≡ codes "-"

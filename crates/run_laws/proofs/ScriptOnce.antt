@@ -1,25 +1,16 @@
 -- A source gives one script, and its lines are read in one way.
 use Rattle.std.proofs.Common.{◌≡◌, ℕ, Bool, true, false, List, [], ◌∷◌, drop, get_or, length}
-use Rattle.std.proofs.Common.{Result, Ok, Err, inl, inr, codes}
+use Rattle.std.proofs.Common.{Result, Ok, Err, inl, inr}
 use Rattle.std.proofs.Common.{refl, sym, ap, ◌∙◌, subst, arith}
-use Rattle.std.specs.Prelude.{◌==◌, if◌then◌else◌}
 use Rattle.st_format.specs.declared.format.FormatFault.{FormatFault}
-use Rattle.st_format.specs.declared.sampling.Sampling.{Sampling}
-use Rattle.st_format.specs.declared.sampling.Sampling.TheVariants.{Ycc422, Ycc444, Rgb}
-use Rattle.st_format.specs.declared.sampling.Depth.{Depth}
-use Rattle.st_format.specs.declared.sampling.Depth.TheVariants.{D8, D10, D12, D16}
-use Rattle.st_format.specs.Fields.{Fields, format_at}
-use Rattle.st_format.specs.Pgroup.{bits_of}
-use Rattle.st_format.specs.Words.{sampling_text}
+use Rattle.st_format.specs.Fields.{Fields}
 use Rattle.st_format.proofs.Histories.{since_is}
 use Rattle.run_outcome.specs.LowerFaults.{IsMisformed}
 use Rattle.run_outcome.specs.declared.fault.Fault.{Fault}
 use Rattle.script_engines.specs.FirstLines.{IsFaultyFormat, IsFaultyNext, ReadsFormat, ReadsOne}
 use Rattle.script_engines.specs.FirstLines.{SaysFormatLine}
 use Rattle.script_engines.specs.Script.{IsReadFrom}
-use Rattle.run_laws.proofs.OneJob.{letter_at}
-use Rattle.run_laws.proofs.Opened.{one_number}
-use Rattle.run_laws.proofs.ScriptLines.{parts, same_rest}
+use Rattle.script_engines.proofs.LinesOnce.{same_line, same_made}
 
 -- ---- the script
 
@@ -68,76 +59,15 @@ not_one form lines behind end f r bad =
 
 -- ---- a line `format`
 
-abbrev sampling_by : List ℕ → Sampling
-sampling_by text =
-    if letter_at 8 text == 50 then Ycc422
-    else (if letter_at 8 text == 52 then Ycc444 else Rgb)
-
-sampling_back : (s : Sampling) → sampling_by (sampling_text s) ≡ s
-sampling_back Ycc422 = refl
-sampling_back Ycc444 = refl
-sampling_back Rgb = refl
-
-abbrev depth_by : ℕ → Depth
-depth_by n = if n == 8 then D8 else (if n == 10 then D10 else (if n == 12 then D12 else D16))
-
-depth_back : (d : Depth) → depth_by (bits_of d) ≡ d
-depth_back D8 = refl
-depth_back D10 = refl
-depth_back D12 = refl
-depth_back D16 = refl
-
-same_sampling : (a b : Sampling) → sampling_text a ≡ sampling_text b → a ≡ b
-same_sampling a b e = sym (sampling_back a) ∙ ap sampling_by e ∙ sampling_back b
-
-same_depth : (a b : Depth) → bits_of a ≡ bits_of b → a ≡ b
-same_depth a b e = sym (depth_back a) ∙ ap depth_by e ∙ depth_back b
-
--- what the fields of a line make
-abbrev made_of : Sampling → Depth → ℕ → ℕ → ℕ → ℕ → Result Fields FormatFault
-made_of s b w h n d = format_at s b w h n d
-
 -- the next line makes one format, or has one reason why it makes none
 one_made : (lines behind left : Numbered) (x y : Result Fields FormatFault)
     → ReadsFormat lines behind x → ReadsFormat lines left y → x ≡ y
 one_made lines behind left x y read also =
     let texts = same_next lines behind left read.number also.number read.text also.text read.next
     also.next in
-    let f = read.said in
-    let g = also.said in
-    let p = read.line_is in
-    let q = also.line_is in
-    let rest = same_rest (codes "format ") p.rest q.rest (sym p.text_is ∙ texts.0 ∙ q.text_is) in
-    let a = p.fields in
-    let b = q.fields in
-    let one =
-    parts 32 p.rest q.rest (sampling_text f.sampling) a.behind (sampling_text g.sampling) b.behind
-    rest a.parts b.parts in
-    let two = parts 32 a.behind b.behind a.depth a.more b.depth b.more one.1 a.parts_behind
-    b.parts_behind in
-    let three = parts 32 a.more b.more a.width a.last b.width b.last two.1 a.parts_more
-    b.parts_more in
-    let h = a.last_are in
-    let i = b.last_are in
-    let four = parts 32 a.last b.last h.first h.rate i.first i.rate three.1 h.parts i.parts in
-    let r = h.rate_is in
-    let s = i.rate_is in
-    let five = parts 47 h.rate i.rate r.over r.under s.over s.under four.1 r.parts s.parts in
-    let bits =
-    one_number a.depth b.depth (bits_of f.depth) (bits_of g.depth) two.0 a.depth_is b.depth_is in
-    let width = one_number a.width b.width f.width g.width three.0 a.width_is b.width_is in
-    let height = one_number h.first i.first f.height g.height four.0 h.height_is i.height_is in
-    let n = one_number r.over s.over f.n g.n five.0 r.over_is s.over_is in
-    let d = one_number r.under s.under f.d g.d five.1 r.under_is s.under_is in
     read.made_is
-    ∙ ap (λ (x : Sampling). made_of x f.depth f.width f.height f.n f.d)
-    (same_sampling f.sampling g.sampling one.0)
-    ∙ ap (λ (x : Depth). made_of g.sampling x f.width f.height f.n f.d)
-    (same_depth f.depth g.depth bits)
-    ∙ ap (λ (x : ℕ). made_of g.sampling g.depth x f.height f.n f.d) width
-    ∙ ap (λ (x : ℕ). made_of g.sampling g.depth g.width x f.n f.d) height
-    ∙ ap (λ (x : ℕ). made_of g.sampling g.depth g.width g.height x f.d) n
-    ∙ ap (λ (x : ℕ). made_of g.sampling g.depth g.width g.height g.n x) d
+    ∙ same_made read.said also.said
+    (same_line read.text also.text read.said also.said texts.0 read.line_is also.line_is)
     ∙ sym also.made_is
 
 abbrev is_made : Fields → Result Fields FormatFault

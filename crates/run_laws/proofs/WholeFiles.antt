@@ -31,10 +31,10 @@ use Rattle.capture_engines.specs.declared.way.Way.TheVariants as way
 
 -- ---- a file that was taken to its end
 
-abbrev none_flows : Option Flows
+abbrev pub none_flows : Option Flows
 none_flows = None
 
-no_flows : IsSome none_flows → ⊥
+pub no_flows : IsSome none_flows → ⊥
 no_flows is = cc
 
 abbrev failed : ReadingFault → Option ReadingFault

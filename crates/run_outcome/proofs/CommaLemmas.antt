@@ -51,10 +51,6 @@ one_more text done rest first more t so_far parts is = record {
       (o.0, b.1 ∙ ap (λ (xs : List ℕ). done ++ xs) o.1 ∙ sym (append_assoc done (t ∷ []) o.0), o.2);
 }
 
-pub last_one : (text done rest : List ℕ) (t : ℕ) → SoFar text done rest → parted 44 rest ≡ None
-    → IsNumberOf rest t → AreTimestamps text (done ++ t ∷ [])
-last_one text done rest t so_far parts is = so_far.forth (t ∷ []) (parts, is)
-
 -- ---- texts that are none
 
 no_first : (rest first more : List ℕ) (left : List ℕ) → parted 44 rest ≡ Some (first, more)

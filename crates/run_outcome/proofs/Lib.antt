@@ -5,3 +5,4 @@ pub mod Refusals
 pub mod SetSums
 pub mod SaidTexts
 pub mod Blaming
+pub mod Splits

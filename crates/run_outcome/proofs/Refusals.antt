@@ -2,7 +2,6 @@
 use Rattle.std.proofs.Common.{◌≡◌, ℕ, ◌≤◌, ◌⊎◌, inl, inr, List, ◌++◌, length}
 use Rattle.std.proofs.Common.{Result, Ok, Err, IfErr, refl, ap, append-nil, arith}
 use Rattle.std.proofs.Common.{length-append, subst, sym, ◌∙◌}
-use Rattle.std.specs.Prelude.{⊤}
 use Rattle.media_file.specs.Faults.{IfContent}
 use Rattle.media_file.specs.PictureFaults.{IsPictureFault}
 use Rattle.media_file.specs.declared.fault.FileFault.{FileFault}
@@ -19,13 +18,9 @@ use Rattle.sdp_format.specs.Sections.{video_sections}
 use Rattle.sdp_format.specs.declared.fault.SdpFault.{SdpFault}
 use Rattle.sdp_format.specs.declared.fault.SdpFault.TheVariants as sdp
 use Rattle.sdp_format.specs.declared.place.Located.{Located}
-use Rattle.run_outcome.specs.Status.{status_number}
-use Rattle.run_outcome.specs.Telling.{IsRefusalLine, TellsLine, memory_line}
-use Rattle.run_outcome.specs.declared.status.Status.{Status}
 use Rattle.run_outcome.specs.declared.status.Status.TheVariants as ended
-use Rattle.run_outcome.specs.Fault.{IfRefused, TellsFault}
+use Rattle.run_outcome.specs.Fault.{IfRefused}
 use Rattle.run_outcome.specs.LowerFaults.{of_sdp, picture_fault, sdp_fault}
-use Rattle.run_outcome.specs.RefusalText.{refusal_text}
 use Rattle.run_outcome.specs.TextRefusals.{HasTextFault, IsSdpRefusal, IsTextRefusal}
 use Rattle.run_outcome.specs.Refusing.{OfRefusal, TellsOutcome, TellsRefusal}
 use Rattle.run_outcome.specs.Pictures.{IsPictureRefusal}
@@ -59,12 +54,6 @@ pub if_none_refused : {V : Type 0} (P : Refusal → Type 0) (r : Result V Fault)
 if_none_refused P (Ok v) none = tt
 if_none_refused P (Err f) none = none_refused P f none
 
--- any refusal is one
-pub any_refusal : (f : Fault) → OfRefusal f (λ _. ⊤)
-any_refusal (fault.Refused r) = tt
-any_refusal fault.Device = tt
-any_refusal fault.Memory = tt
-
 -- ---- want of memory
 
 -- it is no refusal, and no device's fault
@@ -81,56 +70,6 @@ device_alone (Ok v) P device = tt
 device_alone (Err f) P device = λ memory. absurd (device_not (sym device ∙ memory))
 
 -- ---- what is told
-
--- at status 1 a line was told whole, which is that of the status
-pub line_told : (status : Status) (line : List ℕ) (result : Status) (old new : ℕ)
-    (took took' : List ℕ) → TellsLine status line result old new took took'
-    → status_number result ≡ 1 → (result ≡ status) × (took' ≡ took ++ line)
-line_told status line result old new took took' (inl is) one = (is.0, is.2)
-line_told status line result old new took took' (inr is) one =
-    let three : status_number result ≡ 3 = ap status_number is.0 in
-    absurd (omega (arith, one, three))
-
-told_of_line : (Is : Refusal → Type 0) (r : Refusal) → Is r → (status : Status) (line : List ℕ)
-    (took took' : List ℕ) → IsRefusalLine (refusal_text r) status line
-    → status_number status ≡ 1 → took' ≡ took ++ line → TellsRefusal Is took took'
-told_of_line Is r is status line took took' told one taken = record {
-  refusal = r;
-  is = is;
-  told = subst (λ (l : List ℕ). took' ≡ took ++ l) told.1 taken;
-}
-
--- where a run ends with status 1, a refusal was told
-pub refusal_told : (Is : Refusal → Type 0) (f : Fault) (result : Status) (old new : ℕ)
-    (took took' : List ℕ) → TellsFault f result old new took took'
-    → OfRefusal f Is → status_number result ≡ 1 → TellsRefusal Is took took'
-refusal_told Is (fault.Refused r) result old new took took' tells is one =
-    let told = line_told tells.0 tells.1 result old new took took' tells.3 one in
-    told_of_line Is r is tells.0 tells.1 took took' tells.2
-    (sym (ap status_number told.0) ∙ one) told.1
-refusal_told Is fault.Device result old new took took' tells is one =
-    let told = line_told tells.0 tells.1 result old new took took' tells.3 one in
-    let three : status_number result ≡ 3 = ap status_number (told.0 ∙ tells.2.0) in
-    absurd (omega (arith, one, three))
-refusal_told Is fault.Memory result old new took took' tells is one =
-    let told = line_told tells.0 tells.1 result old new took took' tells.3 one in
-    let four : status_number result ≡ 4 = ap status_number (told.0 ∙ tells.2.0) in
-    absurd (omega (arith, one, four))
-
--- where memory was wanted the status isn't 1
-pub memory_told : (Is : Refusal → Type 0) (result : Status) (old new : ℕ)
-    (took took' : List ℕ) → TellsLine ended.Memory memory_line result old new took took'
-    → status_number result ≡ 1 → TellsRefusal Is took took'
-memory_told Is result old new took took' tells one =
-    let told = line_told ended.Memory memory_line result old new took took' tells one in
-    let four : status_number result ≡ 4 = ap status_number told.0 in
-    absurd (omega (arith, one, four))
-
--- a fault is the refusal that it is
-pub own_refusal : (f : Fault) → OfRefusal f (λ r. f ≡ fault.Refused r)
-own_refusal (fault.Refused r) = refl
-own_refusal fault.Device = tt
-own_refusal fault.Memory = tt
 
 -- where what a run came to was told as a refusal, what holds of a refusal holds of that
 pub outcome_told : {V : Type 0} (Is : Refusal → Type 0) (r : Result V Fault)
@@ -183,7 +122,7 @@ pub of_source : (Is : List ℕ → Type 0) (before now : List ℕ) (ended : Type
 of_source Is before now ended text gives is octets read =
     subst Is (sym (all_read before now ended text octets gives.given gives.ended read)) is
 
-either : {X Y : Type 0} → (X → ⊥) → X ⊎ Y → Y
+pub either : {X Y : Type 0} → (X → ⊥) → X ⊎ Y → Y
 either none (inl x) = absurd (none x)
 either none (inr y) = y
 

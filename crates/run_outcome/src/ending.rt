@@ -2,10 +2,9 @@
 ghost use Rattle.std.specs.Prelude.{◌≡◌, ◌≢◌, ◌⊎◌, ◌++◌, Err};
 ghost use Rattle.st_format.specs.Device.{Failed};
 ghost use Rattle.run_outcome.specs.Fault.{EndsDone, EndsFailed, EndsRefused, EndsWorked};
-ghost use Rattle.run_outcome.specs.Fault.{IsLineOf, TellsFault};
+ghost use Rattle.run_outcome.specs.Fault.{TellsFault};
 ghost use Rattle.run_outcome.specs.Refusing.{TellsOutcome};
-ghost use Rattle.run_outcome.specs.RefusalText.{refusal_text};
-ghost use Rattle.run_outcome.specs.Telling.{IsRefusalLine, TellsLine, device_line, memory_line};
+ghost use Rattle.run_outcome.specs.Telling.{device_line, memory_line};
 
 use crate::fault::Fault;
 use crate::refusal::Refusal;

@@ -4,7 +4,7 @@ mod DigitLemmas
 mod RestLemmas
 mod LineLemmas
 mod FrameLemmas
-mod FormLemmas
+pub mod FormLemmas
 pub mod OctetLemmas
 pub mod WindowLemmas
 mod RehearsalLemmas

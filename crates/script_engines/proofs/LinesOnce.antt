@@ -1,5 +1,5 @@
 -- A line is of one kind, and a line `format` says one format.
-use Rattle.std.proofs.Common.{◌≡◌, ℕ, ◌⊎◌, List, [], ◌∷◌, ◌++◌, Option, Some, Result, Ok}
+use Rattle.std.proofs.Common.{◌≡◌, ℕ, ◌⊎◌, List, ◌++◌, Option, Some, Result, Ok}
 use Rattle.std.proofs.Common.{codes, get_or, refl, sym, ap, ◌∙◌, arith, inl, inr}
 use Rattle.std.specs.Prelude.{◌==◌, if◌then◌else◌}
 use Rattle.std.specs.Str.Parse.{digits_value}
@@ -25,12 +25,12 @@ use Rattle.script_engines.specs.declared.line.FormatLine.{FormatLine}
 use Rattle.script_engines.specs.declared.line.TraceLine.{TraceLine}
 use Rattle.script_engines.specs.declared.line.TraceLine.TheVariants as line
 use Rattle.script_engines.specs.FirstLines.{ReadsFormat}
-use Rattle.script_engines.specs.Forms.{AreFormat, AreHeightAndRate, IsFormatLine, IsOctetsText}
-use Rattle.script_engines.specs.Forms.{IsRateText, IsTraceLine}
+use Rattle.script_engines.specs.Forms.{IsFormatLine, IsOctetsText}
+use Rattle.script_engines.specs.Forms.{IsTraceLine}
 use Rattle.script_engines.specs.Session.{AnswersDatagram, Follows}
 use Rattle.script_engines.proofs.FormLemmas.{same_rest}
 
-one_number : (a b : List ℕ) (m n : ℕ) → a ≡ b → IsNumberOf a m → IsNumberOf b n → m ≡ n
+pub one_number : (a b : List ℕ) (m n : ℕ) → a ≡ b → IsNumberOf a m → IsNumberOf b n → m ≡ n
 one_number a b m n same p q =
     p.value ∙ ap (λ (text : List ℕ). digits_value 10 text) same ∙ sym q.value
 
@@ -67,10 +67,10 @@ same_bits : (a b : Depth) → bits_of a ≡ bits_of b → a ≡ b
 same_bits a b e = sym (depth_back a) ∙ ap depth_by e ∙ depth_back b
 
 -- what a line makes
-abbrev made_by : FormatLine → Result Fields FormatFault
+abbrev pub made_by : FormatLine → Result Fields FormatFault
 made_by f = format_at f.sampling f.depth f.width f.height f.n f.d
 
-record SameLine (f g : FormatLine) : Type 0 where
+pub record SameLine (f g : FormatLine) : Type 0 where
   sampling : f.sampling ≡ g.sampling
   depth : f.depth ≡ g.depth
   width : f.width ≡ g.width
@@ -78,20 +78,20 @@ record SameLine (f g : FormatLine) : Type 0 where
   n : f.n ≡ g.n
   d : f.d ≡ g.d
 
-same_made : (f g : FormatLine) → SameLine f g → made_by f ≡ made_by g
+pub same_made : (f g : FormatLine) → SameLine f g → made_by f ≡ made_by g
 same_made f g s = rw (s.sampling, s.depth, s.width, s.height, s.n, s.d) refl
 
 abbrev Part : Type 0
 Part = Option (List ℕ × List ℕ)
 
 -- the two parts of one text
-parts : (mark : ℕ) (text other a b x y : List ℕ) → text ≡ other → parted mark text ≡ Some (a, b)
+pub parts : (mark : ℕ) (text other a b x y : List ℕ) → text ≡ other → parted mark text ≡ Some (a, b)
     → parted mark other ≡ Some (x, y) → (a ≡ x) × (b ≡ y)
 parts mark text other a b x y same p q =
     some_pair_parts a x b y
     (sym p ∙ ap (λ (l : List ℕ). let r : Part = parted mark l in r) same ∙ q)
 
-same_line : (text other : List ℕ) (f g : FormatLine) → text ≡ other → IsFormatLine text f
+pub same_line : (text other : List ℕ) (f g : FormatLine) → text ≡ other → IsFormatLine text f
     → IsFormatLine other g → SameLine f g
 same_line text other f g same p q =
     let rest = same_rest (codes "format ") p.rest q.rest (sym p.text_is ∙ same ∙ q.text_is) in

@@ -1,12 +1,11 @@
 -- Lines of a rehearsal that are read one by one.
 use Rattle.std.proofs.Common.{◌≡◌, ◌⊎◌, inl, inr, Bool, true, ℕ, ◌*◌, List, [], ◌∷◌, ◌++◌}
-use Rattle.std.proofs.Common.{codes, length, refl}
+use Rattle.std.proofs.Common.{length, refl}
 use Rattle.std.proofs.Common.{Ok, ap, sym, subst, ◌∙◌, append_assoc, append-nil}
 use Rattle.std.specs.List.{AllZip}
 use Rattle.hex.specs.Hex.{decode_of}
 use Rattle.packet_plan.specs.declared.stamp.Stamp.{Stamp}
 use Rattle.path_merge.specs.declared.schedule.event.Event.{Event}
-use Rattle.path_merge.specs.declared.schedule.event.Event.TheVariants.{Send, Arrive, Slide, Merge}
 use Rattle.pgroup_pack.specs.Packing.{Agree}
 use Rattle.st_format.specs.declared.format.Format.{Format}
 use Rattle.st_format.specs.Fields.{Fields}
@@ -23,14 +22,13 @@ use Rattle.script_engines.specs.declared.rehearsal.Head.{Head}
 use Rattle.script_engines.specs.declared.rehearsal.Rehearsal.{Rehearsal}
 use Rattle.script_engines.specs.FirstLines.{IsFaultyNext, ReadsFormat, ReadsOne}
 use Rattle.script_engines.specs.Rehearsal.{AddsLine, IsBody, IsFaultyBody, IsFaultyHead, IsMaxLine}
-use Rattle.script_engines.specs.Rehearsal.{IsPictureLine, IsPictureOf, IsUnfitBehind, SaysCount}
-use Rattle.script_engines.specs.Rehearsal.{SaysMax, SaysStamp, SaysWindow}
+use Rattle.script_engines.specs.Rehearsal.{IsPictureLine, IsPictureOf, SaysCount}
+use Rattle.script_engines.specs.Rehearsal.{SaysMax, SaysWindow}
 use Rattle.script_engines.specs.Rehearsal.{Heading, IsFaultyRehearsal, ReadsHead, Said}
 use Rattle.script_engines.specs.Rehearsal.{SaysRehearsal}
 use Rattle.script_engines.specs.Rehearsal.{heading_of, said_by}
 use Rattle.script_engines.specs.RehearsalForms.{IsEventLine, IsStampLine, IsWindowLine}
 use Rattle.script_engines.specs.Script.{line_behind, numbered_lines}
-use Rattle.script_engines.proofs.FormLemmas.{differ, same_rest}
 
 -- lines, each with its number
 abbrev pub Numbered : Type 0
@@ -44,11 +42,6 @@ pub faulty_line : (form : List ℕ → Type 0) (lines behind : Numbered) (number
     → IsFaultyNext form lines end f
 faulty_line form lines behind number text end f next none is =
     subst (λ (l : Numbered). IsFaultyNext form l end f) (sym next) (is, none)
-
-pub faulty_end : (form : List ℕ → Type 0) (lines : Numbered) (end : ℕ) (f : Fault)
-    → IsMisformed end f × (lines ≡ []) → IsFaultyNext form lines end f
-faulty_end form lines end f is =
-    subst (λ (l : Numbered). IsFaultyNext form l end f) (sym is.1) is.0
 
 -- a line that says something of a form is of the form
 pub reads_some : {X : Type 0} (P : List ℕ → X → Type 0) (x : X) (lines behind : Numbered)
@@ -82,15 +75,6 @@ ArePictureLines format lines pictures =
 
 abbrev AreEventLines : Numbered → List Event → Type 0
 AreEventLines lines events = AllZip (λ line event. IsEventLine line.1 event) lines events
-
-pub no_lines : (format : Format) → IsBody format [] [] []
-no_lines format = record {
-  of_pictures = [];
-  of_events = [];
-  whole = refl;
-  pictures_are = tt;
-  events_are = tt;
-}
 
 pub body_adds : (format : Format) (before : Numbered) (number : ℕ) (text : List ℕ)
     (pictures : List Values) (events : List Event) (pictures' : List Values) (events' : List Event)
@@ -136,9 +120,6 @@ pub record SoFar (format : Format) (all left : Numbered) (pictures : List Values
   pub whole : all ≡ before ++ left
   pub body : IsBody format before pictures events
 
-pub so_far_none : (format : Format) (all : Numbered) → SoFar format all all [] []
-so_far_none format all = record { before = []; whole = refl; body = no_lines format }
-
 pub so_far_more : (format : Format) (all left left' : Numbered) (number : ℕ) (text : List ℕ)
     (pictures : List Values) (events : List Event) (pictures' : List Values) (events' : List Event)
     → SoFar format all left pictures events → left ≡ (number, text) ∷ left'
@@ -153,49 +134,7 @@ so_far_more format all left left' number text pictures events pictures' events' 
       body = body_adds format s.before number text pictures events pictures' events' s.body adds;
     }
 
-pub so_far_all : (format : Format) (all left : Numbered) (pictures : List Values)
-    (events : List Event) → SoFar format all left pictures events → left ≡ []
-    → IsBody format all pictures events
-so_far_all format all left pictures events s none =
-    subst (λ (l : Numbered). IsBody format l pictures events)
-    (sym (s.whole ∙ ap (λ (l : Numbered). s.before ++ l) none ∙ append-nil s.before)) s.body
-
-pub so_far_faulty : (format : Format) (all left left' : Numbered) (number : ℕ) (text : List ℕ)
-    (pictures : List Values) (events : List Event) (f : Fault)
-    → SoFar format all left pictures events → left ≡ (number, text) ∷ left'
-    → IsUnfitBehind format events text → IsMisformed number f → IsFaultyBody format all f
-so_far_faulty format all left left' number text pictures events f s next unfit is = record {
-  before = s.before;
-  number = number;
-  text = text;
-  behind = left';
-  pictures = pictures;
-  events = events;
-  whole = s.whole ∙ ap (λ (l : Numbered). s.before ++ l) next;
-  fine = s.body;
-  unfit = unfit;
-  fault_is = is;
-}
-
 -- ---- what is no line of a body
-
-pub picture_no_event : (text digits : List ℕ) → text ≡ codes "picture " ++ digits
-    → (event : Event) → IsEventLine text event → ⊥
-picture_no_event text digits e Send is =
-    differ text (codes "picture " ++ digits) (codes "send") refl e is
-picture_no_event text digits e (Arrive to by number) is =
-    differ text (codes "picture " ++ digits) (codes "arrive " ++ is.0) refl e is.1
-picture_no_event text digits e (Slide at next) is =
-    differ text (codes "picture " ++ digits) (codes "slide " ++ is.0) refl e is.1
-picture_no_event text digits e (Merge into from) is =
-    differ text (codes "picture " ++ digits) (codes "merge " ++ is.0) refl e is.1
-
-pub no_picture_line : (format : Format) (text digits : List ℕ) → text ≡ codes "picture " ++ digits
-    → ((p : Values) → IsPictureOf format digits p → ⊥) → (p : Values)
-    → IsPictureLine format text p → ⊥
-no_picture_line format text digits e none p line =
-    none p (subst (λ (d : List ℕ). IsPictureOf format d p)
-    (same_rest (codes "picture ") line.digits digits (sym line.text_is ∙ e)) line.picture_is)
 
 bits_agree : (n : ℕ) (octets samples : List ℕ) → Spells n octets samples
     → 8 * length octets ≡ n * length samples
@@ -225,12 +164,6 @@ same_end : (form : List ℕ → Type 0) (lines : Numbered) (end last : ℕ) (f :
     → IsFaultyNext form lines last f → last ≡ end → IsFaultyNext form lines end f
 same_end form lines end last f bad is =
     subst (λ (e : ℕ). IsFaultyNext form lines e f) is bad
-
-pub head_at_stamp : (l0 l1 : Numbered) (made : Fields) (end last : ℕ) (f : Fault)
-    → ReadsFormat l0 l1 (Ok made) → IsFaultyNext SaysStamp l1 last f → last ≡ end
-    → IsFaultyHead l0 end f
-head_at_stamp l0 l1 made end last f format bad is =
-    inr (l1, made, format, inl (same_end SaysStamp l1 end last f bad is))
 
 pub head_at_max : (l0 l1 l2 : Numbered) (made : Fields) (stamp : Stamp) (end last : ℕ) (f : Fault)
     → ReadsFormat l0 l1 (Ok made) → ReadsOne (λ text. IsStampLine text stamp) l1 l2

@@ -85,16 +85,6 @@ one_more lines left behind line old mid new before between after took took' took
       };
     }
 
-pub all_answered : (lines left : List (ℕ × List ℕ)) (old new : State)
-    (before after : Option Numbers) (took took' : List ℕ) → left ≡ []
-    → FollowedTo lines left old new before after took took'
-    → Answers lines old new before after took took'
-all_answered lines left old new before after took took' none so_far =
-    let all : so_far.done ≡ lines =
-    sym (so_far.parts ∙ ap (λ (l : List (ℕ × List ℕ)). so_far.done ++ l) none
-    ∙ append-nil so_far.done) in
-    subst (λ (l : List (ℕ × List ℕ)). Answers l old new before after took took') all so_far.answers
-
 -- the next line isn't answered, or not wholly
 pub some_answered : (lines left behind : List (ℕ × List ℕ)) (line : ℕ × List ℕ) (old mid : State)
     (before between : Option Numbers) (took took' new : List ℕ)
@@ -157,10 +147,6 @@ absent_cut old mid new xs ys p q = (
   took_both old mid new xs (take q.0 ys) p q.1
       ∙ ap (λ (l : List ℕ). old ++ l) (sym (take-append-add xs ys q.0)),
 )
-
--- nothing was printed, or a part
-pub part_none : (old text : List ℕ) → PrintsPart text old old
-part_none old text = (0, sym (append-nil old))
 
 pub part_of : (old new text : List ℕ) → GrowsPart old new text → PrintsPart text old new
 part_of old new text p = (p.count, p.grown)

@@ -1,5 +1,5 @@
 //! The lines that a script begins with.
-ghost use Rattle.std.specs.Prelude.{◌≡◌, ◌≢◌, ◌∷◌, [], ℕ, Err, IfErr, IfOk, Ok};
+ghost use Rattle.std.specs.Prelude.{◌≡◌, ◌∷◌, [], ℕ, Err, IfErr, IfOk, Ok};
 ghost use Rattle.st_format.specs.declared.format.FormatFault.{FormatFault};
 ghost use Rattle.st_format.specs.Fields.{fields_of};
 ghost use Rattle.run_outcome.specs.Fault.{Accounts};

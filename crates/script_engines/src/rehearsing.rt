@@ -11,8 +11,6 @@ ghost use Rattle.script_engines.specs.Rehearsed.{IsRefusedScript, IsUnplayed, Pl
 ghost use Rattle.script_engines.specs.Rehearsed.{RehearsesPart};
 ghost use Rattle.script_engines.specs.Rehearsed.{handed_line, handed_text, receiver_lines};
 ghost use Rattle.script_engines.specs.Rehearsed.{receivers_text};
-ghost use Rattle.run_outcome.specs.Telling.{memory_line};
-ghost use Rattle.script_engines.specs.Script.{GivesAll, GivesScript};
 
 use crate::rehearsal::{Rehearsal, read_rehearsal};
 use crate::script::{Script, read_script};

@@ -7,12 +7,13 @@ use Rattle.std.specs.List.{AllZip, zip}
 use Rattle.capture_engines.specs.Files.{first_way, other_ways, way_at}
 use Rattle.capture_engines.specs.Received.{IsFileOpenedRefusal, StopsFront}
 use Rattle.capture_engines.specs.Sent.{FirstIs}
-use Rattle.capture_engines.proofs.InOrder.{NextPair, next_pair}
+use Rattle.capture_engines.proofs.InOrder.{At, NextPair, at_place, next_pair}
 use Rattle.capture_engines.proofs.ReceivedRefusals.{HasStarted}
 use Rattle.flow.specs.declared.flows.Flows.{Flows}
 use Rattle.media_file.specs.Records.{Entry}
 use Rattle.recording_reader.specs.declared.fault.ReadingFault.{ReadingFault}
 use Rattle.run_outcome.specs.declared.refusal.Refusal.{Refusal}
+use Rattle.run_outcome.proofs.Splits.{Split, split_tell}
 use Rattle.stream_inspection.specs.Inspected.{IsInspected}
 use Rattle.stream_inspection.specs.Read.{HasRecords, HaveRecords, IfEnd, IsFirstFront, IsSettled}
 use Rattle.stream_inspection.specs.Read.{IsStartRefusal, MayBe, NotesFile, NotesFiles, NotesUpTo}
@@ -55,40 +56,6 @@ may_before : (b a : Option Target) (o : List ℕ) (t : Target) → Settles b (o 
 may_before None a o t settles may = tt
 may_before (Some u) a o t settles may =
     subst (λ (x : Option Target). MayBe x t) settles may
-
--- the octets of some sources and of one more
-record Split {S : Type 0} (f : S → List ℕ → Type 0) (xs : List S) (x : S)
-    (octets : List (List ℕ)) : Type 0 where
-  pub front : List (List ℕ)
-  pub last : List ℕ
-  pub whole : octets ≡ front ++ last ∷ []
-  pub counted : length front ≡ length xs
-  pub tell : AllZip f xs front
-  pub one : f x last
-
-split_tell : {S : Type 0} (f : S → List ℕ → Type 0) (xs : List S) (x : S)
-    (octets : List (List ℕ)) → AllZip f (xs ++ x ∷ []) octets → Split f xs x octets
-split_tell f [] x [] tell = absurd tell
-split_tell f [] x (p ∷ []) tell = record {
-  front = [];
-  last = p;
-  whole = refl;
-  counted = refl;
-  tell = tt;
-  one = tell.0;
-}
-split_tell f [] x (p ∷ (q ∷ ps)) tell = absurd tell.1
-split_tell f (y ∷ xs) x [] tell = absurd tell
-split_tell f (y ∷ xs) x (p ∷ ps) tell =
-    let rest : Split f xs x ps = split_tell f xs x ps tell.1 in
-    record {
-      front = p ∷ rest.front;
-      last = rest.last;
-      whole = ap (λ (l : List (List ℕ)). p ∷ l) rest.whole;
-      counted = ap suc rest.counted;
-      tell = (tell.0, rest.tell);
-      one = rest.one;
-    }
 
 pub none_noted : {S A : Type 0} (ways : Ways) (told : S → List ℕ → Type 0) (b : Option Target)
     (s : Inspection A) → NotesFiles ways told [] None b b s s
@@ -214,36 +181,6 @@ up_to {S} ways told start now new k f before b a old mid newer files front behin
     one
 
 -- ---- the first front that is refused
-
--- the pair of a place, with those before it and behind it
-record At {S : Type 0} (Is : S × S → Type 0) (start now : List S) (k : ℕ) : Type 0 where
-  pub next : S × S
-  pub is : Is next
-  pub behind : List (S × S)
-  pub parts : zip start now ≡ zip (take k start) (take k now) ++ next ∷ behind
-  pub counted : length (zip (take k start) (take k now)) ≡ k
-
-at_place : {S : Type 0} (Is : S × S → Type 0) (start now : List S) (k : ℕ)
-    → FirstIs Is (zip (drop k start) (drop k now)) → At Is start now k
-at_place Is [] now zero is = absurd is
-at_place Is (s ∷ ss) [] zero is = absurd is
-at_place Is (s ∷ ss) (t ∷ ts) zero is =
-    record { next = (s, t); is = is; behind = zip ss ts; parts = refl; counted = refl }
-at_place Is [] now (suc k) is = absurd is
-at_place Is (s ∷ ss) [] (suc k) is = absurd (no_pairs Is (drop k ss) is)
-  where
-    no_pairs : {S : Type 0} (Is : S × S → Type 0) (xs : List S) → FirstIs Is (zip xs []) → ⊥
-    no_pairs Is [] is = is
-    no_pairs Is (x ∷ xs) is = is
-at_place {S} Is (s ∷ ss) (t ∷ ts) (suc k) is =
-    let n : At Is ss ts k = at_place Is ss ts k is in
-    record {
-      next = n.next;
-      is = n.is;
-      behind = n.behind;
-      parts = ap (λ (l : List (S × S)). (s, t) ∷ l) n.parts;
-      counted = ap suc n.counted;
-    }
 
 -- by its text only the first is refused, where nothing was begun with
 turn : {S : Type 0} (ways : Ways) (told : S → List ℕ → Type 0) (front : List S) (k : ℕ)

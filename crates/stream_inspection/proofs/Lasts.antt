@@ -50,7 +50,7 @@ last_other k front c isnt =
     (own_more k front c false isnt
     ∙ append-nil (map time (filter (λ x. is_same k x.key.stream) front)))
 
-is_equal : (o : Ordering) → is_eq o ≡ true → o ≡ Equal
+pub is_equal : (o : Ordering) → is_eq o ≡ true → o ≡ Equal
 is_equal Less e = absurd (cc)
 is_equal Equal e = refl
 is_equal Greater e = absurd (cc)

@@ -8,9 +8,6 @@ use Rattle.std.proofs.lemmas.List.Elements.{filter-append}
 use Rattle.std.proofs.Common.{⊎_elim}
 use Rattle.std.specs.BTreeMap.{Updates, get, is_at}
 use Rattle.std.specs.List.{filter, zip}
-use Rattle.std.specs.Ordering.{is_eq}
-use Rattle.std.specs.declared.cmp.Ordering.{Ordering}
-use Rattle.std.specs.declared.cmp.Ordering.TheVariants.{Less, Equal, Greater}
 use Rattle.recording_counts.specs.Numbering.{highest_of, number_after}
 use Rattle.recording_counts.specs.Streams.{is_a, is_same, key_cmp, key_of}
 use Rattle.recording_counts.specs.Timestamps.{is_same_timestamp, timestamp_cmp, timestamp_key_of}
@@ -30,6 +27,8 @@ use Rattle.stream_inspection.specs.declared.probe.Probe.{Probe}
 use Rattle.stream_inspection.specs.declared.probe.Probes.{Probes}
 use Rattle.stream_inspection.specs.declared.probes.ProbeTable.{ProbeTable}
 use Rattle.stream_inspection.proofs.NumberLaws.{beside_more, without_more}
+use Rattle.stream_inspection.proofs.Lasts.{is_equal}
+use Rattle.stream_inspection.proofs.Noting.{packet_in}
 
 -- ---- one probe
 
@@ -59,18 +58,6 @@ fails test own a is =
 
 abbrev pub with_moments : ℕ → Option ℕ → Option ℕ → Probe
 with_moments number a b = record { number = number; a = a; b = b }
-
--- what a probe is behind one packet more: nothing changes by one of another number
-probe_other : (number : ℕ) (own : List (Arrival × ℕ)) (a : Arrival × ℕ)
-    → eqb a.1 number ≡ false
-    → probe_with number (own ++ a ∷ []) ≡ probe_with number own
-probe_other number own a isnt =
-    ap (λ (m : Option ℕ). with_moments number m
-    (moment_after None (filter (by_b_with number) (own ++ a ∷ []))))
-    (fails (by_a_with number) own a (ap (λ (b : Bool). b && is_a a.0.packet.path) isnt))
-    ∙ ap (λ (m : Option ℕ). with_moments number
-    (moment_after None (filter (by_a_with number) own)) m)
-    (fails (by_b_with number) own a (ap (λ (b : Bool). b && not (is_a a.0.packet.path)) isnt))
 
 probe_a : (number : ℕ) (own : List (Arrival × ℕ)) (a : Arrival × ℕ)
     → eqb a.1 number ≡ true → is_a a.0.packet.path ≡ true
@@ -127,16 +114,6 @@ is_probe p (a ∷ own) next e =
           ap (λ (n : ℕ). Some (probe_with n (a ∷ (own ++ next ∷ [])))) own_number;
     }
 
--- a packet of another number was noted
-pub noted_other : (p q : Probe) (own : List (Arrival × ℕ)) (a : Arrival × ℕ)
-    → eqb a.1 p.number ≡ false → q ≡ p → Some p ≡ probe_of own
-    → Some q ≡ probe_of (own ++ a ∷ [])
-noted_other p q own a isnt same e =
-    let i : IsProbe p own a = is_probe p own a e in
-    ap (λ (x : Probe). Some x)
-    (same ∙ i.is ∙ sym (probe_other p.number own a isnt))
-    ∙ sym i.then_is
-
 -- one of its number by A, and by B
 pub noted_a : (p q : Probe) (own : List (Arrival × ℕ)) (a : Arrival × ℕ)
     → a.1 ≡ p.number → is_a a.0.packet.path ≡ true
@@ -180,9 +157,6 @@ begun_b p a by same =
     ∙ sym (probe_b a.1 [] a (eq-eqb a.1 a.1 refl) by))
 
 -- ---- the packets of a stream and of a timestamp
-
-abbrev packet_in : Arrival → Packet
-packet_in a = a.packet
 
 arrivals_same : (k : StreamKey) (arrivals : List Arrival) (a : Arrival)
     → is_same k (key_of a.packet) ≡ true
@@ -277,11 +251,6 @@ without_many : (own : List Packet) → length (map without_high own) ≡ length 
 without_many own = length-map own without_high
 
 -- ---- the table
-
-is_equal : (o : Ordering) → is_eq o ≡ true → o ≡ Equal
-is_equal Less e = absurd (cc)
-is_equal Equal e = refl
-is_equal Greater e = absurd (cc)
 
 abbrev with_probes : Option Probe → Option Probe → Probes
 with_probes long short = record { long = long; short = short }

@@ -1,5 +1,5 @@
 -- One more record in an inspection.
-use Rattle.std.proofs.Common.{◌≡◌, ◌∙◌, ℕ, ◌+◌, ◌-◌, ◌^◌, Bool, true, false, cond, min, List, []}
+use Rattle.std.proofs.Common.{◌≡◌, ◌∙◌, ◌+◌, Bool, true, false, cond, List, []}
 use Rattle.std.proofs.Common.{◌∷◌, ◌++◌, Option, None, Some, Result, ap, sym, subst, arith}
 use Rattle.std.proofs.Common.{append_assoc, append-nil}
 use Rattle.std.proofs.lemmas.Grind.{flat_map-append}
@@ -31,7 +31,7 @@ use Rattle.stream_inspection.specs.declared.target.Target.{Target}
 
 -- ---- one more of a list
 
-abbrev packet_in : Arrival → Packet
+abbrev pub packet_in : Arrival → Packet
 packet_in a = a.packet
 
 one_behind : {X Y : Type 0} (f : X → List Y) (xs : List X) (x : X)
@@ -45,12 +45,6 @@ counted : {X : Type 0} (p : X → Bool) (xs : List X) (x : X) (b : Bool) → p x
 counted p xs x b is =
     sum_by-append (λ y. cond (p y) 1 0) xs (x ∷ [])
     ∙ ap (λ (c : Bool). count_by p xs + (0 + cond c 1 0)) is ∙ omega arith
-
-controls_more : (es : List Entry) (e : Entry) → is_rtcp e.octets ≡ true
-    → controls_of (es ++ e ∷ []) ≡ min (controls_of es + 1) (2 ^ 64 - 1)
-controls_more es e is =
-    ap capped (counted (λ x. is_rtcp x.octets) es e true is)
-    ∙ omega arith
 
 controls_same : (es : List Entry) (e : Entry) → is_rtcp e.octets ≡ false
     → controls_of (es ++ e ∷ []) ≡ controls_of es
@@ -91,59 +85,6 @@ module _ (t : Target) (es : List Entry) (e : Entry) (is : is_rtcp e.octets ≡ f
       ∙ ap (λ (b : Bool). answers_of t es ++ cond b [] (answer_at t e.octets ∷ [])) is
 
 -- ---- an inspection behind a record
-
--- of the same packets and answers
-inspected_as : {A : Type 0} (t : Target) (old new : Inspection A) (es fs : List Entry)
-    → arrivals_of t fs ≡ arrivals_of t es → new.streams ≡ old.streams
-    → new.timestamps ≡ old.timestamps → new.probes ≡ old.probes
-    → Tallies new.tally (answers_of t fs) → new.controls ≡ controls_of fs
-    → IsInspected t old es → IsInspected t new fs
-inspected_as {A} t old new es fs same streams timestamps probes tally controls i = record {
-  streams = subst (λ (s : _). AreStreams s (packets (arrivals_of t fs))) (sym streams)
-      (subst (λ (l : List Arrival). AreStreams old.streams (packets l)) (sym same) i.streams);
-  timestamps = timestamps ∙ i.timestamps
-      ∙ ap (λ (l : List Arrival). timestamps_of (packets (flat_map (video_in t) l))) (sym same);
-  probes = subst (λ (p : _). AreProbes p (video_of t fs)) (sym probes)
-      (subst (λ (l : List Arrival). AreProbes old.probes (flat_map (video_in t) l)) (sym same)
-      i.probes);
-  tally = tally;
-  controls = controls;
-}
-
--- one of RTCP was noted
-pub notes_control : {A : Type 0} (t : Target) (e : Entry) (old new : Inspection A)
-    → is_rtcp e.octets ≡ true → new.streams ≡ old.streams → new.timestamps ≡ old.timestamps
-    → new.probes ≡ old.probes → new.tally ≡ old.tally
-    → new.controls ≡ min (old.controls + 1) (2 ^ 64 - 1) → Notes t (e ∷ []) old new
-notes_control t e old new is streams timestamps probes tally controls = record {
-  counted = λ before i.
-      inspected_as t old new before (before ++ e ∷ []) (control_arrivals t before e is) streams
-      timestamps probes
-      (subst (λ (y : Tally). Tallies y (answers_of t (before ++ e ∷ []))) (sym tally)
-      (subst (λ (l : List (Result Taken Refusal)). Tallies old.tally l)
-      (sym (control_answers t before e is)) i.tally))
-      (controls ∙ ap (λ (n : ℕ). min (n + 1) (2 ^ 64 - 1)) i.controls
-      ∙ sym (controls_more before e is))
-      i;
-}
-
--- one without a header was
-pub notes_other : {A : Type 0} (t : Target) (e : Entry) (old new : Inspection A)
-    → is_rtcp e.octets ≡ false → packet_by t e.path (rtp_walk e.octets) ≡ None
-    → new.streams ≡ old.streams → new.timestamps ≡ old.timestamps
-    → new.probes ≡ old.probes
-    → TalliesMore old.tally new.tally (answer_at t e.octets)
-    → new.controls ≡ old.controls → Notes t (e ∷ []) old new
-notes_other t e old new is none streams timestamps probes tally controls = record {
-  counted = λ before i.
-      inspected_as t old new before (before ++ e ∷ [])
-      (other_arrivals t before e is None none ∙ append-nil (arrivals_of t before)) streams
-      timestamps probes
-      (subst (λ (l : List (Result Taken Refusal)). Tallies new.tally l)
-      (sym (other_answers t before e is)) (tally (answers_of t before) i.tally))
-      (controls ∙ i.controls ∙ sym (controls_same before e is))
-      i;
-}
 
 -- one with a header was: its answer, and then its packet
 pub notes_one : {A : Type 0} (t : Target) (e : Entry) (p : Packet) (old mid new : Inspection A)
@@ -200,8 +141,6 @@ notes_then t es fs old mid new first second = record {
       (second.counted (before ++ es) (first.counted before i));
 }
 
--- ---- one more packet
-
 -- ---- records that a reader gave
 
 -- none yet
@@ -236,45 +175,3 @@ notes_found t old new a b c found first more =
     subst (λ (es : List Entry). Notes t es a c) (sym found.records)
     (notes_then t old.records (found.entry ∷ []) a b c first
     (subst (λ (h : Option Entry). Notes t (option_to_list h) b c) found.at_hand more))
-
--- one of another payload type
-pub packet_other : {A : Type 0} (t : Target) (a : Arrival) (old new : Inspection A)
-    → video_in t a ≡ [] → ((ps : List Packet) → AreStreams old.streams ps
-    → AreStreams new.streams (ps ++ a.packet ∷ [])) → new.timestamps ≡ old.timestamps
-    → new.probes ≡ old.probes → new.tally ≡ old.tally → new.controls ≡ old.controls
-    → NotesPacket t a old new
-packet_other t a old new none streams timestamps probes tally controls = record {
-  streams = streams;
-  timestamps = λ earlier e.
-      timestamps ∙ e
-      ∙ ap (λ (l : List Arrival). timestamps_of (packets l))
-      (sym (ap (λ (l : List Arrival). earlier ++ l) none ∙ append-nil earlier));
-  probes = λ earlier are.
-      subst (λ (p : _). AreProbes p (earlier ++ video_in t a)) (sym probes)
-      (subst (λ (l : List Arrival). AreProbes old.probes l)
-      (sym (ap (λ (l : List Arrival). earlier ++ l) none ∙ append-nil earlier)) are);
-  tally = tally;
-  controls = controls;
-}
-
--- one of the payload type
-pub packet_video : {A : Type 0} (t : Target) (a : Arrival) (old new : Inspection A)
-    → video_in t a ≡ a ∷ [] → ((ps : List Packet) → AreStreams old.streams ps
-    → AreStreams new.streams (ps ++ a.packet ∷ []))
-    → ((ps : List Packet) → old.timestamps ≡ timestamps_of ps
-    → new.timestamps ≡ timestamps_of (ps ++ a.packet ∷ []))
-    → ((arrivals : List Arrival) → AreProbes old.probes arrivals
-    → AreProbes new.probes (arrivals ++ a ∷ []))
-    → new.tally ≡ old.tally → new.controls ≡ old.controls → NotesPacket t a old new
-packet_video t a old new one streams timestamps probes tally controls = record {
-  streams = streams;
-  timestamps = λ earlier e.
-      timestamps (packets earlier) e
-      ∙ ap timestamps_of
-      (sym (ap (λ (l : List Arrival). packets (earlier ++ l)) one
-      ∙ map-append packet_in earlier (a ∷ [])));
-  probes = λ earlier are.
-      subst (λ (l : List Arrival). AreProbes new.probes (earlier ++ l)) (sym one) (probes earlier are);
-  tally = tally;
-  controls = controls;
-}

@@ -11,9 +11,6 @@ use Rattle.std.specs.BTreeSet.{BTreeSet, Updates, contains}
 use Rattle.std.specs.BTreeMap.{is_at}
 use Rattle.std.specs.List.{zip}
 use Rattle.std.specs.Option.{option_map_or}
-use Rattle.std.specs.Ordering.{is_eq}
-use Rattle.std.specs.declared.cmp.Ordering.{Ordering}
-use Rattle.std.specs.declared.cmp.Ordering.TheVariants.{Less, Equal, Greater}
 use Rattle.recording_counts.specs.Numbering.{Numbered, highest_of, number_after, numbered}
 use Rattle.recording_counts.specs.Numbering.{numbered_after, numbered_behind}
 use Rattle.recording_counts.specs.Streams.{is_same, key_cmp, key_of, stream_of, streams_of}
@@ -29,6 +26,7 @@ use Rattle.stream_inspection.specs.Numbers.{told_stream, told_streams, without_h
 use Rattle.stream_inspection.specs.Skews.{numbering_of}
 use Rattle.stream_inspection.specs.declared.numbering.Numbering.{Numbering}
 use Rattle.stream_inspection.specs.declared.stream_tables.StreamTables.{StreamTables}
+use Rattle.stream_inspection.proofs.Lasts.{is_equal}
 
 -- ---- the numbers of a stream
 
@@ -140,11 +138,6 @@ module _ (n : Numbering) (own : List Packet) (p : Packet) (is : n ≡ numbering_
       (highest_of (numbers_in (map without_high (own ++ p ∷ [])))) b) (high_is ∙ high_more)
 
 -- ---- the streams
-
-is_equal : (o : Ordering) → is_eq o ≡ true → o ≡ Equal
-is_equal Less e = absurd (cc)
-is_equal Equal e = refl
-is_equal Greater e = absurd (cc)
 
 stream_more : (k : StreamKey) (packets : List Packet) (p : Packet) (b : Bool)
     → is_same k (key_of p) ≡ b

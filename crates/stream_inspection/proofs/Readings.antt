@@ -1,5 +1,5 @@
 -- What was noted of a file that a reader read.
-use Rattle.std.proofs.Common.{◌≡◌, ◌∙◌, ℕ, ◌⊎◌, inl, inr, List, [], ◌∷◌, ◌++◌, length, Bool, true}
+use Rattle.std.proofs.Common.{◌≡◌, ◌∙◌, ℕ, inl, inr, List, [], ◌∷◌, ◌++◌, length, Bool, true}
 use Rattle.std.proofs.Common.{false, Option, None, Some, Result, Ok, Err, refl, ap, sym, subst}
 use Rattle.std.specs.Prelude.{IfErr, IfOk, IsSome, MatchOption, OnOk}
 use Rattle.capture_engines.specs.Files.{HasFileText, flows_in}
@@ -30,10 +30,10 @@ use Rattle.st_format.specs.History.{IsRead}
 use Rattle.st_format.proofs.Origins.{if_content, if_content_weaker}
 use Rattle.stream_inspection.specs.Aim.{AnnouncesTarget}
 use Rattle.stream_inspection.specs.Inspected.{IsInspected, Notes}
-use Rattle.stream_inspection.specs.Read.{EndsAfter, HasRecords, IfEnd, IsStartRefusal, MayBe}
+use Rattle.stream_inspection.specs.Read.{EndsAfter, IfEnd, IsStartRefusal, MayBe}
 use Rattle.stream_inspection.specs.Read.{StandsAtEnd}
 use Rattle.stream_inspection.specs.Read.{NotesFile}
-use Rattle.stream_inspection.specs.Read.{NotesRecords, Settles, SettlesBy, counts_end, ended_by}
+use Rattle.stream_inspection.specs.Read.{NotesRecords, Settles, SettlesBy, counts_end, end_outcome}
 use Rattle.stream_inspection.specs.declared.inspection.Inspection.{Inspection}
 use Rattle.stream_inspection.specs.declared.target.Target.{Target}
 
@@ -53,7 +53,7 @@ if_end (Some f) P Q then is = file_weaker f P Q then is
 
 -- what an end says of the source
 pub end_counted : (end : Option ReadingFault) (old new : ℕ) → counts_end end old new
-    → Accounts (ended_by (Ok end)) (counts old new ∷ [])
+    → Accounts (end_outcome (Ok end)) (counts old new ∷ [])
 end_counted None old new is = is
 end_counted (Some f) old new is = reading_blamed f (reading_fault f) old old new refl is refl
 
@@ -79,10 +79,10 @@ if_ok (Err e) then is = tt
 
 -- ---- what is looked for
 
-some_one : {X : Type 0} (x y : X) → Some x ≡ Some y → x ≡ y
+pub some_one : {X : Type 0} (x y : X) → Some x ≡ Some y → x ≡ y
 some_one x y e = cc
 
-none_some : {X : Type 0} (x : X) (o : Option X) → o ≡ None → o ≡ Some x → ⊥
+pub none_some : {X : Type 0} (x : X) (o : Option X) → o ≡ None → o ≡ Some x → ⊥
 none_some x o none some = cc
 
 may_be : (after : Option Target) (t u : Target) → after ≡ Some t → MayBe after u → u ≡ t

@@ -1,8 +1,7 @@
 -- What was printed is the text of what was read.
-use Rattle.std.proofs.Common.{◌≡◌, ◌∙◌, ℕ, List, [], ◌∷◌, ◌++◌, take, Option, None, Some, refl, ap, sym, subst}
-use Rattle.std.proofs.Common.{map, inl, inr, length}
+use Rattle.std.proofs.Common.{◌≡◌, ◌∙◌, ℕ, List, [], ◌∷◌, ◌++◌, take, Option, None, Some, refl, ap}
+use Rattle.std.proofs.Common.{sym, subst, map, inl, inr, length, Result, Ok, Err, OnOk}
 use Rattle.std.specs.List.{flat_map, zip}
-use Rattle.std.proofs.Common.{Result, Ok, Err, OnOk}
 use Rattle.capture_engines.specs.Files.{way_at}
 use Rattle.flow.specs.declared.flows.Flows.{Flows}
 use Rattle.media_file.specs.Records.{Entry}
@@ -11,7 +10,6 @@ use Rattle.pcap_file.specs.declared.fault.RecordingFault.TheVariants as recordin
 use Rattle.recording_reader.specs.Files.{IfFile, text_of_file}
 use Rattle.recording_reader.specs.declared.fault.ReadingFault.{ReadingFault}
 use Rattle.recording_reader.specs.declared.fault.ReadingFault.TheVariants.{Capture, Recording}
-use Rattle.run_outcome.specs.Fault.{Accounts, Blames, Failures}
 use Rattle.run_outcome.specs.declared.fault.Fault.{Fault}
 use Rattle.run_outcome.specs.declared.fault.Fault.TheVariants.{Refused, Device, Memory}
 use Rattle.run_outcome.specs.Refusing.{OfRefusal}
@@ -25,7 +23,7 @@ use Rattle.stream_inspection.specs.Aim.{AnnouncesTarget, IsAimed, IsBegunTarget,
 use Rattle.stream_inspection.specs.Inspected.{IsInspected}
 use Rattle.stream_inspection.specs.Numbers.{told_stream, told_streams}
 use Rattle.stream_inspection.specs.Read.{IfEnd, IsFirstFront, IsSettled, IsStartRefusal, MayBe}
-use Rattle.stream_inspection.specs.Read.{NotesFiles, NotesUpTo, Settles, ended_by}
+use Rattle.stream_inspection.specs.Read.{NotesFiles, NotesUpTo, Settles}
 use Rattle.stream_inspection.specs.Streams.{stream_lines}
 use Rattle.stream_inspection.specs.Told.{IsEndRefusal, IsStreamsRefusal, IsText}
 use Rattle.stream_inspection.specs.Told.{PrintsText, TellsStreams, begins}
@@ -34,12 +32,7 @@ use Rattle.stream_inspection.specs.declared.target.Target.{Target}
 use Rattle.stream_inspection.specs.declared.target.Wanted.{Wanted}
 use Rattle.stream_inspection.specs.declared.target.Wanted.TheVariants.{Said, Given}
 use Rattle.stream_inspection.specs.declared.text.Form.{Form}
-
-some_one : {X : Type 0} (x y : X) → Some x ≡ Some y → x ≡ y
-some_one x y e = cc
-
-none_some : {X : Type 0} (x : X) (o : Option X) → o ≡ None → o ≡ Some x → ⊥
-none_some x o none some = cc
+use Rattle.stream_inspection.proofs.Readings.{none_some, some_one}
 
 -- what is looked for is what is wanted
 is_target : (w : Wanted) (sdp : Option (List ℕ)) (begun after : Option Target)
@@ -139,20 +132,6 @@ content_of (Capture file.Device) r P same is = absurd cc
 content_of (Capture f) r P same is = is
 content_of (Recording recording.Device) r P same is = absurd cc
 content_of (Recording f) r P same is = is
-
--- a fault, where a device behind it didn't fail
-pub more_blamed : (x : Fault) (d e : Failures) → Blames (d ∷ []) x → e.after ≡ e.before
-    → Blames (d ∷ e ∷ []) x
-more_blamed (Refused r) d e is same = (is, same)
-more_blamed Device d e is same = inl is
-more_blamed Memory d e is same = (is, same)
-
--- want of memory behind a fault that isn't a device's
-pub memory_blamed : (x : Fault) (d e : Failures) → (x ≡ Device → ⊥) → Blames (d ∷ []) x
-    → e.after ≡ e.before → Blames (d ∷ e ∷ []) Memory
-memory_blamed (Refused r) d e not is same = (is, same)
-memory_blamed Device d e not is same = absurd (not refl)
-memory_blamed Memory d e not is same = (is, same)
 
 -- a run with no file
 pub no_files : {S : Type 0} (old new : List S) → old ≡ [] → zip old new ≡ []

@@ -36,10 +36,10 @@ counts_end None old new = new ≡ old
 counts_end (Some f) old new = CountsReadingFault f old new
 
 -- what an end comes to
-abbrev pub ended_by : Result (Option ReadingFault) Fault → Result (Unit {0}) Fault
-ended_by (Ok None) = Ok tt
-ended_by (Ok (Some f)) = Err (reading_fault f)
-ended_by (Err f) = Err f
+abbrev pub end_outcome : Result (Option ReadingFault) Fault → Result (Unit {0}) Fault
+end_outcome (Ok None) = Ok tt
+end_outcome (Ok (Some f)) = Err (reading_fault f)
+end_outcome (Err f) = Err f
 
 -- so many records are counted of a file
 abbrev pub most_counted : ℕ

@@ -5,13 +5,13 @@ use Rattle.std.specs.Fmt.{decimal}
 use Rattle.std.specs.List.{flat_map}
 
 -- a number in a column of thirteen, or a dash where there is none
-abbrev pub wide : ℕ → List ℕ
-wide n = replicate (13 - length (decimal n)) 32 ++ decimal n
+abbrev pub wide_number : ℕ → List ℕ
+wide_number n = replicate (13 - length (decimal n)) 32 ++ decimal n
 
 -- a number in a column of thirteen, or a dash at its right where there is none
 abbrev pub wide_text : Option ℕ → List ℕ
 wide_text None = codes "            -"
-wide_text (Some n) = wide n
+wide_text (Some n) = wide_number n
 
 -- a number, or `null` where there is none
 abbrev pub null_text : Option ℕ → List ℕ

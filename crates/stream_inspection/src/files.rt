@@ -13,7 +13,7 @@ ghost use Rattle.run_outcome.specs.Refusing.{OfRefusal};
 ghost use Rattle.st_format.specs.History.{IsRead};
 ghost use Rattle.stream_inspection.specs.Read.{IfEnd, IsFirstFront, IsSettled, StandsAtEnd};
 ghost use Rattle.stream_inspection.specs.Read.{IsStartRefusal, NotesFile, NotesRecords, NotesUpTo};
-ghost use Rattle.stream_inspection.specs.Read.{ended_by};
+ghost use Rattle.stream_inspection.specs.Read.{end_outcome};
 
 use crate::inspection::Inspection;
 use crate::records::note_records;
@@ -50,7 +50,7 @@ pub(crate) fn note_files<A: Allocator + Copy, S: ByteSource>(
     ensures none { OnOk result (begun.new ≡ None → (begun.old ≡ None) × (files.old ≡ [])) }
     ensures refusal { IfErr result (λ f. OfRefusal f (IsFirstFront (begun.old ≡ None)
         (IsSettled begun.old) ways.now (WasRead S.gave S.ended) (zip files.old files.new))) }
-    ensures failures { Accounts (ended_by result) (counts (sum_by S.failures files.old)
+    ensures failures { Accounts (end_outcome result) (counts (sum_by S.failures files.old)
         (sum_by S.failures files.new) ∷ []) }
 {
     for place in 0..files.len() {
@@ -86,7 +86,7 @@ fn note_at<A: Allocator + Copy, S: ByteSource>(
     ensures refusal { IfErr result (λ f. OfRefusal f (λ r. FirstIs
         (λ s. IsStartRefusal (way_at ways.now place) (begun.old ≡ None)
         (WasRead S.gave S.ended s) r) (zip (drop place files.old) (drop place files.new)))) }
-    ensures failures { Accounts (ended_by result) (counts (sum_by S.failures files.old)
+    ensures failures { Accounts (end_outcome result) (counts (sum_by S.failures files.old)
         (sum_by S.failures files.new) ∷ []) }
 {
     let way = Way::at(ways, place);
@@ -121,7 +121,7 @@ fn note_one<A: Allocator + Copy, S: ByteSource>(
     ensures begun { OnOk result (begun.new ≢ None) }
     ensures refusal { IfErr result (λ f. OfRefusal f (IsStartRefusal way (begun.old ≡ None)
         (IsRead (S.gave file.old) (S.gave file.new) (S.ended file.new)))) }
-    ensures failures { Accounts (ended_by result) (counts (S.failures file.old)
+    ensures failures { Accounts (end_outcome result) (counts (S.failures file.old)
         (S.failures file.new) ∷ []) }
 {
     let mut reader = match DatagramReader::open(alloc, way.flows(), &mut *file, said) {
@@ -154,7 +154,7 @@ fn note_opened<A: Allocator + Copy, S: ByteSource>(
     ensures refusal { IfErr result (λ f. OfRefusal f (λ r. (begun.old ≡ None)
         × IsFrontRefusal (0 ∷ []) text.now r)) }
     ensures same { IsSameFile reader.old reader.new }
-    ensures failures { Accounts (ended_by result) (counts (S.failures reader.old.source)
+    ensures failures { Accounts (end_outcome result) (counts (S.failures reader.old.source)
         (S.failures reader.new.source) ∷ []) }
     ensures names { S.names reader.new.source ≡ S.names reader.old.source }
 {

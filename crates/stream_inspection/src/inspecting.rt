@@ -5,7 +5,7 @@ ghost use Rattle.std.specs.Option.{option_copied};
 ghost use Rattle.run_outcome.specs.Fault.{Accounts, Blames, Failures, IfRefused, counts};
 ghost use Rattle.run_outcome.specs.Moments.{WasRead};
 ghost use Rattle.run_outcome.specs.Refusing.{OfRefusal};
-ghost use Rattle.stream_inspection.specs.Read.{ended_by};
+ghost use Rattle.stream_inspection.specs.Read.{end_outcome};
 ghost use Rattle.stream_inspection.specs.Told.{IsEndRefusal, IsStreamsRefusal, PrintsText};
 ghost use Rattle.stream_inspection.specs.Told.{TellsStreams};
 
@@ -99,7 +99,7 @@ fn finish<A: Allocator + Copy, O: ByteSink>(
         (O.took output.new)) }
     ensures refusal { IfErr result (λ f. OfRefusal f (IsEndRefusal form target.now inspection.now
         end (O.took output.old) (O.took output.new))) }
-    ensures failures { (e : Failures) → Accounts (ended_by (Ok end)) (e ∷ [])
+    ensures failures { (e : Failures) → Accounts (end_outcome (Ok end)) (e ∷ [])
         → Accounts result (e ∷ counts (O.failures output.old) (O.failures output.new) ∷ []) }
 {
     let text = match text_of(alloc, form, target, inspection) {
@@ -119,7 +119,7 @@ fn finish<A: Allocator + Copy, O: ByteSink>(
 /// What ends a run that wants memory behind this end: that a device failed, where one did.
 fn wanting(end: Option<ReadingFault>) -> Fault
     ensures unrefused { IfRefused result ⊥ }
-    ensures blames { (e f : Failures) → Accounts (ended_by (Ok end)) (e ∷ [])
+    ensures blames { (e f : Failures) → Accounts (end_outcome (Ok end)) (e ∷ [])
         → f.after ≡ f.before → Blames (e ∷ f ∷ []) result }
 {
     match end {

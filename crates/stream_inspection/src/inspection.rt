@@ -1,5 +1,5 @@
 //! What is counted of files.
-ghost use Rattle.std.specs.Prelude.{◌≡◌, ◌∷◌, [], OnOk, option_to_list};
+ghost use Rattle.std.specs.Prelude.{◌∷◌, [], OnOk, option_to_list};
 ghost use Rattle.media_file.specs.Writer.{entry};
 ghost use Rattle.stream_inspection.specs.Inspected.{IsInspected, Notes, NotesPacket};
 ghost use Rattle.stream_inspection.specs.Arrivals.{arrival};

@@ -1,11 +1,9 @@
 //! What is told of the skew of the paths.
 ghost use Rattle.std.specs.Prelude.{◌≡◌, ◌++◌, List, IfOk, OnOk};
-ghost use Rattle.std.specs.List.{flat_map};
 ghost use Rattle.std.specs.Prelude.{option_to_list};
 ghost use Rattle.stream_inspection.specs.Arrivals.{Arrival};
 ghost use Rattle.stream_inspection.specs.Lines.{row_line};
-ghost use Rattle.stream_inspection.specs.Skews.{AreProbes, IsOrderOf, skew_by, skew_row, skews_in};
-ghost use Rattle.stream_inspection.specs.declared.rows.Row.{Row as RowValue};
+ghost use Rattle.stream_inspection.specs.Skews.{AreProbes, IsOrderOf, skew_row, skews_in};
 ghost use Rattle.stream_inspection.specs.declared.rows.Row.TheVariants.{Skew as SkewOf};
 
 use crate::probes::ProbeTable;

@@ -2,7 +2,7 @@
 ghost use Rattle.std.specs.Prelude.{◌≡◌, ◌≤◌, ◌++◌, List, IfOk, OnOk, length};
 ghost use Rattle.media_file.specs.Records.{Entry};
 ghost use Rattle.stream_inspection.specs.Inspected.{IsInspected};
-ghost use Rattle.stream_inspection.specs.Lines.{counted_line, row_line};
+ghost use Rattle.stream_inspection.specs.Lines.{counted_line};
 ghost use Rattle.stream_inspection.specs.Told.{IsText, refusals_text, window_line};
 
 use crate::columns::column_window_of;

@@ -6,7 +6,7 @@ ghost use Rattle.arrayvec.specs.ArrayString.{array_string_len};
 ghost use Rattle.recording_counts.specs.FlowJson.{truth_json};
 ghost use Rattle.st_format.specs.Forms.{path_text};
 ghost use Rattle.stream_inspection.specs.Values.{commas_text, null_signed, null_text, signed_text};
-ghost use Rattle.stream_inspection.specs.Values.{wide, wide_signed, wide_text, yes_text};
+ghost use Rattle.stream_inspection.specs.Values.{wide_number, wide_signed, wide_text, yes_text};
 
 use crate::text::LINE;
 use arrayvec::ArrayString;
@@ -29,7 +29,7 @@ pub(crate) fn add_wide(text: &mut ArrayString<LINE>, number: Option<u64>)
 /// Adds a number in a column of thirteen: at most 20 octets.
 fn add_padded(text: &mut ArrayString<LINE>, number: u64)
     requires { array_string_len text.old + 20 ≤ LINE }
-    ensures text { text.new.bytes ≡ text.old.bytes ++ wide number }
+    ensures text { text.new.bytes ≡ text.old.bytes ++ wide_number number }
     ensures room { array_string_len text.new ≤ array_string_len text.old + 20 }
 {
     let mut buffer = Buffer::new();

@@ -15,6 +15,7 @@ use Rattle.following.specs.Turned.{handed_all, kept_of}
 use Rattle.following.proofs.Lost.{kept_stream}
 use Rattle.following.proofs.Made.{of_some}
 use Rattle.following.proofs.PromptPictures.{prompt_pictures}
+use Rattle.following.proofs.Pictures.{timed-octets}
 use Rattle.media_file.specs.Records.{Entry}
 use Rattle.packet_plan.specs.Sender.{Sender}
 use Rattle.path_receiver.specs.Opening.{Opening}
@@ -25,7 +26,6 @@ use Rattle.stream_laws.specs.Brought.{GoesInTime, GoesPrompt, IsInTime, LosesNon
 use Rattle.stream_laws.proofs.LosesNone.{orderly_none}
 use Rattle.stream_laws.proofs.NoneLate.{IsClear, all_kept, none_counted, totals_clear, totals_plain}
 use Rattle.stream_laws.proofs.SenderTimes.{are_near, are_timed, frames_of_times, near_one}
-use Rattle.stream_laws.proofs.SenderTimes.{timed-octets}
 
 pub frame_format : (w : FollowAsked) (o : Opening) (entries : List Entry) (h : Handed)
     → NoneAnew w.is_eager (running_from (opened o w.frames 900000)) (datagrams_in entries)

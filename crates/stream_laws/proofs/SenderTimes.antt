@@ -3,82 +3,29 @@ use Rattle.std.proofs.Common.{◌≡◌, ◌∙◌, ℕ, suc, ◌+◌, ◌*◌, 
 use Rattle.std.proofs.Common.{false, cond, eqb, List, [], ◌∷◌, ◌++◌, Result, Ok, Err, ap, arith}
 use Rattle.std.proofs.Common.{inl, inr, length, length-append, map, refl, subst, sym}
 use Rattle.std.specs.Prelude.{nat_lt}
-use Rattle.std.proofs.lemmas.Nat.{mul-le}
-use Rattle.std.proofs.Math.Nat.{div-le_of_le-mul}
 use Rattle.following.specs.Acts.{AreNearby}
 use Rattle.following.specs.Follower.{opened, reading_of}
 use Rattle.following.specs.Following.{handed_out}
 use Rattle.following.specs.Pictures.{BroughtAll, pictures_from, time_behind, timed_from}
 use Rattle.following.specs.Pictures.{times_from}
-use Rattle.following.specs.Serial.{ahead_of, wrapped}
+use Rattle.following.specs.Serial.{wrapped}
 use Rattle.following.specs.Times.{AreTimed, IsNear, IsOrderly, Timed, handed_at, in_order}
-use Rattle.following.specs.Times.{in_order_behind, newer_than, octets_of, time_if, time_of}
+use Rattle.following.specs.Times.{in_order_behind, newer_than, time_if, time_of}
 use Rattle.following.specs.Times.{times_of, with_time}
 use Rattle.following.proofs.Ordered.{few_newer}
-use Rattle.following.proofs.Pictures.{IsStamped, sender_pictures}
+use Rattle.following.proofs.Pictures.{IsStamped, ahead_ticks, picture_read, sender_pictures}
+use Rattle.following.proofs.Pictures.{ticks_below, timed-octets}
 use Rattle.following.proofs.Streams.{whole_stream}
-use Rattle.packet_plan.specs.declared.run.PacketRun.{PacketRun}
-use Rattle.packet_plan.specs.declared.stamp.Stamp.{Stamp}
 use Rattle.packet_plan.specs.Sender.{Sender, SendsFrom, stamp_of}
-use Rattle.packet_plan.specs.Sent.{AreSent, IsSentPacket, is_empty}
 use Rattle.path_receiver.specs.declared.answer.Refusal.{Refusal}
-use Rattle.path_receiver.specs.Grammar.{Datagram, IsDatagram, IsFor}
-use Rattle.path_receiver.specs.Opening.{IsSource, Opening}
+use Rattle.path_receiver.specs.Grammar.{Datagram}
+use Rattle.path_receiver.specs.Opening.{Opening}
 use Rattle.path_receiver.specs.Sender.{IsOpenFor}
-use Rattle.path_receiver.proofs.Offered.{admitted_for}
-use Rattle.payload_header.specs.Payload.{IsPayload}
-use Rattle.rtp_header.specs.Grammar.{Rtp}
 use Rattle.st_format.specs.declared.format.Format.{Format}
 use Rattle.st_format.specs.Member.{IsMember}
 use Rattle.st_format.specs.Picture.{Values, timestamp_of}
 use Rattle.st_format.proofs.Members.{member-flat_map, member-map, member_cases, member_left}
 use Rattle.st_format.proofs.Members.{member_right}
-
--- ---- a sender's datagram, as it is read
-
-packet_read : (o : Opening) (p : Values) (stamp : Stamp) (i : ℕ) (l : Bool)
-    (rs : List PacketRun) (octets : List ℕ)
-    → IsOpenFor o p.format stamp.payload_type stamp.ssrc
-    → IsSentPacket octets p stamp i l rs → IsStamped o octets stamp.timestamp
-packet_read o p stamp i l rs octets open_for sent =
-    let h : Rtp = sent.header in
-    let g : Datagram = record {
-      payload_type = h.payload_type;
-      number = 65536 * sent.extended + h.sequence;
-      timestamp = h.timestamp;
-      ssrc = h.ssrc;
-      marker = h.marker;
-      segments = sent.segments;
-    } in
-    let is : IsDatagram octets o.format g = record {
-      sequence = h.sequence;
-      extended = sent.extended;
-      payload = h.payload;
-      is_header = sent.is_header.is;
-      is_payload =
-          subst (λ (f : Format). IsPayload h.payload f sent.extended sent.segments)
-          open_for.format sent.is_payload.is_payload;
-      number_is = refl;
-    } in
-    let f : IsFor octets o g = record {
-      is = is;
-      type_is = sent.payload_type ∙ open_for.type_is;
-      source = subst (λ (x : ℕ). IsSource o.ssrc x) (sym sent.ssrc) open_for.source;
-    } in
-    record { datagram = g; read = admitted_for o octets g f; is = sent.timestamp }
-
-picture_read : (o : Opening) (p : Values) (stamp : Stamp) (i : ℕ) (qs : List (List PacketRun))
-    (ds : List (List ℕ)) (octets : List ℕ)
-    → IsOpenFor o p.format stamp.payload_type stamp.ssrc
-    → AreSent ds p stamp i qs → IsMember octets ds → IsStamped o octets stamp.timestamp
-picture_read o p stamp i [] [] octets open_for sent m = absurd m
-picture_read o p stamp i [] (d ∷ ds) octets open_for sent m = absurd sent
-picture_read o p stamp i (q ∷ qs) [] octets open_for sent m = absurd m
-picture_read o p stamp i (q ∷ qs) (d ∷ ds) octets open_for sent (inl e) =
-    subst (λ (x : List ℕ). IsStamped o x stamp.timestamp) (sym e)
-    (packet_read o p stamp i (is_empty qs) q d open_for sent.0)
-picture_read o p stamp i (q ∷ qs) (d ∷ ds) octets open_for sent (inr m) =
-    picture_read o p stamp (i + 1) qs ds octets open_for sent.1 m
 
 -- ---- its ticks
 
@@ -89,11 +36,6 @@ record IsLaterBy (o : Opening) (base : ℕ) (octets : List ℕ) : Type 0 where
   ticks : ℕ
   few : ticks ≤ 899910000
   stamp : datagram.timestamp ≡ wrapped (base + ticks)
-
-ticks_below : (k n d : ℕ) → 0 < n → d ≤ n → k < 10000 → k * 90000 * d / n ≤ 899910000
-ticks_below k n d pos le lt =
-    div-le_of_le-mul n {n = 899910000}
-    (omega (arith, mul-le (k * 90000) d 899910000 n (omega arith) le))
 
 stamped_behind : (o : Opening) (f : Format) (base k : ℕ) (octets : List ℕ) → k < 10000
     → IsStamped o octets (timestamp_of f base k) → IsLaterBy o base octets
@@ -121,9 +63,6 @@ sent_behind o s k (p ∷ ps) first ds octets open_for few sends m =
       | inr later ↦ sent_behind o s (k + 1) ps ((first + length sends.packets) % 2 ^ 32)
           sends.others octets open_for (omega (arith, few)) sends.rest later
     ]
-
-ahead_ticks : (base t ts : ℕ) → t ≤ 899910000 → ts ≡ (base + t) % 2 ^ 32 → ahead_of ts base ≡ t
-ahead_ticks base t ts few e = omega arith
 
 time_is : (o : Opening) (base : ℕ) (octets : List ℕ) (is : IsLaterBy o base octets)
     → time_behind base (reading_of o octets) ≡ base + is.ticks
@@ -164,12 +103,7 @@ few_before us before after u e =
 
 -- ---- all that came
 
-pub timed-octets : (o : Opening) (base : ℕ) (ds : List (List ℕ))
-    → octets_of (map (timed_from o base) ds) ≡ ds
-timed-octets o base [] = refl
-timed-octets o base (d ∷ ds) = ap (λ (xs : List (List ℕ)). d ∷ xs) (timed-octets o base ds)
-
-same_reading : (d g : Datagram) → (let r : Result Datagram Refusal = Ok d in r ≡ Ok g) → d ≡ g
+pub same_reading : (d g : Datagram) → (let r : Result Datagram Refusal = Ok d in r ≡ Ok g) → d ≡ g
 same_reading d g e = cc
 
 one_time : (u t : ℕ) (r : Result Datagram Refusal) → IsMember u (time_if t r) → u ≡ t

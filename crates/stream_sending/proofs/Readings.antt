@@ -1,5 +1,5 @@
 -- What was read is a stream, or has a first fault.
-use Rattle.std.proofs.Common.{◌≡◌, ℕ, inl, inr, List, [], ◌∷◌, ◌++◌, Result, Ok, Err, append_assoc}
+use Rattle.std.proofs.Common.{◌≡◌, ℕ, inl, inr, List, [], ◌++◌, Result, Ok, Err, append_assoc}
 use Rattle.std.proofs.Common.{append-nil, sym, ap, subst, ◌∙◌, arith}
 use Rattle.std.proofs.lemmas.List.{length-append}
 use Rattle.std.specs.Prelude.{IfErr, IfOk, OnOk}
@@ -8,7 +8,6 @@ use Rattle.st_format.specs.Fields.{fields_of}
 use Rattle.st_format.specs.Given.{GaveValue}
 use Rattle.st_format.specs.History.{IsRead}
 use Rattle.st_format.specs.Picture.{Values}
-use Rattle.st_format.proofs.Histories.{since_is}
 use Rattle.picture_forms.specs.declared.fault.FormFault.{FormFault}
 use Rattle.picture_forms.specs.declared.fault.FormFault.TheVariants as form
 use Rattle.picture_forms.specs.Heads.{HasY4mHead, head_walk}
@@ -21,24 +20,12 @@ use Rattle.run_outcome.specs.declared.refusal.Refusal.{Refusal}
 use Rattle.run_outcome.specs.declared.refusal.Refusal.TheVariants as refusal
 use Rattle.capture_engines.specs.declared.sender.Sending.{Sending}
 use Rattle.convert_engine.specs.Converting.{form_fault}
+use Rattle.convert_engine.proofs.Saying.{one_part, two_parts}
 use Rattle.stream_sending.specs.Reading.{GaveFrameFault, GaveFrames, GaveMany, IsOpenedRefusal}
 use Rattle.stream_sending.specs.Reading.{SendsOpened}
 use Rattle.stream_sending.specs.Sent.{IsFramesRefusal, IsSentStreamFault, SendsFrames}
 use Rattle.stream_sending.specs.Streams.{BeginsFrames, BeginsStream, IsStreamOf}
-
--- what was read first, then, and is behind it
-two_parts : (a b c first next octets : List ℕ) (ended : Type 0) → b ≡ a ++ first → c ≡ b ++ next
-    → (q : IsRead a c ended octets) → octets ≡ first ++ (next ++ q.behind)
-two_parts a b c first next octets ended p r q =
-    let grown : c ≡ a ++ (first ++ next) =
-    r ∙ ap (λ (l : List ℕ). l ++ next) p ∙ append_assoc a first next in
-    q.parts ∙ ap (λ (l : List ℕ). l ++ q.behind) (since_is a c (first ++ next) grown)
-    ∙ append_assoc first next q.behind
-
-one_part : (a b first octets : List ℕ) (ended : Type 0) → b ≡ a ++ first
-    → (q : IsRead a b ended octets) → octets ≡ first ++ q.behind
-one_part a b first octets ended p q =
-    q.parts ∙ ap (λ (l : List ℕ). l ++ q.behind) (since_is a b first p)
+use Rattle.stream_sending.proofs.FramesRead.{more}
 
 -- the head of what was read, and what is behind it
 head_of : (f : Format) (a b c next octets : List ℕ) (ended : Type 0)
@@ -102,9 +89,6 @@ head_refused most a b ended form.Truncated g =
     head_fault most a b ended form.Truncated g.part g.grown g.says
 head_refused most a b ended form.ValueTooLarge g =
     head_fault most a b ended form.ValueTooLarge g.part g.grown g.says
-
-more : (a b c first next : List ℕ) → b ≡ a ++ first → c ≡ b ++ next → c ≡ a ++ (first ++ next)
-more a b c first next p q = q ∙ ap (λ (l : List ℕ). l ++ next) p ∙ append_assoc a first next
 
 begun : (f : Format) (ps : List Values) (a b c d next octets : List ℕ) (ended : Type 0)
     → GaveValue head_walk a b (fields_of f) → (g : GaveFrames f ps b c) → d ≡ c ++ next

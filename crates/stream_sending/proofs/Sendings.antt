@@ -1,7 +1,6 @@
 -- Pictures of a stream sent one after the other into a capture.
 use Rattle.std.proofs.Common.{◌≡◌, ℕ, ◌+◌, List, [], ◌∷◌, ◌++◌, length, Some, refl, sym, ap, subst}
 use Rattle.std.proofs.Common.{◌∙◌, arith, false, append_assoc, append-nil, length-append}
-use Rattle.st_format.specs.Device.{capped}
 use Rattle.st_format.specs.Picture.{Values}
 use Rattle.st_format.specs.declared.device.ByteSink.{Ghosts}
 use Rattle.st_format.specs.declared.format.Format.{Format}

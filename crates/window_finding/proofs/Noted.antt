@@ -1,17 +1,14 @@
 -- The first timestamps of datagrams, and of more of them.
-use Rattle.std.proofs.Common.{◌≡◌, ℕ, ◌≤◌, List, [], ◌∷◌, ◌++◌, length, map, take, Option, None}
-use Rattle.std.proofs.Common.{Some, refl, sym, ap, ◌∙◌, append-nil}
+use Rattle.std.proofs.Common.{◌≡◌, ℕ, ◌≤◌, List, [], ◌∷◌, ◌++◌, length, take, Option, None}
+use Rattle.std.proofs.Common.{Some, sym, ap, ◌∙◌, append-nil}
 use Rattle.std.proofs.lemmas.Grind.{flat_map-append}
-use Rattle.std.proofs.lemmas.List.{map-append}
 use Rattle.std.specs.List.{cons_option}
-use Rattle.st_format.specs.Turns.{Due, Comes, Nothing, came_of, datagrams_of}
-use Rattle.st_format.specs.declared.path.Path.{Path}
-use Rattle.window_finding.specs.First.{distinct, first_timestamps, timestamp_in, timestamps_of}
+use Rattle.window_finding.specs.First.{distinct, first_timestamps, timestamp_in, timestamps_in}
 use Rattle.window_finding.proofs.Distinct.{full_stays}
 
 timestamps_on : (payload_type : ℕ) (ssrc : Option ℕ) (ds more : List (List ℕ))
-    → timestamps_of payload_type ssrc (ds ++ more)
-    ≡ timestamps_of payload_type ssrc ds ++ timestamps_of payload_type ssrc more
+    → timestamps_in payload_type ssrc (ds ++ more)
+    ≡ timestamps_in payload_type ssrc ds ++ timestamps_in payload_type ssrc more
 timestamps_on payload_type ssrc ds more = flat_map-append (timestamp_in payload_type ssrc) ds more
 
 -- where so many are found, datagrams behind them change nothing
@@ -19,18 +16,18 @@ pub first_full : (n payload_type : ℕ) (ssrc : Option ℕ) (ds more : List (Lis
     → w ≡ first_timestamps n payload_type ssrc ds → n ≤ length w
     → w ≡ first_timestamps n payload_type ssrc (ds ++ more)
 first_full n payload_type ssrc ds more w is full =
-    full_stays n w (timestamps_of payload_type ssrc ds) (timestamps_of payload_type ssrc more) is
+    full_stays n w (timestamps_in payload_type ssrc ds) (timestamps_in payload_type ssrc more) is
     full
     ∙ ap (λ (ts : List ℕ). take n (distinct ts)) (sym (timestamps_on payload_type ssrc ds more))
 
 -- one datagram more
 one_on : (payload_type : ℕ) (ssrc : Option ℕ) (ds : List (List ℕ)) (d : List ℕ) (t : Option ℕ)
     → timestamp_in payload_type ssrc d ≡ cons_option t []
-    → timestamps_of payload_type ssrc (ds ++ d ∷ [])
-    ≡ timestamps_of payload_type ssrc ds ++ cons_option t []
+    → timestamps_in payload_type ssrc (ds ++ d ∷ [])
+    ≡ timestamps_in payload_type ssrc ds ++ cons_option t []
 one_on payload_type ssrc ds d t is =
     timestamps_on payload_type ssrc ds (d ∷ [])
-    ∙ ap (λ (ts : List ℕ). timestamps_of payload_type ssrc ds ++ ts)
+    ∙ ap (λ (ts : List ℕ). timestamps_in payload_type ssrc ds ++ ts)
     (append-nil (timestamp_in payload_type ssrc d) ∙ is)
 
 -- that does not come
@@ -41,7 +38,7 @@ first_same n payload_type ssrc ds d w none is =
     is
     ∙ ap (λ (ts : List ℕ). take n (distinct ts))
     (sym (one_on payload_type ssrc ds d None none
-    ∙ append-nil (timestamps_of payload_type ssrc ds)))
+    ∙ append-nil (timestamps_in payload_type ssrc ds)))
 
 -- that comes with a timestamp
 pub first_more : (n payload_type : ℕ) (ssrc : Option ℕ) (ds : List (List ℕ)) (d w w' : List ℕ)
@@ -50,30 +47,6 @@ pub first_more : (n payload_type : ℕ) (ssrc : Option ℕ) (ds : List (List ℕ
     → w ≡ first_timestamps n payload_type ssrc ds
     → w' ≡ first_timestamps n payload_type ssrc (ds ++ d ∷ [])
 first_more n payload_type ssrc ds d w w' t one added is =
-    added (timestamps_of payload_type ssrc ds) is
+    added (timestamps_in payload_type ssrc ds) is
     ∙ ap (λ (ts : List ℕ). take n (distinct ts))
     (sym (one_on payload_type ssrc ds d (Some t) one))
-
--- ---- turns
-
-abbrev octets_of : List (Path × List ℕ) → List (List ℕ)
-octets_of came = map (λ (x : Path × List ℕ). x.1) came
-
-came_octets : (due : List Due) → octets_of (came_of due) ≡ datagrams_of due
-came_octets [] = refl
-came_octets (Comes path octets ∷ due) =
-    ap (λ (rest : List (List ℕ)). octets ∷ rest) (came_octets due)
-came_octets (Nothing ∷ due) = came_octets due
-
--- the datagrams of turns, and what came behind them
-pub datagrams_on : (xs ys : List Due) (more : List (Path × List ℕ))
-    → came_of ys ≡ came_of xs ++ more → datagrams_of ys ≡ datagrams_of xs ++ octets_of more
-datagrams_on xs ys more came =
-    sym (came_octets ys)
-    ∙ ap octets_of came
-    ∙ map-append (λ (x : Path × List ℕ). x.1) (came_of xs) more
-    ∙ ap (λ (ds : List (List ℕ)). ds ++ octets_of more) (came_octets xs)
-
-pub datagrams_same : (xs ys : List Due) → came_of ys ≡ came_of xs
-    → datagrams_of ys ≡ datagrams_of xs
-datagrams_same xs ys same = sym (came_octets ys) ∙ ap octets_of same ∙ came_octets xs

@@ -19,8 +19,8 @@ timestamp_in payload_type ssrc octets =
     timestamp_if (by_header (rtp_walk octets) >>= header_for payload_type ssrc)
 
 -- those of datagrams, in their order
-abbrev pub timestamps_of : ℕ → Option ℕ → List (List ℕ) → List ℕ
-timestamps_of payload_type ssrc datagrams = flat_map (timestamp_in payload_type ssrc) datagrams
+abbrev pub timestamps_in : ℕ → Option ℕ → List (List ℕ) → List ℕ
+timestamps_in payload_type ssrc datagrams = flat_map (timestamp_in payload_type ssrc) datagrams
 
 -- each number once, in the place where it stands first
 abbrev pub distinct : List ℕ → List ℕ
@@ -30,4 +30,4 @@ distinct (t ∷ ts) = t ∷ filter (λ u. not (t == u)) (distinct ts)
 -- the first so many different timestamps that come, or all where fewer do
 abbrev pub first_timestamps : ℕ → ℕ → Option ℕ → List (List ℕ) → List ℕ
 first_timestamps count payload_type ssrc datagrams =
-    take count (distinct (timestamps_of payload_type ssrc datagrams))
+    take count (distinct (timestamps_in payload_type ssrc datagrams))

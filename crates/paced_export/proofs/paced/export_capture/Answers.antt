@@ -1,4 +1,3 @@
-use Rattle.std.proofs.lemmas.Result.{err_from_is_err_and}
 use Rattle.export_engine.proofs.ExportRefusals.{read_refused}
 use Rattle.paced_export.specs.PacedExported.LeavesPacing.{Stopped}
 use Rattle.paced_export.proofs.paced.export_capture.Goals as goal

@@ -1,4 +1,4 @@
-use Rattle.std.proofs.Common.{◌≡◌, ◌++◌, ◌∷◌, ◌∙◌, List, [], subst, sym}
+use Rattle.std.proofs.Common.{◌++◌, ◌∷◌, ◌∙◌, List, [], subst, sym}
 use Rattle.std.specs.List.{AllByRecursion}
 use Rattle.recording_runs.specs.Files.{AreNew}
 use Rattle.recording_runs.proofs.importing.given_files.Goals as goal

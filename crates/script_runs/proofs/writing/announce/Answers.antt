@@ -1,5 +1,5 @@
 -- What is printed is a text that says the stream.
-use Rattle.std.proofs.Common.{◌≡◌, ℕ, List, ◌++◌, subst, ap, ◌∙◌}
+use Rattle.std.proofs.Common.{ℕ, List, ◌++◌, subst, ap, ◌∙◌}
 use Rattle.devices.specs.Passed.{output_took}
 use Rattle.sdp_format.specs.Sections.{Description}
 use Rattle.sdp_writing.specs.Written.{IsTextOf, told_legs}

@@ -4,7 +4,7 @@ use Rattle.run_outcome.proofs.Refusals.{if_err_map, of_refusal_map}
 use Rattle.run_outcome.proofs.SetSums.{set_counted}
 use Rattle.capture_engines.specs.Files.{way_at}
 use Rattle.capture_engines.proofs.OneOf.{first_at}
-use Rattle.stream_inspection.specs.Read.{IsStartRefusal, NotesFile, ended_by}
+use Rattle.stream_inspection.specs.Read.{IsStartRefusal, NotesFile, end_outcome}
 use Rattle.stream_inspection.proofs.Readings.{if_end, if_ok}
 use Rattle.stream_inspection.proofs.files.note_at.Goals as goal
 
@@ -34,5 +34,5 @@ returns-clause-refusal g c =
 pub returns-clause-failures : goal.returns-clause-failures
 returns-clause-failures g c =
     set_counted g.S.ByteSource.failures c.args.files.now c.args.place
-    c.index-files-place.result c.note_one.new.file (ended_by c.note_one.result)
+    c.index-files-place.result c.note_one.new.file (end_outcome c.note_one.result)
     c.requires.place c.note_one.ensures.failures

@@ -1,6 +1,6 @@
 use Rattle.std.proofs.Common.{◌≡◌, None, rules}
 use Rattle.run_outcome.proofs.SetSums.{counted_by}
-use Rattle.stream_inspection.specs.Read.{ended_by}
+use Rattle.stream_inspection.specs.Read.{end_outcome}
 use Rattle.stream_inspection.proofs.Readings.{file_noted_if, front_refuses, text_refuses}
 use Rattle.stream_inspection.proofs.files.note_one.Goals as goal
 
@@ -13,7 +13,7 @@ returns-in-Err-clause-refusal g c =
 
 pub returns-clause-failures : goal.returns-clause-failures
 returns-clause-failures g c =
-    counted_by (ended_by c.note_opened-noted.result) _ _ _ _ c.in-Ok.ensures.counted
+    counted_by (end_outcome c.note_opened-noted.result) _ _ _ _ c.in-Ok.ensures.counted
     (search rules) c.note_opened-noted.ensures.failures
 
 pub returns-clause-noted : goal.returns-clause-noted

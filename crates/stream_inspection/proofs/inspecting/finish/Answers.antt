@@ -1,5 +1,5 @@
 use Rattle.std.proofs.Common.{◌∙◌, ◌++◌, List, ap}
-use Rattle.stream_inspection.proofs.Told.{end_refused, more_blamed}
+use Rattle.stream_inspection.proofs.Told.{end_refused}
 use Rattle.stream_inspection.proofs.inspecting.finish.Goals as goal
 
 pub returns-clause-refusal : goal.returns-clause-refusal

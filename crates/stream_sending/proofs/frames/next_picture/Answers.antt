@@ -3,7 +3,8 @@ use Rattle.run_outcome.specs.Fault.{Blames, counts}
 use Rattle.run_outcome.specs.Refusing.{OfRefusal}
 use Rattle.run_outcome.specs.declared.fault.Fault.{Fault}
 use Rattle.stream_sending.specs.Reading.{IsNextRefusal}
-use Rattle.stream_sending.proofs.FramesRead.{form_blames, next_given, next_reads, next_refused}
+use Rattle.convert_engine.proofs.Refusals.{form_blames}
+use Rattle.stream_sending.proofs.FramesRead.{next_given, next_reads, next_refused}
 use Rattle.stream_sending.proofs.frames.next_picture.Goals as goal
 
 pub returns-in-Ok-clause-reads : goal.returns-in-Ok-clause-reads

@@ -1,9 +1,9 @@
-use Rattle.std.proofs.Common.{ap, inr, rules, subst, sym, ◌∙◌}
+use Rattle.std.proofs.Common.{ap, rules, subst, sym, ◌∙◌}
 use Rattle.st_format.specs.declared.format.Format.{Format}
 use Rattle.packet_plan.specs.Plan.{IsSize, RasterPlan}
 use Rattle.run_outcome.proofs.SetSums.{counted_behind}
 use Rattle.capture_engines.specs.Sending.{IsPlanOf}
-use Rattle.capture_engines.proofs.Sendings.{if_ok_both, open_failed}
+use Rattle.capture_engines.proofs.Sendings.{if_ok_both}
 use Rattle.stream_sending.proofs.Sendings.{stream_sent}
 use Rattle.stream_sending.proofs.frames.send_from.Goals as goal
 

@@ -1,7 +1,6 @@
 use Rattle.std.proofs.Common.{◌∙◌, ℕ, List, ap, length, sym}
 use Rattle.frame_sinks.proofs.Written.{picture_format, picture_is, samples_back, values}
 use Rattle.frame_sinks.specs.Pictures.{picture_of}
-use Rattle.st_format.specs.declared.format.Format.{Format}
 use Rattle.st_format.specs.Picture.{Values}
 use Rattle.st_format.specs.Position.{sample_count}
 use Rattle.std.specs.Prelude.{Option}
