@@ -13,8 +13,9 @@ use Rattle.frame_sinks.specs.declared.filling.Filling.TheVariants.{Fill}
 use Rattle.frame_sinks.specs.declared.form_sink.FormSink.{FormSink}
 use Rattle.frame_sinks.specs.declared.settling.Settling.{Settling}
 use Rattle.picture_engine.specs.Views.{settled_with}
+use Rattle.picture_engine.proofs.Settled.{settled_format}
 use Rattle.picture_forms.specs.Faults.{CountsFault, IsDevice}
-use Rattle.picture_forms.specs.Layouts.{IsYcc, frame_line, frame_text, planes_text}
+use Rattle.picture_forms.specs.Layouts.{IsYcc, frame_text}
 use Rattle.picture_forms.specs.declared.fault.FormFault.{FormFault}
 use Rattle.picture_forms.specs.declared.fault.FormFault.TheVariants as form
 use Rattle.receiver_engines.specs.Inputs.{settled_by_fill, settled_over}
@@ -65,12 +66,6 @@ pub picture_filled : (fill : Option (List ℕ)) (values : List ℕ) (q : Raster)
 unfolding picture_of
 picture_filled fill values q f is same =
     ap (λ (v : List ℕ). settled_by_fill v q) (is ∙ ap (λ (g : Format). fill_of fill g) same)
-
--- its format is the frame's
-settled_format : (held : Option Values) (fill : List ℕ) (q : Raster)
-    → (settled_with held fill q).format ≡ q.format
-settled_format None fill q = refl
-settled_format (Some p) fill q = refl
 
 pub picture_format : (fill : Option (List ℕ)) (held : Option Values) (q : Raster)
     → (picture_of fill held q).format ≡ q.format
@@ -154,7 +149,7 @@ takes_frame took k l m sink p h filling fill held is written sunk begun filled b
 
 -- ---- a frame by its planes
 
-ycc_form : (s : Sampling) (p : Values) → IsYcc s → form_by s p ≡ frame_text p
+pub ycc_form : (s : Sampling) (p : Values) → IsYcc s → form_by s p ≡ frame_text p
 ycc_form Ycc422 p is = refl
 ycc_form Ycc444 p is = refl
 ycc_form Rgb p is = absurd is
@@ -163,56 +158,65 @@ ycc_frame : (p : Values) → IsYcc p.format.sampling → form_text p ≡ frame_t
 unfolding form_text
 ycc_frame p is = ycc_form p.format.sampling p is
 
--- what is written of a frame is so of the octets of its planes
-planes_text_is : {K A : Type 0} (k : FormSink K A) (octets : List ℕ) (f : Format) (h : Handed)
-    → k.settling.held ≡ None → IsYcc h.frame.format.sampling → f ≡ h.frame.format
-    → octets ≡ planes_text (picture_of k.settling.fill None h.frame)
-    → head_for k.format f ++ (frame_line ++ octets) ≡ text_for k h
-planes_text_is k octets f h held ycc same is =
+-- what is written of a frame is so of its planes
+planes_text_is : {K A : Type 0} (k : FormSink K A) (h : Handed) → k.settling.held ≡ None
+    → IsYcc h.frame.format.sampling
+    → head_for k.format h.frame.format ++ frame_text (picture_of k.settling.fill None h.frame)
+    ≡ text_for k h
+planes_text_is k h held ycc =
     let p : Values = picture_of k.settling.fill None h.frame in
     let is_ycc : IsYcc p.format.sampling =
     subst (λ (g : Format). IsYcc g.sampling)
     (sym (picture_format k.settling.fill None h.frame)) ycc in
-    ap (λ (g : Format). head_for k.format g ++ (frame_line ++ octets)) same
-    ∙ ap (λ (t : List ℕ). head_for k.format h.frame.format ++ (frame_line ++ t)) is
-    ∙ ap (λ (t : List ℕ). head_for k.format h.frame.format ++ t) (sym (ycc_frame p is_ycc))
+    ap (λ (t : List ℕ). head_for k.format h.frame.format ++ t) (sym (ycc_frame p is_ycc))
     ∙ ap (λ (x : Option Values). head_for k.format h.frame.format
     ++ form_text (picture_of k.settling.fill x h.frame)) (sym held)
 
--- A sink failed at a frame, whose planes were settled: its sink of octets took a first part.
-pub fails_planes : {K A : Type 0} (took : K → List ℕ) (k l : FormSink K A) (sink : K)
-    (octets : List ℕ) (f : Format) (h : Handed) → k.settling.held ≡ None
-    → IsYcc h.frame.format.sampling → f ≡ h.frame.format
-    → octets ≡ planes_text (picture_of k.settling.fill None h.frame)
-    → GrowsSome (took k.sink) (took sink) (head_for k.format f ++ (frame_line ++ octets))
-    → l.sink ≡ sink → FailsFrame took k h l
-fails_planes took k l sink octets f h held ycc same is part sunk =
-    subst (λ (t : List ℕ). GrowsSome (took k.sink) (took l.sink) t)
-    (planes_text_is k octets f h held ycc same is)
-    (subst (λ (x : _). GrowsSome (took k.sink) (took x)
-    (head_for k.format f ++ (frame_line ++ octets))) (sym sunk) part)
+-- the same by the fill that a call was given
+given_text_is : {K A : Type 0} (k : FormSink K A) (fill : Option (List ℕ)) (h : Handed)
+    → fill ≡ k.settling.fill → k.settling.held ≡ None → IsYcc h.frame.format.sampling
+    → head_for k.format h.frame.format ++ frame_text (picture_of fill None h.frame) ≡ text_for k h
+given_text_is k fill h given held ycc =
+    ap (λ (x : Option (List ℕ)).
+    head_for k.format h.frame.format ++ frame_text (picture_of x None h.frame)) given
+    ∙ planes_text_is k h held ycc
 
--- A sink settled the planes of a frame, which made m of what it is settled with; its sink of octets
--- took them; and their room was kept.
+-- A sink failed at a frame that goes by planes: its sink of octets took a first part.
+pub fails_planes : {K A : Type 0} (took : K → List ℕ) (k l : FormSink K A) (sink : K)
+    (fill : Option (List ℕ)) (h : Handed) → fill ≡ k.settling.fill → k.settling.held ≡ None
+    → IsYcc h.frame.format.sampling
+    → GrowsSome (took k.sink) (took sink)
+    (head_for k.format h.frame.format ++ frame_text (picture_of fill None h.frame))
+    → l.sink ≡ sink → FailsFrame took k h l
+fails_planes took k l sink fill h given held ycc part sunk =
+    subst (λ (t : List ℕ). GrowsSome (took k.sink) (took l.sink) t)
+    (given_text_is k fill h given held ycc)
+    (subst (λ (x : _). GrowsSome (took k.sink) (took x)
+    (head_for k.format h.frame.format ++ frame_text (picture_of fill None h.frame))) (sym sunk)
+    part)
+
+-- Room was taken for a frame that goes by planes, which made m of what it is settled with; its sink
+-- of octets took the frame; and the room was kept.
 pub takes_planes : {K A : Type 0} (took : K → List ℕ) (k l : FormSink K A) (m : Settling A)
-    (sink : K) (octets : List ℕ) (f : Format) (h : Handed) → m.filling ≡ k.settling.filling
+    (sink : K) (fill : Option (List ℕ)) (f : Format) (h : Handed) → m.filling ≡ k.settling.filling
     → m.fill ≡ k.settling.fill → m.held ≡ k.settling.held → k.settling.filling ≡ Fill
     → k.settling.held ≡ None → IsYcc h.frame.format.sampling → f ≡ h.frame.format
-    → octets ≡ planes_text (picture_of k.settling.fill None h.frame)
-    → took sink ≡ took k.sink ++ (head_for k.format f ++ (frame_line ++ octets))
+    → fill ≡ k.settling.fill
+    → took sink ≡ took k.sink
+    ++ (head_for k.format h.frame.format ++ frame_text (picture_of fill None h.frame))
     → l.sink ≡ sink → l.format ≡ Some f → l.settling.filling ≡ m.filling
     → l.settling.fill ≡ m.fill → l.settling.held ≡ m.held → SinkTakes took k h l
-takes_planes took k l m sink octets f h filling fill held by none ycc same is written sunk begun
-    filled filled_by kept =
-    let p : Values = picture_of k.settling.fill k.settling.held h.frame in
+takes_planes took k l m sink fill f h filling filled held by none ycc same given written sunk begun
+    keeps_filling keeps_fill kept =
     record {
       written =
           ap took sunk ∙ written
-          ∙ ap (λ (t : List ℕ). took k.sink ++ t) (planes_text_is k octets f h none ycc same is);
+          ∙ ap (λ (t : List ℕ). took k.sink ++ t) (given_text_is k fill h given none ycc);
       format = begun ∙ ap (λ (g : Format). Some g) same;
       held =
           kept ∙ held ∙ none
-          ∙ sym (ap (λ (x : Filling). held_by x p) by);
-      filling = filled ∙ filling;
-      fill = filled_by ∙ fill;
+          ∙ sym (ap (λ (x : Filling). held_by x (picture_of k.settling.fill k.settling.held h.frame))
+          by);
+      filling = keeps_filling ∙ filling;
+      fill = keeps_fill ∙ filled;
     }

@@ -65,7 +65,7 @@ impl<K: ByteSink + Drop, A: Allocator + Copy> FormSink<K, A> {
         Ok(())
     }
 
-    /// Writes a frame, which is YCbCr and settled by the fill, by its planes: no picture is made.
+    /// Writes a frame, which is YCbCr, settled by the fill and by planes: no picture is made.
     fn show_planes<B: Allocator>(&mut self, timestamp: u32, frame: &Frame<B>) -> Result<(), Fault>
         requires ycc { IsYcc frame.now.format.sampling }
         requires filling { self.old.settling.filling ≡ Filling.Fill }
@@ -78,11 +78,18 @@ impl<K: ByteSink + Drop, A: Allocator + Copy> FormSink<K, A> {
         ensures failures { Accounts result
             (counts (K.failures self.old.sink) (K.failures self.new.sink) ∷ []) }
     {
-        let octets = self.settling.settle_planes(frame)?;
         let format = frame.format();
-        write_next_planes(&mut self.sink, self.format, &format, octets.as_slice())?;
+        let mut chroma = self.settling.take_chroma(&format)?;
+        let fill = self.settling.fill();
+        write_next_planes(
+            &mut self.sink,
+            self.format,
+            frame,
+            fill,
+            chroma.as_mut_slice(),
+        )?;
         self.format = Some(format);
-        self.settling.keep_planes(octets);
+        self.settling.keep_chroma(chroma);
         Ok(())
     }
 

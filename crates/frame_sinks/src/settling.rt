@@ -2,15 +2,15 @@
 ghost use Rattle.std.specs.Prelude.{◌≡◌, IfOk, IsTrue, None, Some, length};
 ghost use Rattle.frame_assembly.specs.Settled.{IsBaseOf, settled_picture};
 ghost use Rattle.frame_sinks.specs.Pictures.{held_by, picture_of};
-ghost use Rattle.picture_forms.specs.Frames.{planes_size};
-ghost use Rattle.picture_forms.specs.Layouts.{IsYcc, planes_text};
+ghost use Rattle.picture_forms.specs.Layouts.{IsYcc};
+ghost use Rattle.settled_forms.specs.Pieces.{chroma_size};
 ghost use Rattle.st_format.specs.Picture.{IsPicture};
 ghost use Rattle.st_format.specs.Position.{sample_count};
 
 use crate::filling::{Filling, fill_of};
 use crate::writing::has_format;
 use frame_assembly::{Base, Frame};
-use settled_forms::{planes_size, settle_all, settle_planes};
+use settled_forms::{chroma_size, settle_all};
 use st_format::{Format, Picture, Sampling};
 use std::alloc::{AllocError, Allocator, Global};
 use std::mem;
@@ -28,8 +28,8 @@ pub struct Settling<A: Allocator = Global> {
     held: Option<Picture<A>>,
     /// Room for the samples of a picture, once there is some.
     room: Vec<u16, A>,
-    /// Room for the octets of its planes, once there is some.
-    planes: Vec<u8, A>,
+    /// Room for the octets of Cb and Cr, once there is some.
+    chroma: Vec<u8, A>,
 }
 
 impl<A: Allocator + Copy> Settling<A> {
@@ -45,12 +45,12 @@ impl<A: Allocator + Copy> Settling<A> {
             fill,
             held: None,
             room: Vec::new(alloc),
-            planes: Vec::new(alloc),
+            chroma: Vec::new(alloc),
         }
     }
 
-    /// Whether a frame of this format needs no picture: it is YCbCr, so that it goes straight into
-    /// planes, and settled by the fill, so that no picture is kept of it.
+    /// Whether a frame of this format needs no picture: it is YCbCr, so that it is written by planes
+    /// as it is settled, and settled by the fill, so that no picture is kept of it.
     pub(crate) fn goes_by_planes(&self, format: &Format) -> bool
         ensures ycc { IsTrue result → IsYcc format.now.sampling }
         ensures filling { IsTrue result → self.now.filling ≡ Filling.Fill }
@@ -105,47 +105,35 @@ impl<A: Allocator + Copy> Settling<A> {
         Vec::from_elem(self.alloc, 0, count)
     }
 
-    /// The octets of the planes of the next frame, which is YCbCr, settled by the fill.
-    pub(crate) fn settle_planes<B: Allocator>(
-        &mut self,
-        frame: &Frame<B>,
-    ) -> Result<Vec<u8, A>, AllocError>
-        requires { IsYcc frame.now.format.sampling }
-        ensures planes { IfOk result
-            (λ v. v.items ≡ planes_text (picture_of self.old.fill None frame.now)) }
+    /// Room for Cb and Cr of a picture of this format: that of one before, where it is as long.
+    pub(crate) fn take_chroma(&mut self, format: &Format) -> Result<Vec<u8, A>, AllocError>
+        ensures room { IfOk result (λ v. length v.items ≡ chroma_size format.now) }
         ensures filling { self.new.filling ≡ self.old.filling }
         ensures fill { self.new.fill ≡ self.old.fill }
         ensures held { self.new.held ≡ self.old.held }
     {
-        let format = frame.format();
-        let mut octets = self.take_planes(&format)?;
-        fill_planes(frame, self.fill, octets.as_mut_slice());
-        Ok(octets)
-    }
-
-    /// Room for the planes of a picture of this format: that of one before, where it is as long.
-    fn take_planes(&mut self, format: &Format) -> Result<Vec<u8, A>, AllocError>
-        requires { IsYcc format.now.sampling }
-        ensures room { IfOk result (λ v. length v.items ≡ planes_size format.now) }
-        ensures filling { self.new.filling ≡ self.old.filling }
-        ensures fill { self.new.fill ≡ self.old.fill }
-        ensures held { self.new.held ≡ self.old.held }
-    {
-        let room = mem::replace(&mut self.planes, Vec::new(self.alloc));
-        let count = planes_size(format);
+        let room = mem::replace(&mut self.chroma, Vec::new(self.alloc));
+        let count = chroma_size(format);
         if room.len() == count {
             return Ok(room);
         }
         Vec::from_elem(self.alloc, 0, count)
     }
 
-    /// Keeps the room of planes for the next ones.
-    pub(crate) fn keep_planes(&mut self, octets: Vec<u8, A>)
+    /// The values of the fill, where they are given.
+    pub(crate) fn fill(&self) -> Option<[u16; 3]>
+        ensures { result ≡ self.now.fill }
+    {
+        self.fill
+    }
+
+    /// Keeps the room of Cb and Cr for the next ones.
+    pub(crate) fn keep_chroma(&mut self, chroma: Vec<u8, A>)
         ensures filling { self.new.filling ≡ self.old.filling }
         ensures fill { self.new.fill ≡ self.old.fill }
         ensures held { self.new.held ≡ self.old.held }
     {
-        self.planes = octets;
+        self.chroma = chroma;
     }
 
     /// Keeps a picture for the next one, or its room.
@@ -224,17 +212,6 @@ fn settle_over<A: Allocator, B: Allocator>(frame: &Frame<A>, base: Base<'_, B>, 
 {
     frame.settled_facts(base);
     settle_all(frame, base, samples);
-}
-
-/// Settles a frame, which is YCbCr, by the fill into the planes of its picture, for which `octets`
-/// has just the room.
-fn fill_planes<A: Allocator>(frame: &Frame<A>, fill: Option<[u16; 3]>, octets: &mut [u8])
-    requires ycc { IsYcc frame.now.format.sampling }
-    requires room { length octets.old ≡ planes_size frame.now.format }
-    ensures { octets.new ≡ planes_text (picture_of fill None frame.now) }
-{
-    let fill = fill_of(fill, &frame.format());
-    settle_planes(frame, Base::<Global>::Fill(fill), octets);
 }
 
 /// Whether pictures of this sampling have planes in a YUV4MPEG2 stream.

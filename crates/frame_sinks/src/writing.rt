@@ -1,20 +1,23 @@
 //! Writing pictures of a stream.
-ghost use Rattle.std.specs.Prelude.{◌≡◌, ◌++◌, ◌∷◌, [], IfErr, IsTrue, OnErr, OnOk};
+ghost use Rattle.std.specs.Prelude.{◌≡◌, ◌++◌, ◌∷◌, [], IfErr, IsTrue, None, OnErr, OnOk};
+ghost use Rattle.std.specs.Prelude.{length};
 ghost use Rattle.follow_engine.specs.Shown.{GrowsSome};
-ghost use Rattle.frame_sinks.specs.Pictures.{form_head, head_for, is_of};
+ghost use Rattle.frame_sinks.specs.Pictures.{form_head, head_for, is_of, picture_of};
 ghost use Rattle.picture_forms.specs.Faults.{CountsDevice, IsDevice};
-ghost use Rattle.picture_forms.specs.Layouts.{IsYcc, frame_line, y4m_head};
+ghost use Rattle.picture_forms.specs.Layouts.{IsYcc, frame_text, y4m_head};
 ghost use Rattle.run_outcome.specs.Fault.{Accounts, IfRefused, counts};
+ghost use Rattle.settled_forms.specs.Pieces.{chroma_size};
 ghost use Rattle.settled_forms.specs.Settled.{form_text};
 ghost use Rattle.st_format.specs.Device.{GrowsPart};
 ghost use Rattle.st_format.specs.Fields.{fields_of, same_fields};
 
-use frame_assembly::Frame;
+use crate::filling::fill_of;
+use frame_assembly::{Base, Frame};
 use picture_forms::{FormFault, write_pixmap, write_y4m_frame, write_y4m_head};
 use run_outcome::Fault;
 use settled_forms::write_planes;
 use st_format::{ByteSink, Format, Picture, Sampling};
-use std::alloc::Allocator;
+use std::alloc::{Allocator, Global};
 
 /// Writes a picture, behind the head of a stream where one begins: that which was begun has this
 /// format, if there is one.
@@ -35,34 +38,47 @@ pub(crate) fn write_next<A: Allocator, K: ByteSink>(
     write_picture(sink, picture)
 }
 
-/// The same of a picture of this format, which is YCbCr, by the octets of its planes.
-pub(crate) fn write_next_planes<K: ByteSink>(
+/// The same of a frame, which is YCbCr, settled by the fill: it is written by planes, and no picture
+/// is made. `chroma` has just the room for Cb and Cr.
+pub(crate) fn write_next_planes<A: Allocator, K: ByteSink>(
     sink: &mut K,
     begun: Option<Format>,
-    format: &Format,
-    octets: &[u8],
+    frame: &Frame<A>,
+    fill: Option<[u16; 3]>,
+    chroma: &mut [u8],
 ) -> Result<(), Fault>
+    requires ycc { IsYcc frame.now.format.sampling }
+    requires room { length chroma.old ≡ chroma_size frame.now.format }
     ensures written { OnOk result (K.took sink.new ≡ K.took sink.old
-        ++ (head_for begun format.now ++ (frame_line ++ octets.now))) }
+        ++ (head_for begun frame.now.format ++ frame_text (picture_of fill None frame.now))) }
     ensures part { OnErr result (GrowsSome (K.took sink.old) (K.took sink.new)
-        (head_for begun format.now ++ (frame_line ++ octets.now))) }
+        (head_for begun frame.now.format ++ frame_text (picture_of fill None frame.now))) }
     ensures unrefused { IfErr result (λ f. IfRefused f ⊥) }
     ensures failures { Accounts result (counts (K.failures sink.old) (K.failures sink.new) ∷ []) }
 {
-    write_head(sink, begun, format)?;
-    write_octets(sink, octets)
+    let format = frame.format();
+    write_head(sink, begun, &format)?;
+    write_filled(sink, frame, fill, chroma)
 }
 
-/// Writes the octets of planes as a frame of a YUV4MPEG2 stream.
-fn write_octets<K: ByteSink>(sink: &mut K, octets: &[u8]) -> Result<(), Fault>
-    ensures written { OnOk result
-        (K.took sink.new ≡ K.took sink.old ++ (frame_line ++ octets.now)) }
-    ensures part { OnErr result
-        (GrowsPart (K.took sink.old) (K.took sink.new) (frame_line ++ octets.now)) }
+/// Writes a frame, which is YCbCr, settled by the fill, as a frame of a YUV4MPEG2 stream.
+fn write_filled<A: Allocator, K: ByteSink>(
+    sink: &mut K,
+    frame: &Frame<A>,
+    fill: Option<[u16; 3]>,
+    chroma: &mut [u8],
+) -> Result<(), Fault>
+    requires ycc { IsYcc frame.now.format.sampling }
+    requires room { length chroma.old ≡ chroma_size frame.now.format }
+    ensures written { OnOk result (K.took sink.new
+        ≡ K.took sink.old ++ frame_text (picture_of fill None frame.now)) }
+    ensures part { OnErr result (GrowsPart (K.took sink.old) (K.took sink.new)
+        (frame_text (picture_of fill None frame.now))) }
     ensures unrefused { IfErr result (λ f. IfRefused f ⊥) }
     ensures failures { Accounts result (counts (K.failures sink.old) (K.failures sink.new) ∷ []) }
 {
-    match write_planes(sink, octets) {
+    let fill = fill_of(fill, &frame.format());
+    match write_planes(sink, frame, Base::<Global>::Fill(fill), chroma) {
         Ok(()) => Ok(()),
         Err(_) => Err(Fault::Device),
     }

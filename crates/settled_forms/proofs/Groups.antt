@@ -1,6 +1,7 @@
 -- Planes that are filled by pgroups: what a pgroup has of each, and one piece behind the others.
 use Rattle.std.proofs.Common.{◌≡◌, ℕ, zero, suc, ◌+◌, ◌*◌, ◌/◌, ◌%◌, ◌^◌, ◌<◌, ◌≤◌, List, [], ◌∷◌}
 use Rattle.std.proofs.Common.{◌++◌, length, get_or, take, drop, refl, sym, ap, ◌∙◌, subst, arith}
+use Rattle.std.proofs.Common.{Option}
 use Rattle.std.specs.List.{All, AllByRecursion}
 use Rattle.std.proofs.Math.Nat.{div-le_self, mul-add, mul_assoc}
 use Rattle.std.proofs.lemmas.List.{get_or-drop, get_or-take, length-drop, length-take}
@@ -15,17 +16,18 @@ use Rattle.st_format.specs.declared.sampling.Sampling.{Sampling}
 use Rattle.st_format.specs.declared.sampling.Sampling.TheVariants.{Ycc422, Ycc444, Rgb}
 use Rattle.st_format.specs.Pgroup.{bits_of, pixel_group}
 use Rattle.st_format.specs.Picture.{FitsDepth, Values}
-use Rattle.st_format.specs.Position.{group_count, row_groups, run_columns, run_samples}
-use Rattle.st_format.specs.Position.{sample_count}
+use Rattle.st_format.specs.Position.{group_count, row_groups}
 use Rattle.frame_assembly.proofs.Segments.{swap_first}
-use Rattle.picture_forms.specs.Frames.{planes_size}
 use Rattle.picture_forms.specs.Layouts.{IsYcc, column_step, plane_count, plane_first, plane_step}
 use Rattle.picture_forms.specs.Layouts.{plane_text, y4m_spelling}
 use Rattle.picture_forms.specs.Planes.{Inside, every, every_text, sample_limit, sample_size}
 use Rattle.picture_forms.specs.Planes.{sample_text}
 use Rattle.picture_forms.proofs.Placed.{plane_every}
 use Rattle.picture_forms.proofs.Texts.{every_front, every_none}
-use Rattle.settled_forms.specs.Pieces.{HasGroups, PutsGroups, group_share, octets_for, part_text}
+use Rattle.picture_forms.proofs.Written.{none_written, piece_cut, piece_written}
+use Rattle.picture_forms.specs.Writing.{Writes, WritesPart}
+use Rattle.settled_forms.specs.Pieces.{HasGroups, PutsGroups, group_share, groups_text, octets_for}
+use Rattle.settled_forms.specs.Pieces.{part_text}
 
 -- ---- numbers
 
@@ -129,6 +131,18 @@ few_samples f c =
     mul-le f.height (f.width / column_step f.sampling c) 8192 8192 f.whole_height.most
     (omega (arith, div-le_self f.width (column_step f.sampling c), f.whole_width.most))
 
+-- a piece's samples of a component are some of its plane's
+pub samples_within : (f : Format) (c first count : ℕ) → first + count ≤ group_count f
+    → group_share f c * first + group_share f c * count ≤ plane_count f c
+samples_within f c first count le =
+    let share : ℕ = group_share f c in
+    let both : share * (first + count) ≡ share * first + share * count =
+    mul-add share first count in
+    let most : share * (first + count) ≤ plane_count f c =
+    subst (λ (n : ℕ). share * (first + count) ≤ n) (shares_count f c)
+    (times_le share (first + count) (group_count f) le) in
+    omega (arith, both, most)
+
 -- a piece stands within its plane
 pub piece_within : (f : Format) (c first count : ℕ) → first + count ≤ group_count f
     → octets_for f (group_share f c * first) + octets_for f (group_share f c * count)
@@ -136,45 +150,12 @@ pub piece_within : (f : Format) (c first count : ℕ) → first + count ≤ grou
 piece_within f c first count le =
     let share : ℕ = group_share f c in
     let size : ℕ = sample_size (y4m_spelling f.depth) in
-    let both : share * (first + count) ≡ share * first + share * count =
-    mul-add share first count in
-    let most : share * (first + count) ≤ plane_count f c =
-    subst (λ (n : ℕ). share * (first + count) ≤ n) (shares_count f c)
-    (times_le share (first + count) (group_count f) le) in
     omega (
       arith,
       mul-add size (share * first) (share * count),
-      times_le size (share * first + share * count) (plane_count f c) (omega (arith, both, most)),
+      times_le size (share * first + share * count) (plane_count f c)
+          (samples_within f c first count le),
     )
-
-all_22 : (h w : ℕ) → w % 2 ≡ 0 → h * (w / 2 * 4) ≡ h * (w / 1) + (h * (w / 2) + h * (w / 2))
-all_22 h w even =
-    let a : w / 2 * 4 ≡ w / 1 + (w / 2 + w / 2) = omega (arith, even) in
-    ap (λ (n : ℕ). h * n) a ∙ mul-add h (w / 1) (w / 2 + w / 2)
-    ∙ ap (λ (n : ℕ). h * (w / 1) + n) (mul-add h (w / 2) (w / 2))
-
-all_44 : (h w : ℕ) → h * (w / 1 * 3) ≡ h * (w / 1) + (h * (w / 1) + h * (w / 1))
-all_44 h w =
-    let a : w / 1 * 3 ≡ w / 1 + (w / 1 + w / 1) = omega arith in
-    ap (λ (n : ℕ). h * n) a ∙ mul-add h (w / 1) (w / 1 + w / 1)
-    ∙ ap (λ (n : ℕ). h * (w / 1) + n) (mul-add h (w / 1) (w / 1))
-
-all_samples : (s : Sampling) (h w : ℕ) → IsYcc s → w % 2 ≡ 0
-    → h * (w / run_columns s * run_samples s)
-    ≡ h * (w / column_step s 0) + (h * (w / column_step s 1) + h * (w / column_step s 2))
-all_samples Ycc422 h w is even = all_22 h w even
-all_samples Ycc444 h w is even = all_44 h w
-all_samples Rgb h w is even = absurd is
-
--- the planes have all samples of a picture
-pub planes_long : (f : Format) → IsYcc f.sampling
-    → octets_for f (sample_count f) ≡ planes_size f
-planes_long f is =
-    let size : ℕ = sample_size (y4m_spelling f.depth) in
-    ap (λ (n : ℕ). size * n) (all_samples f.sampling f.height f.width is f.whole_width.even)
-    ∙ mul-add size (plane_count f 0) (plane_count f 1 + plane_count f 2)
-    ∙ ap (λ (n : ℕ). size * plane_count f 0 + n)
-    (mul-add size (plane_count f 1) (plane_count f 2))
 
 -- ---- values
 
@@ -266,7 +247,7 @@ piece_text d xs ys first step share group at n low same of =
 -- ---- a plane
 
 -- octets of so many pgroups, in the code's numbers
-scaled : (f : Format) (c n size share : ℕ) → size ≡ sample_size (y4m_spelling f.depth)
+pub scaled : (f : Format) (c n size share : ℕ) → size ≡ sample_size (y4m_spelling f.depth)
     → share ≡ group_share f c → size * (share * n) ≡ octets_for f (group_share f c * n)
 scaled f c n size share s h =
     ap (λ (x : ℕ). x * (share * n)) s ∙ ap (λ (x : ℕ). octets_for f (x * n)) h
@@ -367,3 +348,75 @@ groups_all v c plane is lt has =
     ∙ has.text
     ∙ ap (part_text f c v.samples) count
     ∙ sym (plane_every v c is lt)
+
+-- ---- a plane that is written by pieces
+
+-- the octets of some pgroups, of their samples alone
+pub groups_apart : (v : Values) (c first count : ℕ) (samples : List ℕ) → c < 3
+    → samples ≡ take ((pixel_group v.format.sampling v.format.depth).samples * count)
+    (drop ((pixel_group v.format.sampling v.format.depth).samples * first) v.samples)
+    → part_text v.format c samples (group_share v.format c * count)
+    ≡ groups_text v c first count
+groups_apart v c first count samples lt of =
+    let f : Format = v.format in
+    piece_text f.depth v.samples samples (plane_first f.sampling c) (plane_step f.sampling c)
+    (group_share f c) (pixel_group f.sampling f.depth).samples first count
+    (first_low f.sampling c lt) (share_steps f c) of
+
+-- nothing was written of it
+pub plane_none : (v : Values) (c : ℕ) (o : Option (List ℕ)) (l : List ℕ)
+    → Writes o o l l (part_text v.format c v.samples (group_share v.format c * 0))
+plane_none v c o l =
+    let f : Format = v.format in
+    subst (λ (n : ℕ). Writes o o l l (part_text f c v.samples n))
+    (sym (times_none (group_share f c)))
+    (none_written o l (y4m_spelling f.depth) v.samples (plane_first f.sampling c)
+    (plane_step f.sampling c))
+
+-- and some pgroups more
+pub plane_more : (v : Values) (c done n : ℕ) (was mid is : Option (List ℕ))
+    (old now new : List ℕ)
+    → Writes was mid old now (part_text v.format c v.samples (group_share v.format c * done))
+    → Writes mid is now new (groups_text v c done n)
+    → Writes was is old new (part_text v.format c v.samples (group_share v.format c * (done + n)))
+plane_more v c done n was mid is old now new p q =
+    let f : Format = v.format in
+    let share : ℕ = group_share f c in
+    subst (λ (k : ℕ). Writes was is old new (part_text f c v.samples k))
+    (sym (mul-add share done n))
+    (piece_written was mid is old now new (y4m_spelling f.depth) v.samples
+    (plane_first f.sampling c) (plane_step f.sampling c) (share * done) (share * n) p q)
+
+-- within which it was cut
+pub plane_cut : (v : Values) (c done n : ℕ) (was mid is : Option (List ℕ))
+    (old now new : List ℕ) → IsYcc v.format.sampling → c < 3 → done + n ≤ group_count v.format
+    → Writes was mid old now (part_text v.format c v.samples (group_share v.format c * done))
+    → WritesPart mid is now new (groups_text v c done n)
+    → WritesPart was is old new (plane_text v c)
+plane_cut v c done n was mid is old now new ycc lt le p q =
+    let f : Format = v.format in
+    let share : ℕ = group_share f c in
+    subst (WritesPart was is old new) (sym (plane_every v c ycc lt))
+    (piece_cut was mid is old now new (y4m_spelling f.depth) v.samples
+    (plane_first f.sampling c) (plane_step f.sampling c) (share * done) (share * n)
+    (plane_count f c) (samples_within f c done n le) p q)
+
+-- all of it
+pub plane_all : (v : Values) (c done : ℕ) (was is : Option (List ℕ)) (old new : List ℕ)
+    → done ≡ group_count v.format → IsYcc v.format.sampling → c < 3
+    → Writes was is old new (part_text v.format c v.samples (group_share v.format c * done))
+    → Writes was is old new (plane_text v c)
+plane_all v c done was is old new same ycc lt p =
+    let f : Format = v.format in
+    subst (Writes was is old new)
+    (ap (λ (n : ℕ). part_text f c v.samples (group_share f c * n)) same
+    ∙ ap (part_text f c v.samples) (shares_count f c) ∙ sym (plane_every v c ycc lt)) p
+
+-- what was written by another name
+pub writes_is : (was is : Option (List ℕ)) (old new xs ys : List ℕ) → xs ≡ ys
+    → Writes was is old new xs → Writes was is old new ys
+writes_is was is old new xs ys same p = subst (Writes was is old new) same p
+
+pub part_is : (was is : Option (List ℕ)) (old new xs ys : List ℕ) → xs ≡ ys
+    → WritesPart was is old new xs → WritesPart was is old new ys
+part_is was is old new xs ys same p = subst (WritesPart was is old new) same p

@@ -15,11 +15,22 @@ group_share f c = (pixel_group f.sampling f.depth).pixels / column_step f.sampli
 abbrev pub octets_for : Format → ℕ → ℕ
 octets_for f n = sample_size (y4m_spelling f.depth) * n
 
+-- how many octets the planes of Cb and Cr take
+abbrev pub chroma_size : Format → ℕ
+chroma_size f = octets_for f (plane_count f 1) + octets_for f (plane_count f 2)
+
 -- the octets of the first samples of a component of these
 abbrev pub part_text : Format → ℕ → List ℕ → ℕ → List ℕ
 part_text f c samples n =
     every_text (y4m_spelling f.depth) samples (plane_first f.sampling c)
     (plane_step f.sampling c) 0 n
+
+-- the octets that so many pgroups of a picture have of a component, behind those of the first
+abbrev pub groups_text : Values → ℕ → ℕ → ℕ → List ℕ
+groups_text v c first count =
+    every_text (y4m_spelling v.format.depth) v.samples (plane_first v.format.sampling c)
+    (plane_step v.format.sampling c) (group_share v.format c * first)
+    (group_share v.format c * count)
 
 -- a plane of a picture, which has the octets of the first pgroups so far
 pub record HasGroups (v : Values) (c groups : ℕ) (plane : List ℕ) : Type 0 where

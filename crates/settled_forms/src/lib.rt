@@ -6,5 +6,5 @@ mod planes;
 mod settled;
 
 pub use plane_writing::write_planes;
-pub use planes::{planes_size, settle_planes};
+pub use planes::chroma_size;
 pub use settled::{settle_all, write_settled};

@@ -1,13 +1,12 @@
-//! Frames that are settled straight into the planes of a frame of a YUV4MPEG2 stream.
+//! Frames that are settled by pieces into planes, as a YUV4MPEG2 stream has them.
 ghost use Rattle.std.specs.Prelude.{◌≡◌, ◌≤◌, ◌<◌, ◌+◌, ◌*◌, length};
 ghost use Rattle.std.specs.List.{All};
 ghost use Rattle.frame_assembly.specs.Patterns.{IsPatternOf};
 ghost use Rattle.frame_assembly.specs.Settled.{IsBaseOf, settled_picture};
-ghost use Rattle.picture_forms.specs.Frames.{planes_size};
-ghost use Rattle.picture_forms.specs.Layouts.{IsYcc, plane_count, plane_first, plane_step};
-ghost use Rattle.picture_forms.specs.Layouts.{plane_text, planes_text, y4m_spelling};
-ghost use Rattle.picture_forms.specs.Planes.{sample_limit, sample_size};
-ghost use Rattle.settled_forms.specs.Pieces.{HasGroups, PutsGroups, group_share, octets_for};
+ghost use Rattle.picture_forms.specs.Layouts.{IsYcc, plane_count, y4m_spelling};
+ghost use Rattle.picture_forms.specs.Planes.{sample_limit};
+ghost use Rattle.settled_forms.specs.Pieces.{HasGroups, PutsGroups, chroma_size, group_share};
+ghost use Rattle.settled_forms.specs.Pieces.{groups_text, octets_for, part_text};
 ghost use Rattle.st_format.specs.Pgroup.{pixel_group};
 ghost use Rattle.st_format.specs.Position.{group_count};
 
@@ -16,104 +15,16 @@ use picture_forms::{plane_count_of, spell, spelling_of, stride_of};
 use st_format::{Format, Sampling};
 use std::alloc::Allocator;
 
-/// How many pgroups are settled at once: their samples stay near the processor.
-const PIECE: usize = 1024;
-
-/// How many samples they have at most: a pgroup has 12 or fewer.
-const PIECE_SAMPLES: usize = 12 * PIECE;
-
-/// How many samples the pattern of a base has.
-const PATTERN: usize = 768;
-
-/// How many octets the planes of a picture of this format take, which is YCbCr.
-pub fn planes_size(format: &Format) -> usize
-    requires { IsYcc format.now.sampling }
-    ensures { result ≡ planes_size format.now }
+/// How many octets the planes of Cb and Cr take in a picture of this format.
+pub fn chroma_size(format: &Format) -> usize
+    ensures { result ≡ chroma_size format.now }
 {
-    spelling_of(format.depth()).size() * format.sample_count()
+    plane_size(format, 1) + plane_size(format, 2)
 }
 
-/// Settles a frame, which is YCbCr, into the planes of Y, Cb and Cr, as they stand one behind the
-/// other in a frame of a YUV4MPEG2 stream: of the picture that
-/// [`Frame::settle`](frame_assembly::Frame::settle) gives with this base. `octets` has just the
-/// room, by [`planes_size`]; no memory is taken.
-pub fn settle_planes<A: Allocator, B: Allocator>(
-    frame: &Frame<A>,
-    base: Base<'_, B>,
-    octets: &mut [u8],
-)
-    requires base { IsBaseOf base frame.now.format }
-    requires ycc { IsYcc frame.now.format.sampling }
-    requires room { length octets.old ≡ planes_size frame.now.format }
-    ensures { octets.new ≡ planes_text (settled_picture frame.now base.entry) }
-{
-    let format = frame.format();
-    let (luma, chroma) = octets.split_at_mut(plane_size(&format, 0));
-    let (cb, cr) = chroma.split_at_mut(plane_size(&format, 1));
-    settle_each(frame, base, luma, cb, cr);
-}
-
-/// The same into each plane.
-fn settle_each<A: Allocator, B: Allocator>(
-    frame: &Frame<A>,
-    base: Base<'_, B>,
-    luma: &mut [u8],
-    cb: &mut [u8],
-    cr: &mut [u8],
-)
-    requires base { IsBaseOf base frame.now.format }
-    requires ycc { IsYcc frame.now.format.sampling }
-    requires luma { length luma.old
-        ≡ octets_for frame.now.format (plane_count frame.now.format 0) }
-    requires cb { length cb.old ≡ octets_for frame.now.format (plane_count frame.now.format 1) }
-    requires cr { length cr.old ≡ octets_for frame.now.format (plane_count frame.now.format 2) }
-    ensures luma { luma.new ≡ plane_text (settled_picture frame.now base.entry) 0 }
-    ensures cb { cb.new ≡ plane_text (settled_picture frame.now base.entry) 1 }
-    ensures cr { cr.new ≡ plane_text (settled_picture frame.now base.entry) 2 }
-{
-    let mut pattern = [0; PATTERN];
-    let mut samples = [0; PIECE_SAMPLES];
-    frame.base_pattern(base, &mut pattern);
-    settle_pieces(frame, base, &pattern, &mut samples, luma, cb, cr);
-}
-
-/// The same by pieces, whose samples are settled into `samples`.
-fn settle_pieces<A: Allocator, B: Allocator>(
-    frame: &Frame<A>,
-    base: Base<'_, B>,
-    pattern: &[u16],
-    samples: &mut [u16],
-    luma: &mut [u8],
-    cb: &mut [u8],
-    cr: &mut [u8],
-)
-    requires base { IsBaseOf base frame.now.format }
-    requires ycc { IsYcc frame.now.format.sampling }
-    requires pattern { IsPatternOf base frame.now.format.sampling pattern.now }
-    requires long { length pattern.now ≡ 768 }
-    requires room { length samples.old ≡ 12288 }
-    requires luma { length luma.old
-        ≡ octets_for frame.now.format (plane_count frame.now.format 0) }
-    requires cb { length cb.old ≡ octets_for frame.now.format (plane_count frame.now.format 1) }
-    requires cr { length cr.old ≡ octets_for frame.now.format (plane_count frame.now.format 2) }
-    ensures luma { luma.new ≡ plane_text (settled_picture frame.now base.entry) 0 }
-    ensures cb { cb.new ≡ plane_text (settled_picture frame.now base.entry) 1 }
-    ensures cr { cr.new ≡ plane_text (settled_picture frame.now base.entry) 2 }
-{
-    let format = frame.format();
-    let of_group = format.pgroup().samples;
-    let count = format.height() as usize * format.row_groups() as usize;
-    let mut done = 0;
-    while done < count {
-        let some = (count - done).min(PIECE);
-        let piece = &mut samples[..of_group * some];
-        settle_piece(frame, base, pattern, done, some, piece, luma, cb, cr);
-        done += some;
-    }
-}
-
-/// Settles some pgroups, and spells their samples into each plane, behind those of the first.
-fn settle_piece<A: Allocator, B: Allocator>(
+/// Settles some pgroups, and spells their samples: those of Y into `luma`, which has just the room,
+/// and those of Cb and Cr into their planes, behind those of the first pgroups.
+pub(crate) fn settle_piece<A: Allocator, B: Allocator>(
     frame: &Frame<A>,
     base: Base<'_, B>,
     pattern: &[u16],
@@ -131,17 +42,18 @@ fn settle_piece<A: Allocator, B: Allocator>(
     requires inside { first + count ≤ group_count frame.now.format }
     requires room { length samples.old
         ≡ (pixel_group frame.now.format.sampling frame.now.format.depth).samples * count }
-    requires luma { HasGroups (settled_picture frame.now base) 0 first luma.old }
+    requires luma { length luma.old
+        ≡ octets_for frame.now.format (group_share frame.now.format 0 * count) }
     requires cb { HasGroups (settled_picture frame.now base) 1 first cb.old }
     requires cr { HasGroups (settled_picture frame.now base) 2 first cr.old }
-    ensures luma { HasGroups (settled_picture frame.now base.entry) 0 (first + count) luma.new }
+    ensures luma { luma.new ≡ groups_text (settled_picture frame.now base.entry) 0 first count }
     ensures cb { HasGroups (settled_picture frame.now base.entry) 1 (first + count) cb.new }
     ensures cr { HasGroups (settled_picture frame.now base.entry) 2 (first + count) cr.new }
 {
     let format = frame.format();
     frame.settled_facts(base);
     frame.settle_groups_over(first, count, base, pattern, samples);
-    put_groups(&format, 0, first, count, samples, luma);
+    spell_groups(&format, 0, count, samples, luma);
     put_groups(&format, 1, first, count, samples, cb);
     put_groups(&format, 2, first, count, samples, cr);
 }
@@ -165,21 +77,53 @@ fn put_groups(
     ensures { PutsGroups format.now component first count samples.now plane.old plane.new }
 {
     let share = share_of(format, component);
-    let spelling = spelling_of(format.depth());
-    let size = spelling.size();
+    let size = spelling_of(format.depth()).size();
     let start = size * (share * first);
     let long = size * (share * count);
     let part = &mut plane[start..start + long];
+    spell_groups(format, component, count, samples, part);
+}
+
+/// Spells the samples that pgroups have of a component into `octets`, which has just the room.
+fn spell_groups(format: &Format, component: u8, count: usize, samples: &[u16], octets: &mut [u8])
+    requires ycc { IsYcc format.now.sampling }
+    requires component { component < 3 }
+    requires few { count ≤ group_count format.now }
+    requires samples { length samples.now
+        ≡ (pixel_group format.now.sampling format.now.depth).samples * count }
+    requires fit { All (λ v. v < sample_limit (y4m_spelling format.now.depth)) samples.now }
+    requires room { length octets.old
+        ≡ octets_for format.now (group_share format.now component * count) }
+    ensures { octets.new
+        ≡ part_text format.now component samples.now (group_share format.now component * count) }
+{
+    let spelling = spelling_of(format.depth());
     let stride = stride_of(format.sampling(), component);
-    spell(spelling, samples, stride, 0, share * count, part);
+    spell(
+        spelling,
+        samples,
+        stride,
+        0,
+        share_of(format, component) * count,
+        octets,
+    );
 }
 
 /// How many octets the plane of a component takes: one or two for each sample, by the depth.
-fn plane_size(format: &Format, component: u8) -> usize
+pub(crate) fn plane_size(format: &Format, component: u8) -> usize
     requires { component < 3 }
-    ensures { result ≡ octets_for format.now (plane_count format.now component) }
+    ensures value { result ≡ octets_for format.now (plane_count format.now component) }
+    ensures few { result ≤ 2 * (8192 * 8192) }
 {
     spelling_of(format.depth()).size() * plane_count_of(format, component)
+}
+
+/// How many octets the samples of Y take that a pgroup has.
+pub(crate) fn luma_size(format: &Format) -> usize
+    ensures value { result ≡ octets_for format.now (group_share format.now 0) }
+    ensures few { result ≤ 8 }
+{
+    spelling_of(format.depth()).size() * share_of(format, 0)
 }
 
 /// How many samples of a component a pgroup has.

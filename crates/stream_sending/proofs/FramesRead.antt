@@ -1,5 +1,5 @@
 -- Frames of a stream, one after the other.
-use Rattle.std.proofs.Common.{◌≡◌, ℕ, suc, ◌<◌, List, [], ◌∷◌, ◌++◌, Result, Ok, Err, Option}
+use Rattle.std.proofs.Common.{◌≡◌, ℕ, ◌<◌, List, [], ◌∷◌, ◌++◌, Ok, Err, Option}
 use Rattle.std.proofs.Common.{None, Some}
 use Rattle.std.proofs.Common.{append_assoc, append-nil, length, refl, sym, subst, ap, ◌∙◌, arith}
 use Rattle.std.proofs.lemmas.List.{length-append}
@@ -11,7 +11,7 @@ use Rattle.picture_forms.specs.declared.fault.FormFault.{FormFault}
 use Rattle.picture_forms.specs.declared.fault.FormFault.TheVariants as form
 use Rattle.picture_forms.specs.declared.streams.Standing.{Standing}
 use Rattle.picture_forms.specs.declared.streams.Standing.TheVariants.{Reads}
-use Rattle.picture_forms.specs.Faults.{CountsFault, IfContent}
+use Rattle.picture_forms.specs.Faults.{IfContent}
 use Rattle.picture_forms.specs.Frames.{GaveFrame, TakesFrame, frame_walk}
 use Rattle.picture_forms.specs.Layouts.{planes_text}
 use Rattle.picture_forms.specs.Streams.{standing_after}
@@ -19,8 +19,6 @@ use Rattle.picture_forms.specs.Walks.{GaveFault}
 use Rattle.packet_plan.specs.Plan.{IsSize}
 use Rattle.packet_plan.specs.declared.plan.PlanFault.{PlanFault}
 use Rattle.packet_plan.specs.declared.plan.PlanFault.TheVariants.{NoMemory, BadPacketSize}
-use Rattle.run_outcome.proofs.Blaming.{failed_one}
-use Rattle.run_outcome.specs.Fault.{Blames, counts}
 use Rattle.run_outcome.specs.LowerFaults.{of_plan}
 use Rattle.run_outcome.specs.Pictures.{IsPlanFault}
 use Rattle.run_outcome.specs.Refusing.{OfRefusal}
@@ -35,7 +33,7 @@ use Rattle.stream_sending.specs.Streams.{BeginsFrames}
 -- ---- octets
 
 -- one frame more
-begins_more : (f : Format) (vs : List Values) (v : Values) (mid rest octets : List ℕ)
+pub begins_more : (f : Format) (vs : List Values) (v : Values) (mid rest octets : List ℕ)
     → BeginsFrames f vs mid octets → v.format ≡ f → IsPicture v
     → frame_walk f mid ≡ Ok (planes_text v, rest) → BeginsFrames f (vs ++ v ∷ []) rest octets
 begins_more f [] v mid rest octets begins same whole walk = record {
@@ -55,7 +53,7 @@ begins_more f (u ∷ us) v mid rest octets begins same whole walk = record {
 
 -- ---- what a source gave
 
-more : (a b c first next : List ℕ) → b ≡ a ++ first → c ≡ b ++ next → c ≡ a ++ (first ++ next)
+pub more : (a b c first next : List ℕ) → b ≡ a ++ first → c ≡ b ++ next → c ≡ a ++ (first ++ next)
 more a b c first next p q = q ∙ ap (λ (l : List ℕ). l ++ next) p ∙ append_assoc a first next
 
 pub gave_none : (f : Format) (a : List ℕ) → GaveFrames f [] a a
@@ -142,18 +140,6 @@ next_refused f a b ended form.Truncated g lt =
     wrong_of f a b ended form.Truncated g.part g.grown g.says lt
 next_refused f a b ended form.ValueTooLarge g lt =
     wrong_of f a b ended form.ValueTooLarge g.part g.grown g.says lt
-
--- what it says of how often a source failed
-pub form_blames : (f : FormFault) (old new : ℕ) → CountsFault f old new
-    → Blames (counts old new ∷ []) (form_fault f)
-form_blames form.NoMemory old new is = is
-form_blames form.Device old new is = failed_one old new is
-form_blames form.BadMagic old new is = is
-form_blames form.BadHeader old new is = is
-form_blames form.UnsupportedForm old new is = is
-form_blames form.BadFormat old new is = is
-form_blames form.Truncated old new is = is
-form_blames form.ValueTooLarge old new is = is
 
 -- ---- refusals
 

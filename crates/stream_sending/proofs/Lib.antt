@@ -2,3 +2,4 @@ pub mod FramesRead
 pub mod Sendings
 pub mod Readings
 pub mod Written
+pub mod Histories

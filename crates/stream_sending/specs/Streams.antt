@@ -1,5 +1,5 @@
 -- A YUV4MPEG2 stream as pictures, and the first fault of its frames.
-use Rattle.std.specs.Prelude.{◌≡◌, ◌<◌, ℕ, List, [], ◌∷◌, length, Result, Ok, Err}
+use Rattle.std.specs.Prelude.{◌≡◌, ◌<◌, ℕ, List, [], ◌∷◌, ◌++◌, length, Ok, Err}
 use Rattle.st_format.specs.declared.format.Format.{Format}
 use Rattle.st_format.specs.Fields.{fields_of}
 use Rattle.st_format.specs.Picture.{IsPicture, Values}
@@ -53,3 +53,10 @@ pub record HasFrames (count : ℕ) (octets : List ℕ) : Type 0 where
   pub rest : List ℕ
   pub begins : BeginsStream octets format pictures rest
   pub many : length pictures ≡ count
+
+-- A source gave the head of a stream of this format and the frames of these pictures, in order, and
+-- no more: so it is whatever is behind them.
+pub record GaveStream (f : Format) (pictures : List Values) (before now : List ℕ) : Type 0 where
+  pub part : List ℕ
+  pub grown : now ≡ before ++ part
+  pub says : (behind : List ℕ) → BeginsStream (part ++ behind) f pictures behind

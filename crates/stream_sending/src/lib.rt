@@ -6,5 +6,5 @@ mod frames;
 mod laws;
 mod sending;
 
-pub use laws::{sent_as_files, written_stream};
+pub use laws::{sent_as_files, stream_history, written_stream};
 pub use sending::send_stream;
