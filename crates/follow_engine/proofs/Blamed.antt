@@ -1,6 +1,7 @@
 -- What a fault says of three devices: files, pictures and the output.
-use Rattle.std.proofs.Common.{◌≡◌, ◌∙◌, ◌<◌, ℕ, suc, Bool, true, false, not, inl, inr, List, [], ◌∷◌}
-use Rattle.std.proofs.Common.{Option, Some, Result, Ok, Err, ap, arith, eqb, length, refl, subst, sym}
+use Rattle.std.proofs.Common.{◌≡◌, ◌∙◌, ◌<◌, ℕ, suc, Bool, true, false, not, inl, inr, List, []}
+use Rattle.std.proofs.Common.{◌∷◌, OnOk, Option, Some, Result, Ok, Err, ap, arith, eqb, length, refl}
+use Rattle.std.proofs.Common.{subst, sym}
 use Rattle.std.proofs.lemmas.Bool.{eq-eqb, eqb-true}
 use Rattle.recording_reader.specs.declared.fault.ReadingFault.{ReadingFault}
 use Rattle.run_outcome.specs.Fault.{Accounts, Blames, counts}
@@ -9,6 +10,7 @@ use Rattle.run_outcome.specs.declared.fault.Fault.TheVariants.{Refused, Device, 
 use Rattle.follow_engine.specs.Refused.{fault_in}
 use Rattle.follow_engine.proofs.Whole.{same_fault}
 use Rattle.run_outcome.specs.LowerFaults.{reading_fault}
+use Rattle.recording_engines.proofs.Blames.{blames_second}
 
 -- the first of three alone
 pub blames_files : (f : Fault) (a a' b c : ℕ) → Blames (counts a a' ∷ []) f
@@ -68,18 +70,11 @@ fails_by f at reading a m a' b b' c c' told stays first second third is =
 
 -- ---- of two, pictures and the output
 
--- the second of two, where the first stayed as it was
-pub blames_output : (f : Fault) (a a' b b' : ℕ) → a' ≡ a → Blames (counts b b' ∷ []) f
-    → Blames (counts a a' ∷ counts b b' ∷ []) f
-blames_output (Refused r) a a' b b' same is = (same, is)
-blames_output Device a a' b b' same is = inr is
-blames_output Memory a a' b b' same is = (same, is)
-
 -- the second of two, where both stayed as they were until then
 pub blames_later : (f : Fault) (a a' b m b' : ℕ) → a' ≡ a → m ≡ b → Blames (counts m b' ∷ []) f
     → Blames (counts a a' ∷ counts b b' ∷ []) f
 blames_later f a a' b m b' first second is =
-    blames_output f a a' b b' first (subst (λ (n : ℕ). Blames (counts n b' ∷ []) f) second is)
+    blames_second f a a' b b' first (subst (λ (n : ℕ). Blames (counts n b' ∷ []) f) second is)
 
 -- the first of two alone
 pub blames_pictures : (f : Fault) (a a' b : ℕ) → Blames (counts a a' ∷ []) f
@@ -105,7 +100,7 @@ accounts_both r a m a' b n b' first second is =
 pub accounts_output : {V : Type 0} (r : Result V Fault) (a a' b b' : ℕ) → a' ≡ a
     → Accounts r (counts b b' ∷ []) → Accounts r (counts a a' ∷ counts b b' ∷ [])
 accounts_output (Ok v) a a' b b' same is = (same, is)
-accounts_output (Err f) a a' b b' same is = blames_output f a a' b b' same is
+accounts_output (Err f) a a' b b' same is = blames_second f a a' b b' same is
 
 -- ---- a list that may be empty
 
@@ -150,3 +145,8 @@ pub no_octets_at : (octets : List ℕ) (b : Bool) → b ≡ eqb (length octets) 
     → octets ≡ []
 no_octets_at octets true is is_not = none_of octets true refl is
 no_octets_at octets false is is_not = absurd cc
+
+-- what holds in any case holds behind a call that succeeded
+pub whenever_ok : {V E : Type 0} (r : Result V E) (P : Type 0) → P → OnOk r P
+whenever_ok (Ok v) P p = p
+whenever_ok (Err e) P p = tt

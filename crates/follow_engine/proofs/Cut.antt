@@ -1,12 +1,12 @@
 -- Events of which some first were told.
-use Rattle.std.proofs.Common.{◌≡◌, ◌∙◌, ◌⊎◌, ℕ, Bool, true, List, [], ◌∷◌, ◌++◌, Option, Some}
+use Rattle.std.proofs.Common.{◌≡◌, ◌∙◌, ℕ, Bool, true, List, [], ◌∷◌, ◌++◌, Option, Some}
 use Rattle.std.proofs.Common.{Result, Ok, Err, IfErr, ap, append-nil, append_assoc, cond, inl, inr}
 use Rattle.std.proofs.Common.{refl, subst, sym}
 use Rattle.std.proofs.lemmas.Grind.{flat_map-append}
 use Rattle.std.proofs.lemmas.List.Elements.{filter_map-append}
 use Rattle.following.specs.Follower.{Following}
-use Rattle.following.specs.Following.{Handed, frames_in}
-use Rattle.following.specs.Turned.{answer_in, handed_in}
+use Rattle.following.specs.Following.{Handed, frames_in, handed_before}
+use Rattle.following.specs.Turned.{answer_in, handed_early, handed_in, state_taken}
 use Rattle.following.specs.declared.answer.Followed.{Followed}
 use Rattle.frame_assembly.specs.Kinds.{counts_of}
 use Rattle.frame_assembly.specs.declared.counts.Counts.{Counts}
@@ -22,7 +22,7 @@ use Rattle.follow_engine.specs.Events.{events_in, frame_of_event, frames_of_even
 use Rattle.follow_engine.specs.Events.{late_left, late_with, leaving, noted_by, time_or_zero}
 use Rattle.follow_engine.specs.Events.{turn_left, turn_taken}
 use Rattle.follow_engine.specs.Line.{ended_line}
-use Rattle.follow_engine.specs.Running.{TellsDatagram, TellsEvents, TellsSome}
+use Rattle.follow_engine.specs.Running.{LeavesWith, TellsDatagram, TellsEvents, TellsSome}
 use Rattle.follow_engine.specs.Shown.{GrowsSome, IsCutAtFrame, TakesEachFrame, TakesSome}
 use Rattle.follow_engine.specs.Telling.{event_text, events_text}
 use Rattle.follow_engine.specs.declared.line.FollowLine.TheVariants as line
@@ -177,28 +177,54 @@ module _ {K : Type 0} (takes fails : K → Handed → K → Type 0) where
   -- ---- frames that leave
 
   -- all that had left were told, and some first of those that leave then
-  pub leaving_cut : (r r' : Running) (old mid new : K) (took took' took'' : List ℕ)
-      (hs : List Handed) (t : Following) → (left : HasLeft takes r r' old mid took took')
-      → frames_in r'.follower ≡ hs ++ frames_in t
+  pub leaving_cut : (those : Following → List Handed) (r r' : Running) (old mid new : K)
+      (took took' took'' : List ℕ) (hs : List Handed) (t : Following)
+      → (left : HasLeft takes those r r' old mid took took')
+      → those r'.follower ≡ hs ++ those t
       → TellsSome takes fails mid new took' took'' (leaving r'.late hs)
-      → TellsSome takes fails old new took took'' (leaving r.late (frames_in r.follower))
-  leaving_cut r r' old mid new took took' took'' hs t left frames is =
+      → TellsSome takes fails old new took took'' (leaving r.late (those r.follower))
+  leaving_cut those r r' old mid new took took' took'' hs t left frames is =
       let late : r'.late ≡ late_left r.late left.gone =
       ap (λ (x : Running). x.late) left.running in
-      let all : left.gone ++ (hs ++ frames_in t) ≡ frames_in r.follower =
+      let all : left.gone ++ (hs ++ those t) ≡ those r.follower =
       ap (λ (l : List Handed). left.gone ++ l) (sym frames) ∙ left.parts in
-      let parts : leaving r.late (frames_in r.follower)
+      let parts : leaving r.late (those r.follower)
       ≡ leaving r.late left.gone ++ (leaving r'.late hs
-      ++ leaving (late_left r'.late hs) (frames_in t)) =
-      ap (leaving r.late) (sym all) ∙ leaving_append r.late left.gone (hs ++ frames_in t)
-      ∙ ap (λ (n : ℕ). leaving r.late left.gone ++ leaving n (hs ++ frames_in t)) (sym late)
+      ++ leaving (late_left r'.late hs) (those t)) =
+      ap (leaving r.late) (sym all) ∙ leaving_append r.late left.gone (hs ++ those t)
+      ∙ ap (λ (n : ℕ). leaving r.late left.gone ++ leaving n (hs ++ those t)) (sym late)
       ∙ ap (λ (l : List Event). leaving r.late left.gone ++ l)
-      (leaving_append r'.late hs (frames_in t)) in
+      (leaving_append r'.late hs (those t)) in
       subst (λ (es : List Event). TellsSome takes fails old new took took'' es) (sym parts)
       (tells_then old mid new took took' took'' (leaving r.late left.gone)
-      (leaving r'.late hs ++ leaving (late_left r'.late hs) (frames_in t)) left.told
+      (leaving r'.late hs ++ leaving (late_left r'.late hs) (those t)) left.told
       (tells_first mid new took' took'' (leaving r'.late hs)
-      (leaving (late_left r'.late hs) (frames_in t)) is))
+      (leaving (late_left r'.late hs) (those t)) is))
+
+  -- of the frames that leave first some first were told
+  pub first_cut : (late : ℕ) (hs gs : List Handed) (old new : K) (took took' : List ℕ)
+      → TellsSome takes fails old new took took' (leaving late hs)
+      → TellsSome takes fails old new took took' (leaving late (hs ++ gs))
+  first_cut late hs gs old new took took' is =
+      subst (λ (es : List Event). TellsSome takes fails old new took took' es)
+      (sym (leaving_append late hs gs))
+      (tells_first old new took took' (leaving late hs) (leaving (late_left late hs) gs) is)
+
+  -- they all were, and some first of those that go early
+  pub rest_cut : (eager : Bool) (r r' : Running) (hs : List Handed) (old mid new : K)
+      (took took' took'' : List ℕ) → LeavesWith takes r r' hs old mid took took'
+      → TellsSome takes fails mid new took' took'' (leaving r'.late (handed_early eager r'.follower))
+      → TellsSome takes fails old new took took''
+      (leaving r.late (hs ++ handed_early eager r.follower))
+  rest_cut eager r r' hs old mid new took took' took'' first is =
+      let early : List Handed = handed_early eager r.follower in
+      subst (λ (es : List Event). TellsSome takes fails old new took took'' es)
+      (sym (leaving_append r.late hs early))
+      (tells_then old mid new took took' took'' (leaving r.late hs)
+      (leaving (late_left r.late hs) early) first.told
+      (subst (λ (x : Running).
+      TellsSome takes fails mid new took' took'' (leaving x.late (handed_early eager x.follower)))
+      first.running is))
 
   -- ---- a turn
 
@@ -206,16 +232,21 @@ module _ {K : Type 0} (takes fails : K → Handed → K → Type 0) where
   pub turn_cut : (eager : Bool) (r n : Running) (octets : List ℕ) (bound : ℕ)
       (answer : Result Followed Refusal) (t : Following) (hs : List Handed) (old new : K)
       (took took' : List ℕ) → answer ≡ answer_in r.follower octets
-      → hs ≡ handed_in eager r.follower octets
+      → t ≡ state_taken r.follower octets → hs ≡ handed_before r.follower octets
       → n ≡ noted_by bound (record r { follower = t }) (datagram_time octets) answer
-      → TellsSome takes fails old new took took' (leaving n.late hs)
+      → TellsSome takes fails old new took took'
+      (leaving n.late (hs ++ handed_early eager n.follower))
       → TellsSome takes fails old new took took' (turn_left eager r octets)
-  turn_cut eager r n octets bound answer t hs old new took took' answered_so handed noted is =
+  unfolding handed_in
+  turn_cut eager r n octets bound answer t hs old new took took' answered_so taken handed noted is =
       let a : Result Followed Refusal = answer_in r.follower octets in
       subst (λ (es : List Event). TellsSome takes fails old new took took' es)
-      (ap (λ (x : Running). leaving x.late hs) noted
-      ∙ ap (λ (x : Result Followed Refusal). leaving (late_with r.late x) hs) answered_so
-      ∙ ap (λ (l : List Handed). leaving (late_with r.late a) l) handed) is
+      (ap (λ (x : Running). leaving x.late (hs ++ handed_early eager x.follower)) noted
+      ∙ ap (λ (x : Result Followed Refusal).
+      leaving (late_with r.late x) (hs ++ handed_early eager t)) answered_so
+      ∙ ap (λ (l : List Handed). leaving (late_with r.late a) (l ++ handed_early eager t)) handed
+      ∙ ap (λ (x : Following). leaving (late_with r.late a)
+      (handed_before r.follower octets ++ handed_early eager x)) taken) is
 
   -- behind it nothing more was told
   pub turn_stops : (eager : Bool) (r : Running) (octets : List ℕ) (old new : K)

@@ -1,17 +1,20 @@
 -- Frames that leave, one after the other.
-use Rattle.std.proofs.Common.{◌≡◌, ℕ, List, [], ◌∷◌, ◌++◌, None, refl, sym, ap, subst, ◌∙◌}
+use Rattle.std.proofs.Common.{◌≡◌, ℕ, Bool, true, false, List, [], ◌∷◌, ◌++◌, None, refl, sym, ap}
+use Rattle.std.proofs.Common.{subst, ◌∙◌}
 use Rattle.std.proofs.Common.{append_assoc, append-nil, drop, take}
 use Rattle.following.specs.Follower.{Following, opened, without_oldest}
 use Rattle.following.specs.Following.{Handed, frames_in, with_timestamps}
 use Rattle.following.specs.Need.{Noted}
 use Rattle.following.specs.Tally.{one_more}
+use Rattle.following.specs.Turned.{goes_early, handed_early, state_early}
+use Rattle.following.proofs.Turning.{handed_more, handed_still, state_none}
 use Rattle.path_receiver.specs.Opening.{Opening}
 use Rattle.path_receiver.specs.Sliding.{with_window}
 use Rattle.st_format.specs.Raster.{Raster}
-use Rattle.follow_engine.specs.Events.{Anew, Event, Left, Running, anew, frames_with, late_left, leaving}
-use Rattle.follow_engine.specs.Events.{without}
-use Rattle.follow_engine.specs.Running.{BeginsAnew, Finishes, IsSoundRun, LeavesWith, TellsEvents}
-use Rattle.follow_engine.specs.Running.{running_of}
+use Rattle.follow_engine.specs.Events.{Anew, Event, Left, Running, anew, frames_with, late_left}
+use Rattle.follow_engine.specs.Events.{leaving, without}
+use Rattle.follow_engine.specs.Running.{BeginsAnew, Finishes, IsSoundRun, LeavesTurn, LeavesWith}
+use Rattle.follow_engine.specs.Running.{TellsEvents, running_of}
 use Rattle.follow_engine.specs.declared.running.Run.{Run}
 use Rattle.follow_engine.proofs.Tells.{told_both, told_none}
 
@@ -34,7 +37,7 @@ frames_append frames [] gs = refl
 frames_append frames (h ∷ hs) gs = frames_append (one_more frames) hs gs
 
 -- one of which nothing is in, and a need that forgot what came
-abbrev begun_by : Opening → ℕ → ℕ → Following
+abbrev pub begun_by : Opening → ℕ → ℕ → Following
 begun_by o size ahead = record {
   opening = o;
   frames = [];
@@ -57,17 +60,17 @@ without_append r hs gs s t =
     ∙ ap (λ (n : ℕ). counted r t (frames_with r.frames (hs ++ gs)) n)
     (sym (late_append r.late hs gs))
 
--- These have left a stream so far, and were told.
-pub record HasLeft {K : Type 0} (takes : K → Handed → K → Type 0) (r r' : Running) (old new : K)
-    (took took' : List ℕ) : Type 0 where
+-- These have left a stream so far, of those that are to leave, and were told.
+pub record HasLeft {K : Type 0} (takes : K → Handed → K → Type 0) (those : Following → List Handed)
+    (r r' : Running) (old new : K) (took took' : List ℕ) : Type 0 where
   pub gone : List Handed
-  pub parts : gone ++ frames_in r'.follower ≡ frames_in r.follower
+  pub parts : gone ++ those r'.follower ≡ those r.follower
   pub running : r' ≡ without r gone r'.follower
   pub told : TellsEvents takes old new took took' (leaving r.late gone)
 
-pub left_none : {K : Type 0} (takes : K → Handed → K → Type 0) (r : Running) (k : K)
-    (took : List ℕ) → HasLeft takes r r k k took took
-left_none takes r k took = record {
+pub left_none : {K : Type 0} (takes : K → Handed → K → Type 0) (those : Following → List Handed)
+    (r : Running) (k : K) (took : List ℕ) → HasLeft takes those r r k k took took
+left_none takes those r k took = record {
   gone = [];
   parts = refl;
   running = refl;
@@ -75,19 +78,20 @@ left_none takes r k took = record {
 }
 
 -- and more
-pub left_more : {K : Type 0} (takes : K → Handed → K → Type 0) (r r' r'' : Running)
-    (old mid new : K) (took took' took'' : List ℕ) (hs : List Handed) (t : Following)
-    → (left : HasLeft takes r r' old mid took took') → frames_in r'.follower ≡ hs ++ frames_in t
+pub left_more : {K : Type 0} (takes : K → Handed → K → Type 0) (those : Following → List Handed)
+    (r r' r'' : Running) (old mid new : K) (took took' took'' : List ℕ) (hs : List Handed)
+    (t : Following) → (left : HasLeft takes those r r' old mid took took')
+    → those r'.follower ≡ hs ++ those t
     → LeavesWith takes (record r' { follower = t }) r'' hs mid new took' took''
-    → HasLeft takes r r'' old new took took''
-left_more takes r r' r'' old mid new took took' took'' hs t left frames leaves =
+    → HasLeft takes those r r'' old new took took''
+left_more takes those r r' r'' old mid new took took' took'' hs t left frames leaves =
     let late : r'.late ≡ late_left r.late left.gone = ap (λ (x : Running). x.late) left.running in
     let at : r''.follower ≡ t = ap (λ (x : Running). x.follower) leaves.running in
     record {
       gone = left.gone ++ hs;
       parts =
-          append_assoc left.gone hs (frames_in r''.follower)
-          ∙ ap (λ (x : Following). left.gone ++ (hs ++ frames_in x)) at
+          append_assoc left.gone hs (those r''.follower)
+          ∙ ap (λ (x : Following). left.gone ++ (hs ++ those x)) at
           ∙ ap (λ (l : List Handed). left.gone ++ l) (sym frames) ∙ left.parts;
       running =
           leaves.running ∙ ap (λ (x : Running). without x hs t) left.running
@@ -128,23 +132,82 @@ pub oldest_frames : (s t : Following) (hs : List Handed) → t ≡ without_oldes
 oldest_frames s t hs is handed =
     oldest_parts s t is ∙ ap (λ (l : List Handed). l ++ frames_in t) (sym handed)
 
-left_end : (r' : Running) → r'.follower.opening.window ≡ [] → [] ≡ frames_in r'.follower
-left_end r' none = ap (λ (w : List ℕ). with_timestamps w r'.follower.frames) (sym none)
+-- where none is in
+pub left_end : (s : Following) → s.opening.window ≡ [] → frames_in s ≡ []
+left_end s none = ap (λ (w : List ℕ). with_timestamps w s.frames) none
 
--- all have left when none is in
-pub left_all : {K : Type 0} (takes : K → Handed → K → Type 0) (r r' : Running) (old new : K)
-    (took took' : List ℕ) → (left : HasLeft takes r r' old new took took')
-    → r'.follower.opening.window ≡ []
-    → (r' ≡ without r (frames_in r.follower) r'.follower)
-    × TellsEvents takes old new took took' (leaving r.late (frames_in r.follower))
-left_all takes r r' old new took took' left none =
-    let all : left.gone ≡ frames_in r.follower =
-    sym (append-nil left.gone) ∙ ap (λ (l : List Handed). left.gone ++ l) (left_end r' none)
+-- all have left when there is none of those any more
+pub left_all : {K : Type 0} (takes : K → Handed → K → Type 0) (those : Following → List Handed)
+    (r r' : Running) (old new : K) (took took' : List ℕ)
+    → (left : HasLeft takes those r r' old new took took') → those r'.follower ≡ []
+    → (r' ≡ without r (those r.follower) r'.follower)
+    × TellsEvents takes old new took took' (leaving r.late (those r.follower))
+left_all takes those r r' old new took took' left none =
+    let all : left.gone ≡ those r.follower =
+    sym (append-nil left.gone) ∙ ap (λ (l : List Handed). left.gone ++ l) (sym none)
     ∙ left.parts in (
       left.running ∙ ap (λ (hs : List Handed). without r hs r'.follower) all,
       subst (λ (hs : List Handed). TellsEvents takes old new took took' (leaving r.late hs)) all
           left.told,
     )
+
+-- ---- those that go early
+
+-- the oldest of them, and the others
+pub early_frames : (eager : Bool) (s t u : Following) (hs : List Handed) → t ≡ s
+    → u ≡ without_oldest t → hs ≡ take 1 (frames_in t) → goes_early eager s ≡ true
+    → handed_early eager s ≡ hs ++ handed_early eager u
+early_frames eager s t u hs same gone first goes =
+    let v : Following = without_oldest s in
+    handed_more eager s goes
+    ∙ ap (λ (l : List Handed). l ++ handed_early eager v)
+    (sym (first ∙ ap (λ (x : Following). take 1 (frames_in x)) same))
+    ∙ ap (λ (x : Following). hs ++ handed_early eager x)
+    (sym (gone ∙ ap (λ (x : Following). without_oldest x) same))
+
+-- all of them have left
+pub left_early : {K : Type 0} (takes : K → Handed → K → Type 0) (eager : Bool) (r r' : Running)
+    (old new : K) (took took' : List ℕ)
+    → (left : HasLeft takes (handed_early eager) r r' old new took took')
+    → goes_early eager r'.follower ≡ false
+    → state_early eager r'.follower ≡ state_early eager r.follower
+    → LeavesTurn takes eager r r' [] old new took took'
+left_early takes eager r r' old new took took' left still state =
+    let all =
+    left_all takes (handed_early eager) r r' old new took took' left
+    (handed_still eager r'.follower still) in
+    let at : r'.follower ≡ state_early eager r.follower =
+    sym (state_none eager r'.follower still) ∙ state in
+    record {
+      running =
+          all.0 ∙ ap (λ (x : Following). without r (handed_early eager r.follower) x) at;
+      told = all.1;
+    }
+
+-- behind these
+pub leaves_turn : {K : Type 0} (takes : K → Handed → K → Type 0) (eager : Bool)
+    (r r' r'' : Running) (hs : List Handed) (old mid new : K) (took took' took'' : List ℕ)
+    → LeavesWith takes r r' hs old mid took took'
+    → LeavesTurn takes eager r' r'' [] mid new took' took''
+    → LeavesTurn takes eager r r'' hs old new took took''
+leaves_turn takes eager r r' r'' hs old mid new took took' took'' first rest =
+    let early : List Handed = handed_early eager r.follower in
+    let t : Following = state_early eager r.follower in
+    record {
+      running =
+          rest.running
+          ∙ ap (λ (x : Running).
+          without x (handed_early eager x.follower) (state_early eager x.follower)) first.running
+          ∙ without_append r hs early r.follower t;
+      told =
+          subst (λ (es : List Event). TellsEvents takes old new took took'' es)
+          (sym (leaving_append r.late hs early))
+          (told_both takes old mid new took took' took'' (leaving r.late hs)
+          (leaving (late_left r.late hs) early) first.told
+          (subst (λ (x : Running).
+          TellsEvents takes mid new took' took'' (leaving x.late (handed_early eager x.follower)))
+          first.running rest.told));
+    }
 
 -- one frame that leaves
 pub leaves_one : {K : Type 0} (takes : K → Handed → K → Type 0) (r : Running) (h : Handed)

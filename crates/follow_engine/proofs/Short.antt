@@ -1,10 +1,10 @@
 -- A stream that was followed up to some record.
-use Rattle.std.proofs.Common.{◌≡◌, ◌∙◌, ℕ, Bool, List, [], ◌∷◌, ◌++◌, Option, Result, ap, append_assoc}
-use Rattle.std.proofs.Common.{subst, sym}
+use Rattle.std.proofs.Common.{◌≡◌, ◌∙◌, ℕ, Bool, List, [], ◌++◌, Option, Some, Result, ap}
+use Rattle.std.proofs.Common.{append_assoc, subst, sym}
 use Rattle.std.proofs.lemmas.Grind.{flat_map-append}
 use Rattle.std.proofs.lemmas.List.Elements.{filter_map-append}
 use Rattle.std.specs.List.{AllByRecursion, AllZip, zip}
-use Rattle.capture_engines.specs.Taking.{AnnouncesStream}
+use Rattle.capture_engines.specs.Taking.{AnnouncesStream, said_behind}
 use Rattle.flow.specs.declared.flows.Flows.{Flows}
 use Rattle.following.specs.Follower.{opened}
 use Rattle.following.specs.Following.{Handed, frames_in}
@@ -13,10 +13,7 @@ use Rattle.path_receiver.specs.Opening.{Opening}
 use Rattle.path_receiver.specs.Took.{datagrams_since}
 use Rattle.recording_engines.specs.Files.{HasKnownOctets}
 use Rattle.recording_engines.specs.Joining.{Strand}
-use Rattle.recording_reader.specs.declared.fault.ReadingFault.{ReadingFault}
-use Rattle.run_outcome.specs.LowerFaults.{reading_fault}
 use Rattle.run_outcome.specs.Sources.{IsSourceText}
-use Rattle.run_outcome.specs.declared.fault.Fault.TheVariants.{Refused}
 use Rattle.run_outcome.specs.declared.refusal.Refusal.{Refusal}
 use Rattle.side_by_side.specs.Sides.{IsSideBySide, SideGave, Sides, begun_each, strands_of}
 use Rattle.side_by_side.specs.declared.side.Side.{Side}
@@ -28,8 +25,8 @@ use Rattle.follow_engine.specs.Events.{run_end, running_from}
 use Rattle.follow_engine.specs.Followed.{FollowsFirst, TellsPart, first_events, followed_events}
 use Rattle.follow_engine.specs.Followed.{followed_run}
 use Rattle.follow_engine.specs.Opened.{AreOpened, IsFirstText}
-use Rattle.follow_engine.specs.Order.{GoesFirst, GoesToFault, datagrams_in, strands_by}
-use Rattle.follow_engine.specs.Refused.{IsInTurnFault}
+use Rattle.follow_engine.specs.Order.{GoesFirst, datagrams_in, strands_by}
+use Rattle.follow_engine.specs.Refused.{GoesSoFar}
 use Rattle.follow_engine.specs.Running.{Finishes, TellsEvents, TellsSome, running_of, steering_of}
 use Rattle.follow_engine.specs.Shown.{GrowsSome, TakesSome}
 use Rattle.follow_engine.specs.Sides.{EndsSome, FollowsEntries, FollowsUpTo, HasBegunRun, SideRead}
@@ -95,136 +92,6 @@ ends_late takes fails r r' old new took took' took'' done part = record {
       done.told.shown;
 }
 
--- ---- the run
-
-first_goes : (st st' : Steering) (ss ss' : List Strand) (es : List Entry) → st ≡ st' → ss ≡ ss'
-    → GoesFirst st ss es → GoesFirst st' ss' es
-first_goes st st' ss ss' es steering strands goes =
-    subst (λ (s : Steering). GoesFirst s ss' es) steering
-    (subst (λ (l : List Strand). GoesFirst st l es) strands goes)
-
-module _ {A S : Type 0} (gave : S → List ℕ) (ended_at : S → Type 0) (w : FollowAsked)
-    (ssrc : Option ℕ) (sdp : Option (List ℕ)) (ways : List (Result Flows Refusal))
-    (first : List ℕ) (olds mids news : List (Side A S)) (r : Run A)
-  where
-    follows_first : (Tells : Opening → List Entry → Type 0) (entries : List Entry)
-        → IsSourceText w.ssrc.now ssrc → (begun : HasBegunRun w ssrc (text_by sdp first) r)
-        → AreOpened gave ended_at ways olds mids → IsFirstText first mids
-        → begun_each news ≡ begun_each mids
-        → AllByRecursion (λ x. HasKnownOctets gave ended_at x.file) news
-        → ((octets : List (List ℕ)) → AllZip (SideGave gave ended_at) news octets
-        → GoesFirst r.steering (strands_of news octets) entries)
-        → Tells begun.opens.opening entries
-        → FollowsFirst w sdp ways (SideRead gave ended_at) (zip olds news) Tells
-    follows_first Tells entries source begun opened_so is same known goes tells =
-        let o = begun.opens.opening in
-        record {
-          opening = o;
-          entries = entries;
-          no_window = begun.opens.no_window;
-          source_is = subst (λ (x : Option ℕ). IsSourceText w.ssrc.now x)
-              (sym begun.opens.source) source;
-          announced = λ octets text read said.
-              subst (λ (x : List ℕ). AnnouncesStream x o)
-              (said_text gave ended_at ways sdp first olds mids news octets text opened_so is same
-              known read said) begun.opens.announced;
-          goes = λ octets read.
-              let taken = all_taken gave ended_at ways olds mids news octets opened_so same read in
-              first_goes r.steering (steering_of o) (strands_of news octets)
-              (strands_by ways octets) entries
-              (begun.run.steering
-              ∙ ap (λ (x : Running). steering_of x.follower.opening) begun.opens.is) taken.strands
-              (goes octets taken.given);
-          tells = tells;
-        }
-
-    -- the fault of the file whose turn it is
-    pub turn_fault : (f : ReadingFault) (entries : List Entry) (why : Refusal)
-        → IsSourceText w.ssrc.now ssrc → HasBegunRun w ssrc (text_by sdp first) r
-        → AreOpened gave ended_at ways olds mids → IsFirstText first mids
-        → begun_each news ≡ begun_each mids
-        → AllByRecursion (λ x. HasKnownOctets gave ended_at x.file) news
-        → reading_fault f ≡ Refused why
-        → ((octets : List (List ℕ)) → AllZip (SideGave gave ended_at) news octets
-        → GoesToFault f r.steering (strands_of news octets) entries)
-        → IsInTurnFault w.ssrc.now sdp ways (SideRead gave ended_at) (zip olds news) why
-    turn_fault f entries why source begun opened_so is same known told goes =
-        let o = begun.opens.opening in
-        record {
-          reading = f;
-          refused = told;
-          opening = o;
-          entries = entries;
-          source_is = subst (λ (x : Option ℕ). IsSourceText w.ssrc.now x)
-              (sym begun.opens.source) source;
-          announced = λ octets text read said.
-              subst (λ (x : List ℕ). AnnouncesStream x o)
-              (said_text gave ended_at ways sdp first olds mids news octets text opened_so is same
-              known read said) begun.opens.announced;
-          goes = λ octets read.
-              let taken = all_taken gave ended_at ways olds mids news octets opened_so same read in
-              subst (λ (x : Steering). GoesToFault f x (strands_by ways octets) entries)
-              (begun.run.steering
-              ∙ ap (λ (x : Running). steering_of x.follower.opening) begun.opens.is)
-              (subst (λ (l : List Strand). GoesToFault f r.steering l entries) taken.strands
-              (goes octets taken.given));
-        }
-
-    -- what happened is so of a follower that is opened as the text says
-    first_told : (Tells : List Event → Type 0) (entries : List Entry)
-        → (begun : HasBegunRun w ssrc (text_by sdp first) r)
-        → Tells (events_in r.is_eager (running_of r) (datagrams_in entries))
-        → Tells (first_events w begun.opens.opening entries)
-    first_told Tells entries begun told =
-        let ds : List (List ℕ) = datagrams_in entries in
-        subst (λ (x : Running). Tells (events_in w.is_eager x ds)) begun.opens.is
-        (subst (λ (x : Bool). Tells (events_in x (running_of r) ds)) begun.eager told)
-
-    pub follows_short : {K : Type 0} (takes : K → Handed → K → Type 0) (old new : K)
-        (took took' : List ℕ) → IsSourceText w.ssrc.now ssrc
-        → (begun : HasBegunRun w ssrc (text_by sdp first) r)
-        → AreOpened gave ended_at ways olds mids → IsFirstText first mids
-        → begun_each news ≡ begun_each mids
-        → AllByRecursion (λ x. HasKnownOctets gave ended_at x.file) news
-        → FollowsUpTo gave ended_at r news (TellsEvents takes old new took took')
-        → FollowsFirst w sdp ways (SideRead gave ended_at) (zip olds news)
-        (λ o entries. TellsEvents takes old new took took' (first_events w o entries))
-    follows_short takes old new took took' source begun opened_so is same known up =
-        follows_first (λ o entries. TellsEvents takes old new took took' (first_events w o entries))
-        up.entries source begun opened_so is same known up.goes
-        (first_told (TellsEvents takes old new took took') up.entries begun up.told)
-
-    module _ {K : Type 0} (takes fails : K → Handed → K → Type 0) where
-      part_first_told : (old new : K) (took took' : List ℕ) (o : Opening) (entries : List Entry)
-          → TellsSome takes fails old new took took' (first_events w o entries)
-          → TellsPart takes fails w old new took took' o entries
-      part_first_told old new took took' o entries told =
-          let ds : List (List ℕ) = datagrams_in entries in
-          let from : Running = running_from (opened o w.frames 900000) in
-          let more =
-          tells_first takes fails old new took took' (first_events w o entries)
-          (events_end (behind_all w.is_eager from ds)) told in
-          record {
-            printed =
-                grows_first took took' (events_text (followed_events w o entries))
-                (totals_text (followed_run w o entries)) more.printed;
-            shown = more.shown;
-          }
-
-      pub follows_part : (old new : K) (took took' : List ℕ) → IsSourceText w.ssrc.now ssrc
-          → (begun : HasBegunRun w ssrc (text_by sdp first) r)
-          → AreOpened gave ended_at ways olds mids → IsFirstText first mids
-          → begun_each news ≡ begun_each mids
-          → AllByRecursion (λ x. HasKnownOctets gave ended_at x.file) news
-          → FollowsUpTo gave ended_at r news (TellsSome takes fails old new took took')
-          → FollowsFirst w sdp ways (SideRead gave ended_at) (zip olds news)
-          (TellsPart takes fails w old new took took')
-      follows_part old new took took' source begun opened_so is same known up =
-          follows_first (TellsPart takes fails w old new took took')
-          up.entries source begun opened_so is same known up.goes
-          (part_first_told old new took took' begun.opens.opening up.entries
-          (first_told (TellsSome takes fails old new took took') up.entries begun up.told))
-
 -- ---- behind all records
 
 -- of what a run prints and shows of these datagrams there is a first part
@@ -272,32 +139,132 @@ cut_by takes fails eager r ds t old mid new took took' took'' is told ends =
     (subst (λ (x : Running). TakesSome takes fails mid (frames_of_events (events_end x)) new) is
     ends.shown)
 
-pub ends_part : {A S K : Type 0} (gave : S → List ℕ) (ended_at : S → Type 0)
-    (takes fails : K → Handed → K → Type 0) (w : FollowAsked) (ssrc : Option ℕ)
-    (sdp : Option (List ℕ)) (ways : List (Result Flows Refusal)) (first : List ℕ)
-    (olds mids news : List (Side A S)) (r t : Run A) (old mid new : K)
-    (took took' took'' : List ℕ) → IsSourceText w.ssrc.now ssrc
-    → (begun : HasBegunRun w ssrc (text_by sdp first) r) → AreOpened gave ended_at ways olds mids
-    → IsFirstText first mids → begun_each news ≡ begun_each mids
-    → AllByRecursion (λ x. HasKnownOctets gave ended_at x.file) news
-    → FollowsEntries gave ended_at takes r t old mid took took' news
-    → EndsSome takes fails t mid new took' took''
-    → FollowsFirst w sdp ways (SideRead gave ended_at) (zip olds news)
-    (TellsPart takes fails w old new took took'')
-ends_part gave ended_at takes fails w ssrc sdp ways first olds mids news r t old mid new took took'
-    took'' source begun opened_so is same known follows ends =
-    let o = begun.opens.opening in
-    let ds : List (List ℕ) = datagrams_in follows.entries in
-    let from : Running = running_from (opened o w.frames 900000) in
-    let at : CutRun takes fails r.is_eager (running_of r) ds old new took took'' =
-    cut_by takes fails r.is_eager (running_of r) ds t old mid new took took' took''
-    follows.running follows.told ends in
-    let by : CutRun takes fails w.is_eager from ds old new took took'' =
-    subst (λ (x : Running). CutRun takes fails w.is_eager x ds old new took took'') begun.opens.is
-    (subst (λ (x : Bool). CutRun takes fails x (running_of r) ds old new took took'') begun.eager
-    at) in
-    follows_first gave ended_at w ssrc sdp ways first olds mids news r
-    (TellsPart takes fails w old new took took'') follows.entries source begun opened_so is same
-    known (λ octets read. let goes = follows.goes octets read in
-    record { left = goes.left; goes = goes.goes })
-    (record { printed = by.printed; shown = by.shown })
+-- ---- the run
+
+module _ {A S : Type 0} (gave : S → List ℕ) (ended_at : S → Type 0) (w : FollowAsked)
+    (ssrc : Option ℕ) (sdp : Option (List ℕ)) (ways : List (Result Flows Refusal))
+    (first : List ℕ) (olds mids news : List (Side A S)) (r : Run A)
+    (source : IsSourceText w.ssrc.now ssrc) (begun : HasBegunRun w ssrc (text_by sdp first) r)
+    (opened_so : AreOpened gave ended_at ways olds mids) (is : IsFirstText first mids)
+    (same : begun_each news ≡ begun_each mids)
+    (known : AllByRecursion (λ x. HasKnownOctets gave ended_at x.file) news)
+  where
+    -- the words and the text say its opening
+    source_said : IsSourceText w.ssrc.now begun.opens.opening.ssrc
+    source_said =
+        subst (λ (x : Option ℕ). IsSourceText w.ssrc.now x) (sym begun.opens.source) source
+
+    stream_said : (octets : List (List ℕ)) (text : List ℕ)
+        → AllZip (SideRead gave ended_at) (zip olds news) octets
+        → said_behind sdp octets ≡ Some text → AnnouncesStream text begun.opens.opening
+    stream_said octets text read said =
+        subst (λ (x : List ℕ). AnnouncesStream x begun.opens.opening)
+        (said_text gave ended_at ways sdp first olds mids news octets text opened_so is same known
+        read said) begun.opens.announced
+
+    -- records that go by what files gave go by what was read of them
+    goes_read : (Go : Steering → List Strand → Type 0)
+        → ((octets : List (List ℕ)) → AllZip (SideGave gave ended_at) news octets
+        → Go r.steering (strands_of news octets))
+        → (octets : List (List ℕ)) → AllZip (SideRead gave ended_at) (zip olds news) octets
+        → Go (steering_of begun.opens.opening) (strands_by ways octets)
+    goes_read Go goes octets read =
+        let taken = all_taken gave ended_at ways olds mids news octets opened_so same read in
+        subst (λ (x : Steering). Go x (strands_by ways octets))
+        (begun.run.steering
+        ∙ ap (λ (x : Running). steering_of x.follower.opening) begun.opens.is)
+        (subst (λ (l : List Strand). Go r.steering l) taken.strands (goes octets taken.given))
+
+    follows_first : (Tells : Opening → List Entry → Type 0) (entries : List Entry)
+        → ((octets : List (List ℕ)) → AllZip (SideGave gave ended_at) news octets
+        → GoesFirst r.steering (strands_of news octets) entries)
+        → Tells begun.opens.opening entries
+        → FollowsFirst w sdp ways (SideRead gave ended_at) (zip olds news) Tells
+    follows_first Tells entries goes tells = record {
+      opening = begun.opens.opening;
+      entries = entries;
+      no_window = begun.opens.no_window;
+      source_is = source_said;
+      announced = stream_said;
+      goes = goes_read (λ s l. GoesFirst s l entries) goes;
+      tells = tells;
+    }
+
+    -- what went of the files
+    pub goes_so_far : (Goes : Steering → List Strand → List Entry → Type 0) (entries : List Entry)
+        → ((octets : List (List ℕ)) → AllZip (SideGave gave ended_at) news octets
+        → Goes r.steering (strands_of news octets) entries)
+        → GoesSoFar w.ssrc.now sdp ways (SideRead gave ended_at) (zip olds news) Goes
+    goes_so_far Goes entries goes = record {
+      opening = begun.opens.opening;
+      entries = entries;
+      source_is = source_said;
+      announced = stream_said;
+      goes = goes_read (λ s l. Goes s l entries) goes;
+    }
+
+    -- what happened is so of a follower that is opened as the text says
+    first_told : (Tells : List Event → Type 0) (entries : List Entry)
+        → Tells (events_in r.is_eager (running_of r) (datagrams_in entries))
+        → Tells (first_events w begun.opens.opening entries)
+    first_told Tells entries told =
+        let ds : List (List ℕ) = datagrams_in entries in
+        subst (λ (x : Running). Tells (events_in w.is_eager x ds)) begun.opens.is
+        (subst (λ (x : Bool). Tells (events_in x (running_of r) ds)) begun.eager told)
+
+    pub follows_short : {K : Type 0} (takes : K → Handed → K → Type 0) (old new : K)
+        (took took' : List ℕ)
+        → FollowsUpTo gave ended_at r news (TellsEvents takes old new took took')
+        → FollowsFirst w sdp ways (SideRead gave ended_at) (zip olds news)
+        (λ o entries. TellsEvents takes old new took took' (first_events w o entries))
+    follows_short takes old new took took' up =
+        follows_first (λ o entries. TellsEvents takes old new took took' (first_events w o entries))
+        up.entries up.goes
+        (first_told (TellsEvents takes old new took took') up.entries up.told)
+
+    module _ {K : Type 0} (takes fails : K → Handed → K → Type 0) where
+      part_first_told : (old new : K) (took took' : List ℕ) (o : Opening) (entries : List Entry)
+          → TellsSome takes fails old new took took' (first_events w o entries)
+          → TellsPart takes fails w old new took took' o entries
+      part_first_told old new took took' o entries told =
+          let ds : List (List ℕ) = datagrams_in entries in
+          let from : Running = running_from (opened o w.frames 900000) in
+          let more =
+          tells_first takes fails old new took took' (first_events w o entries)
+          (events_end (behind_all w.is_eager from ds)) told in
+          record {
+            printed =
+                grows_first took took' (events_text (followed_events w o entries))
+                (totals_text (followed_run w o entries)) more.printed;
+            shown = more.shown;
+          }
+
+      pub follows_part : (old new : K) (took took' : List ℕ)
+          → FollowsUpTo gave ended_at r news (TellsSome takes fails old new took took')
+          → FollowsFirst w sdp ways (SideRead gave ended_at) (zip olds news)
+          (TellsPart takes fails w old new took took')
+      follows_part old new took took' up =
+          follows_first (TellsPart takes fails w old new took took') up.entries up.goes
+          (part_first_told old new took took' begun.opens.opening up.entries
+          (first_told (TellsSome takes fails old new took took') up.entries up.told))
+
+      pub ends_part : (t : Run A) (old mid new : K) (took took' took'' : List ℕ)
+          → FollowsEntries gave ended_at takes r t old mid took took' news
+          → EndsSome takes fails t mid new took' took''
+          → FollowsFirst w sdp ways (SideRead gave ended_at) (zip olds news)
+          (TellsPart takes fails w old new took took'')
+      ends_part t old mid new took took' took'' follows ends =
+          let ds : List (List ℕ) = datagrams_in follows.entries in
+          let from : Running = running_from (opened begun.opens.opening w.frames 900000) in
+          let at : CutRun takes fails r.is_eager (running_of r) ds old new took took'' =
+          cut_by takes fails r.is_eager (running_of r) ds t old mid new took took' took''
+          follows.running follows.told ends in
+          let by : CutRun takes fails w.is_eager from ds old new took took'' =
+          subst (λ (x : Running). CutRun takes fails w.is_eager x ds old new took took'')
+          begun.opens.is
+          (subst (λ (x : Bool). CutRun takes fails x (running_of r) ds old new took took'')
+          begun.eager at) in
+          follows_first (TellsPart takes fails w old new took took'') follows.entries
+          (λ octets read. let goes = follows.goes octets read in
+          record { left = goes.left; goes = goes.goes })
+          (record { printed = by.printed; shown = by.shown })

@@ -1,5 +1,5 @@
 -- A turn of a stream that is followed, and what came so far.
-use Rattle.std.proofs.Common.{◌≡◌, ℕ, Bool, true, false, cond, List, [], ◌∷◌, ◌++◌, map}
+use Rattle.std.proofs.Common.{◌≡◌, ℕ, zero, suc, Bool, true, false, cond, List, [], ◌∷◌, ◌++◌, map}
 use Rattle.std.proofs.Common.{Option, None, Some, Result, Ok, Err, refl, sym, ap, subst, ◌∙◌}
 use Rattle.std.proofs.Common.{append_assoc, append-nil}
 use Rattle.std.proofs.Math.Seq.{drop-append_seam}
@@ -11,9 +11,10 @@ use Rattle.path_receiver.specs.declared.answer.Refusal.{Refusal}
 use Rattle.following.specs.Follower.{Following, IsFollower, joined, read_in, reading_of}
 use Rattle.following.specs.Follower.{standing_of, state_after}
 use Rattle.following.specs.Follower.{taken_in, without_oldest}
-use Rattle.following.specs.Following.{Handed, frames_in, is_due}
+use Rattle.following.specs.Following.{Handed, frames_in, handed_before, is_due}
 use Rattle.following.specs.Restarts.{is_restart}
-use Rattle.following.specs.Turned.{answer_in, goes_early, handed_in, state_early, turned}
+use Rattle.following.specs.Turned.{answer_in, early_count, handed_early, handed_in, state_early}
+use Rattle.following.specs.Turned.{state_taken, turned, without_first}
 use Rattle.following.specs.declared.answer.Followed.{Followed}
 use Rattle.following.specs.declared.standing.Standing.{Standing}
 use Rattle.following.specs.declared.standing.Standing.TheVariants.{Beyond, Inside, New, Waits}
@@ -22,7 +23,7 @@ use Rattle.follow_engine.specs.Events.{Anew, Event, IsAnewAt, Running, anew, ane
 use Rattle.follow_engine.specs.Events.{behind, behind_all, events_at, events_in, is_anew}
 use Rattle.follow_engine.specs.Events.{datagram_time, late_with, leaving, noted_by, time_or_zero}
 use Rattle.follow_engine.specs.Events.{turn_left, turn_taken, without}
-use Rattle.follow_engine.specs.Running.{FollowsDatagram, IsSoundRun, LeavesWith, TellsEvents}
+use Rattle.follow_engine.specs.Running.{FollowsDatagram, IsSoundRun, LeavesTurn, TellsEvents}
 use Rattle.follow_engine.specs.Running.{TellsDatagram, steering_of}
 use Rattle.follow_engine.specs.declared.running.Run.{Run}
 use Rattle.follow_engine.proofs.Parts.{behind_more, events_more}
@@ -83,25 +84,26 @@ stays_on s t u first next = record {
   ahead = next.ahead ∙ first.ahead;
 }
 
-stays_early : (s : Following) (b : Bool) → StaysAs s (state_early b s)
-stays_early s true = stays_oldest s
-stays_early s false = stays_same s
+stays_first : (n : ℕ) (s : Following) → StaysAs s (without_first n s)
+stays_first zero s = stays_same s
+stays_first (suc n) s =
+    stays_on s (without_oldest s) (without_first n (without_oldest s)) (stays_oldest s)
+    (stays_first n (without_oldest s))
 
-stays_turn : (eager : Bool) (s : Following) (octets : List ℕ) (b : Bool)
-    → StaysAs s (cond b (state_after (without_oldest s) octets)
-    (state_early (goes_early eager (state_after s octets)) (state_after s octets)))
-stays_turn eager s octets true =
+stays_ready : (b : Bool) (s : Following) (octets : List ℕ)
+    → StaysAs s (state_after (cond b (without_oldest s) s) octets)
+stays_ready true s octets =
     stays_on s (without_oldest s) (state_after (without_oldest s) octets) (stays_oldest s)
     (stays_after (without_oldest s) octets)
-stays_turn eager s octets false =
-    let t : Following = state_after s octets in
-    stays_on s t (state_early (goes_early eager t) t) (stays_after s octets)
-    (stays_early t (goes_early eager t))
+stays_ready false s octets = stays_after s octets
 
 pub stays_turned : (eager : Bool) (s : Following) (octets : List ℕ)
     → StaysAs s (turned eager s octets)
 unfolding turned
-stays_turned eager s octets = stays_turn eager s octets (is_due s octets)
+stays_turned eager s octets =
+    let t : Following = state_taken s octets in
+    stays_on s t (state_early eager t) (stays_ready (is_due s octets) s octets)
+    (stays_first (early_count eager t) t)
 
 pub stays_steering : (s t : Following) → StaysAs s t
     → steering_of t.opening ≡ steering_of s.opening
@@ -136,38 +138,48 @@ some_anew false time ts is = absurd cc
 
 -- an answer is noted when the datagram was taken
 pub turn_is : (r : Running) (bound : ℕ) (time : Option ℕ) (answer : Result Followed Refusal)
-    (hs : List Handed) (t : Following) → bound ≡ r.follower.most_ahead
-    → without (noted_by bound (record r { follower = t }) time answer) hs t
-    ≡ without (answered r time answer) hs t
-turn_is r bound time answer hs t is =
-    ap (λ (b : ℕ). without (noted_by b r time answer) hs t) is
+    (hs : List Handed) (t u : Following) → bound ≡ r.follower.most_ahead
+    → without (noted_by bound (record r { follower = t }) time answer) hs u
+    ≡ without (answered r time answer) hs u
+turn_is r bound time answer hs t u is =
+    ap (λ (b : ℕ). without (noted_by b r time answer) hs u) is
 
--- What the calls of a turn made of a stream: an answer was noted, and the frame that goes left.
+-- What the calls of a turn made of a stream: an answer was noted, and the frames that go left.
 pub turn_told : {K : Type 0} (takes : K → Handed → K → Type 0) (eager : Bool)
     (r n r' : Running) (octets : List ℕ) (bound : ℕ) (answer : Result Followed Refusal)
     (t : Following) (hs : List Handed) (old new : K) (took took' : List ℕ)
-    → bound ≡ r.follower.most_ahead → t ≡ turned eager r.follower octets
-    → answer ≡ answer_in r.follower octets → hs ≡ handed_in eager r.follower octets
+    → bound ≡ r.follower.most_ahead → t ≡ state_taken r.follower octets
+    → answer ≡ answer_in r.follower octets → hs ≡ handed_before r.follower octets
     → n ≡ noted_by bound (record r { follower = t }) (datagram_time octets) answer
-    → LeavesWith takes n r' hs old new took took'
+    → LeavesTurn takes eager n r' hs old new took took'
     → TellsDatagram takes eager r r' octets old new took took'
+unfolding turned handed_in
 turn_told takes eager r n r' octets bound answer t hs old new took took' at is answered_so handed noted
     left =
     let time : Option ℕ = datagram_time octets in
     let a : Result Followed Refusal = answer_in r.follower octets in
-    let gone : List Handed = handed_in eager r.follower octets in
+    let before : List Handed = handed_before r.follower octets in
+    let early : List Handed = handed_early eager t in
     record {
       running =
-          left.running ∙ ap (λ (x : Running). without x hs x.follower) noted
-          ∙ turn_is r bound time answer hs t at
-          ∙ ap (λ (x : Result Followed Refusal). without (answered r time x) hs t) answered_so
-          ∙ ap (λ (l : List Handed). without (answered r time a) l t) handed
-          ∙ ap (λ (x : Following). without (answered r time a) gone x) is;
+          left.running
+          ∙ ap (λ (x : Running).
+          without x (hs ++ handed_early eager x.follower) (state_early eager x.follower)) noted
+          ∙ turn_is r bound time answer (hs ++ early) t (state_early eager t) at
+          ∙ ap (λ (x : Result Followed Refusal).
+          without (answered r time x) (hs ++ early) (state_early eager t)) answered_so
+          ∙ ap (λ (l : List Handed). without (answered r time a) (l ++ early) (state_early eager t))
+          handed
+          ∙ ap (λ (x : Following).
+          without (answered r time a) (before ++ handed_early eager x) (state_early eager x)) is;
       told =
           subst (λ (es : List Event). TellsEvents takes old new took took' es)
-          (ap (λ (x : Running). leaving x.late hs) noted
-          ∙ ap (λ (x : Result Followed Refusal). leaving (late_with r.late x) hs) answered_so
-          ∙ ap (λ (l : List Handed). leaving (late_with r.late a) l) handed) left.told;
+          (ap (λ (x : Running). leaving x.late (hs ++ handed_early eager x.follower)) noted
+          ∙ ap (λ (x : Result Followed Refusal). leaving (late_with r.late x) (hs ++ early))
+          answered_so
+          ∙ ap (λ (l : List Handed). leaving (late_with r.late a) (l ++ early)) handed
+          ∙ ap (λ (x : Following). leaving (late_with r.late a) (before ++ handed_early eager x))
+          is) left.told;
     }
 
 -- so it is told whether it is followed anew

@@ -141,13 +141,13 @@ anew r = record (without r (frames_in r.follower)
 
 -- ---- a turn
 
--- a datagram was answered, and the frame left that is due or may go early
+-- a datagram was answered, and the frames left that are due or may go early
 abbrev pub turn_taken : Bool → Running → List ℕ → Running
 turn_taken eager r octets =
     without (answered r (datagram_time octets) (answer_in r.follower octets))
     (handed_in eager r.follower octets) (turned eager r.follower octets)
 
--- the frame that leaves by a datagram, if one does
+-- the frames that leave by a datagram
 abbrev pub turn_left : Bool → Running → List ℕ → List Event
 turn_left eager r octets =
     leaving (late_with r.late (answer_in r.follower octets)) (handed_in eager r.follower octets)

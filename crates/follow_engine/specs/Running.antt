@@ -2,6 +2,7 @@
 use Rattle.std.specs.Prelude.{◌≡◌, ℕ, Bool, List, [], ◌∷◌, ◌++◌}
 use Rattle.following.specs.Follower.{IsFollower}
 use Rattle.following.specs.Following.{Handed, frames_in}
+use Rattle.following.specs.Turned.{handed_early, state_early}
 use Rattle.path_receiver.specs.Opening.{Opening}
 use Rattle.path_receiver.specs.Sliding.{with_window}
 use Rattle.side_by_side.specs.declared.steering.Steering.{Steering}
@@ -53,6 +54,13 @@ pub record LeavesWith {K : Type 0} (takes : K → Handed → K → Type 0) (r r'
   pub running : r' ≡ without r hs r.follower
   pub told : TellsEvents takes old new took took' (leaving r.late hs)
 
+-- These frames left a stream, and behind them those that go early, and were told.
+pub record LeavesTurn {K : Type 0} (takes : K → Handed → K → Type 0) (eager : Bool)
+    (r r' : Running) (hs : List Handed) (old new : K) (took took' : List ℕ) : Type 0 where
+  pub running : r' ≡ without r (hs ++ handed_early eager r.follower) (state_early eager r.follower)
+  pub told : TellsEvents takes old new took took'
+      (leaving r.late (hs ++ handed_early eager r.follower))
+
 -- All frames left that were in, and were told.
 pub record Finishes {A K : Type 0} (takes : K → Handed → K → Type 0) (r r' : Run A) (old new : K)
     (took took' : List ℕ) : Type 0 where
@@ -72,7 +80,7 @@ pub record BeginsAnew {A K : Type 0} (takes : K → Handed → K → Type 0) (ti
   pub told : TellsEvents takes old new took took' (leaving r.late (frames_in r.follower)
       ++ Anew timestamp ∷ [])
 
--- A datagram was taken in its turn, and the frame that left was told.
+-- A datagram was taken in its turn, and the frames that left were told.
 pub record TellsDatagram {K : Type 0} (takes : K → Handed → K → Type 0) (eager : Bool)
     (r r' : Running) (octets : List ℕ) (old new : K) (took took' : List ℕ) : Type 0 where
   pub running : r' ≡ turn_taken eager r octets

@@ -5,11 +5,12 @@ ghost use Rattle.follow_engine.specs.Events.{Anew, IsAnewAt, anew_with, datagram
 ghost use Rattle.follow_engine.specs.Events.{is_anew, late_with, leaving, noted_by, running_from};
 ghost use Rattle.follow_engine.specs.Events.{timed, turn_left};
 ghost use Rattle.follow_engine.specs.Running.{BeginsAnew, Finishes, FollowsDatagram, IsSoundRun};
-ghost use Rattle.follow_engine.specs.Running.{LeavesWith, TellsDatagram, TellsSome, running_of};
-ghost use Rattle.following.specs.Follower.{opened};
+ghost use Rattle.follow_engine.specs.Running.{LeavesTurn, LeavesWith, TellsDatagram, TellsSome};
+ghost use Rattle.follow_engine.specs.Running.{running_of};
+ghost use Rattle.following.specs.Follower.{IsFollower, opened};
 ghost use Rattle.following.specs.Following.{frames_in};
 ghost use Rattle.following.specs.Restarts.{is_restart};
-ghost use Rattle.following.specs.Turned.{handed_as};
+ghost use Rattle.following.specs.Turned.{handed_as, handed_early};
 ghost use Rattle.run_outcome.specs.Fault.{Accounts, IfRefused, counts};
 
 use crate::line::{FollowLine, print};
@@ -17,7 +18,7 @@ use crate::pictures::PictureSink;
 use crate::showing::show_frame;
 use following::{
     FollowFault, FollowObserver, FollowTally, Followed, Follower, Restarts, TEN_SECONDS,
-    WindowNeed, hand_out, take_turn,
+    WindowNeed, goes_early, hand_out, take_turn,
 };
 use frame_assembly::Frame;
 use path_receiver::Refusal;
@@ -182,6 +183,67 @@ impl<A: Allocator + Copy> Run<A> {
         Ok(())
     }
 
+    /// Lets the frames leave that may go before they are due, oldest first.
+    fn leave_early<P: PictureSink, O: ByteSink>(
+        &mut self,
+        pictures: &mut P,
+        output: &mut O,
+    ) -> Result<(), Fault>
+        requires { self.old.frame.format ≡ self.old.follower.opening.format }
+        ensures format { self.new.frame.format ≡ self.new.follower.opening.format }
+        ensures follower { IsFollower self.new.follower }
+        ensures restarts { self.new.restarts ≡ self.old.restarts }
+        ensures eager { self.new.is_eager ≡ self.old.is_eager }
+        ensures steering { self.new.steering ≡ self.old.steering }
+        ensures left { OnOk result (LeavesTurn P.takes self.old.is_eager (running_of self.old)
+            (running_of self.new) [] pictures.old pictures.new
+            (O.took output.old) (O.took output.new)) }
+        ensures part { OnErr result (TellsSome P.takes P.fails pictures.old pictures.new
+            (O.took output.old) (O.took output.new)
+            (leaving self.old.late (handed_early self.old.is_eager self.old.follower))) }
+        ensures unrefused { IfErr result (λ f. IfRefused f ⊥) }
+        ensures failures { Accounts result (counts (P.failures pictures.old)
+            (P.failures pictures.new)
+            ∷ counts (O.failures output.old) (O.failures output.new) ∷ []) }
+    {
+        self.follower.facts();
+        while goes_early(&mut self.follower, self.is_eager) {
+            let handed = hand_out(&mut self.follower, &mut self.frame);
+            self.leave(handed, pictures, output)?;
+        }
+        Ok(())
+    }
+
+    /// Shows and tells the frame of this timestamp, if one was handed out, and those behind it that
+    /// may go before they are due.
+    fn leave_turn<P: PictureSink, O: ByteSink>(
+        &mut self,
+        handed: Option<u32>,
+        pictures: &mut P,
+        output: &mut O,
+    ) -> Result<(), Fault>
+        requires { self.old.frame.format ≡ self.old.follower.opening.format }
+        ensures format { OnOk result (self.new.frame.format ≡ self.new.follower.opening.format) }
+        ensures follower { OnOk result (IsFollower self.new.follower) }
+        ensures restarts { self.new.restarts ≡ self.old.restarts }
+        ensures eager { self.new.is_eager ≡ self.old.is_eager }
+        ensures steering { self.new.steering ≡ self.old.steering }
+        ensures left { OnOk result (LeavesTurn P.takes self.old.is_eager (running_of self.old)
+            (running_of self.new) (handed_as handed self.old.frame) pictures.old pictures.new
+            (O.took output.old) (O.took output.new)) }
+        ensures part { OnErr result (TellsSome P.takes P.fails pictures.old pictures.new
+            (O.took output.old) (O.took output.new)
+            (leaving self.old.late (handed_as handed self.old.frame
+            ++ handed_early self.old.is_eager self.old.follower))) }
+        ensures unrefused { IfErr result (λ f. IfRefused f ⊥) }
+        ensures failures { Accounts result (counts (P.failures pictures.old)
+            (P.failures pictures.new)
+            ∷ counts (O.failures output.old) (O.failures output.new) ∷ []) }
+    {
+        self.leave(handed, pictures, output)?;
+        self.leave_early(pictures, output)
+    }
+
     fn has_frames(&self) -> bool
         ensures some { IsTrue result → 0 < length self.now.follower.opening.window }
         ensures none { IsFalse result → self.now.follower.opening.window ≡ [] }
@@ -239,7 +301,7 @@ impl<A: Allocator + Copy> Run<A> {
         print(FollowLine::Anew(timestamp), output)
     }
 
-    /// Takes a datagram in its turn, shows and tells the frame that leaves, and answers the
+    /// Takes a datagram in its turn, shows and tells the frames that leave, and answers the
     /// datagram's timestamp where the stream is to be followed anew from it on.
     fn turn<P: PictureSink, O: ByteSink>(
         &mut self,
@@ -263,9 +325,9 @@ impl<A: Allocator + Copy> Run<A> {
             (P.failures pictures.new)
             ∷ counts (O.failures output.old) (O.failures output.new) ∷ []) }
     {
-        let turn = take_turn(&mut self.follower, octets, self.is_eager, &mut self.frame);
+        let turn = take_turn(&mut self.follower, octets, &mut self.frame);
         let anew = self.note(octets, turn.answer);
-        self.leave(turn.handed, pictures, output)?;
+        self.leave_turn(turn.handed, pictures, output)?;
         Ok(anew)
     }
 

@@ -1,8 +1,8 @@
 -- Frames of which nothing is missing.
-use Rattle.std.proofs.Common.{◌≡◌, ℕ, ◌⊎◌, inl, inr, Bool, true, false, cond}
+use Rattle.std.proofs.Common.{◌≡◌, ℕ, suc, ◌⊎◌, inl, inr, Bool, true, false, cond}
 use Rattle.std.proofs.Common.{eqb, List, [], ◌∷◌, ◌++◌, take, refl, sym, ap, ◌∙◌}
 use Rattle.std.proofs.Common.{subst}
-use Rattle.std.proofs.lemmas.Bool.{and_parts, false≢true}
+use Rattle.std.proofs.lemmas.Bool.{false≢true}
 use Rattle.st_format.specs.declared.cell.Cell.{Cell}
 use Rattle.st_format.specs.declared.cell.Cell.TheVariants.{Missing, Value, Contested}
 use Rattle.st_format.specs.Cell.{is_missing, join}
@@ -20,9 +20,9 @@ use Rattle.following.specs.Follower.{Following, opened}
 use Rattle.following.specs.Following.{Handed, with_timestamps}
 use Rattle.following.specs.Pictures.{BroughtSome, IsOfSome, IsSendersSample, ShowsSender}
 use Rattle.following.specs.Times.{frame_of}
-use Rattle.following.specs.Turned.{first_complete, goes_early, handed_all, handed_early, is_complete}
+use Rattle.following.specs.Turned.{complete_count, handed_all, handed_early, is_complete}
 use Rattle.following.proofs.FrameLemmas.{frame_both}
-use Rattle.following.proofs.Made.{of_some}
+use Rattle.following.proofs.Made.{in_first, of_some}
 use Rattle.following.proofs.Lacking.{known_cell_at}
 use Rattle.following.proofs.SendersCells.{frame_cells}
 
@@ -65,26 +65,28 @@ no_more o ds es ts at full is =
       | inr e ↦ inr (both ∙ e)
     ]
 
--- ---- one that goes early is complete
+-- ---- those that go early are complete
 
-early_first : (w : List ℕ) (rs : List Raster) (h : Handed) → first_complete rs ≡ true
-    → IsMember h (take 1 (with_timestamps w rs)) → is_complete h.frame ≡ true
-unfolding first_complete
-early_first [] rs h full m = absurd m
-early_first (t ∷ w) [] h full m = absurd m
-early_first (t ∷ w) (r ∷ rs) h full (inl e) =
-    ap (λ (x : Handed). is_complete x.frame) e ∙ full
-early_first (t ∷ w) (r ∷ rs) h full (inr m) = absurd m
-
-early_at : (eager : Bool) (s : Following) (h : Handed) (b : Bool) → goes_early eager s ≡ b
-    → IsMember h (handed_early b s) → is_complete h.frame ≡ true
-early_at eager s h true e m =
-    early_first s.opening.window s.frames h (and_parts eager (first_complete s.frames) e).1 m
-early_at eager s h false e m = absurd m
+early_some : (w : List ℕ) (rs : List Raster) (h : Handed)
+    → IsMember h (take (complete_count rs) (with_timestamps w rs)) → is_complete h.frame ≡ true
+unfolding complete_count
+early_some [] rs h m = absurd (in_first (complete_count rs) h [] m)
+early_some (t ∷ w) [] h m = absurd m
+early_some (t ∷ w) (r ∷ rs) h m = at (is_complete r) refl (early_some w rs h) m
+  where
+    at : (b : Bool) → is_complete r ≡ b
+        → (IsMember h (take (complete_count rs) (with_timestamps w rs))
+        → is_complete h.frame ≡ true)
+        → IsMember h (take (cond b (suc (complete_count rs)) 0) (with_timestamps (t ∷ w) (r ∷ rs)))
+        → is_complete h.frame ≡ true
+    at true full rest (inl e) = ap (λ (x : Handed). is_complete x.frame) e ∙ full
+    at true full rest (inr k) = rest k
+    at false lacks rest k = absurd k
 
 pub early_complete : (eager : Bool) (s : Following) (h : Handed)
-    → IsMember h (handed_early (goes_early eager s) s) → is_complete h.frame ≡ true
-early_complete eager s h m = early_at eager s h (goes_early eager s) refl m
+    → IsMember h (handed_early eager s) → is_complete h.frame ≡ true
+early_complete true s h m = early_some s.opening.window s.frames h m
+early_complete false s h m = absurd m
 
 -- ---- a sender's
 

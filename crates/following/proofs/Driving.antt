@@ -1,6 +1,6 @@
 -- What was made of the turns of a source so far.
 use Rattle.std.proofs.Common.{take}
-use Rattle.std.proofs.Common.{◌≡◌, ℕ, ◌+◌, Bool, List, [], ◌∷◌, ◌++◌, fold, length, map}
+use Rattle.std.proofs.Common.{◌≡◌, ℕ, ◌+◌, Bool, true, false, List, [], ◌∷◌, ◌++◌, fold, length, map}
 use Rattle.std.proofs.Common.{Option, None, Some, Result, refl, sym, ap, ◌∙◌, subst}
 use Rattle.std.proofs.Common.{arith, append_assoc, append-nil, length-append}
 use Rattle.std.proofs.Math.Seq.{drop-append_seam, take-append_seam}
@@ -12,11 +12,12 @@ use Rattle.path_receiver.specs.declared.receiving.Received.{Received}
 use Rattle.path_receiver.specs.Took.{datagrams_since}
 use Rattle.following.specs.declared.answer.Followed.{Followed}
 use Rattle.following.specs.declared.fault.StreamFault.{StreamFault}
-use Rattle.following.specs.Follower.{Following}
-use Rattle.following.specs.Following.{Handed}
+use Rattle.following.specs.Follower.{Following, without_oldest}
+use Rattle.following.specs.Following.{Handed, frames_in, handed_before}
 use Rattle.following.specs.Stream.{AreTakenTurns, IsLeft, ShowsAll, TookTurns, delivered_by}
-use Rattle.following.specs.Turned.{answer_in, answers_in, handed_in, handed_while, state_behind}
-use Rattle.following.specs.Turned.{turned}
+use Rattle.following.specs.Turned.{answer_in, answers_in, goes_early, handed_early, handed_in}
+use Rattle.following.specs.Turned.{handed_while, state_behind, state_early, state_taken, turned}
+use Rattle.following.proofs.Turning.{handed_more, handed_still, state_more, state_none}
 
 -- ---- one datagram more
 
@@ -210,6 +211,67 @@ pub so_nothing : {O : Type 0} (after : O → Result Followed Refusal → O) (eag
 so_nothing {O} after eager turns delivered old new before now then s t had has knew knows so e =
     subst (λ (x : List (Path × List ℕ)). SoFar after eager turns delivered old new before x s t had has
     [] knew knows) (sym e) so
+
+-- ---- the frames of a turn
+
+-- one that goes early was shown, or not
+pub early_shown : (eager : Bool) (s t u : Following) (hs missed has shows all : List Handed)
+    → t ≡ s → u ≡ without_oldest t → hs ≡ take 1 (frames_in t) → goes_early eager s ≡ true
+    → has ++ handed_early eager s ≡ all → ShowsAll has shows missed hs
+    → shows ++ (missed ++ handed_early eager u) ≡ all
+early_shown eager s t u hs missed has shows all same gone first goes so shown =
+    let v : Following = without_oldest s in
+    sym (append_assoc shows missed (handed_early eager u))
+    ∙ ap (λ (l : List Handed). l ++ handed_early eager u) shown
+    ∙ append_assoc has hs (handed_early eager u)
+    ∙ ap (λ (x : Following). has ++ (hs ++ handed_early eager x))
+    (gone ∙ ap (λ (x : Following). without_oldest x) same)
+    ∙ ap (λ (l : List Handed). has ++ (l ++ handed_early eager v))
+    (first ∙ ap (λ (x : Following). take 1 (frames_in x)) same)
+    ∙ ap (λ (l : List Handed). has ++ l) (sym (handed_more eager s goes)) ∙ so
+
+-- what is in then goes as what was in
+pub early_state : (eager : Bool) (s t u w : Following) → t ≡ s → u ≡ without_oldest t
+    → goes_early eager s ≡ true → state_early eager s ≡ state_early eager w
+    → state_early eager u ≡ state_early eager w
+early_state eager s t u w same gone goes so =
+    ap (λ (x : Following). state_early eager x) (gone ∙ ap (λ (x : Following). without_oldest x) same)
+    ∙ sym (state_more eager s goes) ∙ so
+
+-- the frame that was due was shown, or not
+pub turn_shown : (eager : Bool) (s t : Following) (octets : List ℕ) (missed old new : List Handed)
+    → t ≡ state_taken s octets → ShowsAll old new missed (handed_before s octets)
+    → ShowsAll old new (missed ++ handed_early eager t) (handed_in eager s octets)
+unfolding handed_in
+turn_shown eager s t octets missed old new same shown =
+    let early : List Handed = handed_early eager t in
+    sym (append_assoc new missed early) ∙ ap (λ (l : List Handed). l ++ early) shown
+    ∙ append_assoc old (handed_before s octets) early
+    ∙ ap (λ (x : Following). old ++ (handed_before s octets ++ handed_early eager x)) same
+
+-- and those that go early behind it
+pub turn_early : (eager : Bool) (s t : Following) (octets : List ℕ) (missed old mid new : List Handed)
+    → t ≡ state_taken s octets → ShowsAll old mid [] (handed_before s octets)
+    → ShowsAll mid new missed (handed_early eager t)
+    → ShowsAll old new missed (handed_in eager s octets)
+turn_early eager s t octets missed old mid new same first rest =
+    rest ∙ turn_shown eager s t octets [] old mid same first
+
+pub turn_state : (eager : Bool) (s t : Following) (octets : List ℕ) → t ≡ state_taken s octets
+    → state_early eager t ≡ turned eager s octets
+unfolding turned
+turn_state eager s t octets same = ap (λ (x : Following). state_early eager x) same
+
+-- where none that may go early is in any more
+pub state_still : (eager : Bool) (t u : Following) → goes_early eager t ≡ false
+    → state_early eager t ≡ u → t ≡ u
+state_still eager t u still is = sym (state_none eager t still) ∙ is
+
+pub shown_still : (eager : Bool) (t : Following) (old new all : List Handed)
+    → goes_early eager t ≡ false → ShowsAll old new (handed_early eager t) all
+    → ShowsAll old new [] all
+shown_still eager t old new all still shown =
+    ap (λ (l : List Handed). new ++ l) (sym (handed_still eager t still)) ∙ shown
 
 -- ---- at the end
 

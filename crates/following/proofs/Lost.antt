@@ -1,6 +1,6 @@
 -- What is handed out is of those that were neither late nor too far ahead.
-use Rattle.std.proofs.Common.{◌≡◌, ℕ, ◌-◌, ◌<◌, ◌≤◌, Bool, true, false, cond, List, []}
-use Rattle.std.proofs.Common.{◌∷◌, ◌++◌, length, map, take, drop, Result, Ok, Err, refl, sym}
+use Rattle.std.proofs.Common.{◌≡◌, ℕ, zero, suc, ◌-◌, ◌<◌, ◌≤◌, Bool, true, false, cond, List, []}
+use Rattle.std.proofs.Common.{◌∷◌, ◌++◌, length, map, drop, Result, Ok, Err, refl, sym}
 use Rattle.std.proofs.Common.{ap, ◌∙◌, subst, arith, append_assoc, length-drop}
 use Rattle.std.proofs.lemmas.Bool.{false≢true}
 use Rattle.st_format.specs.Reading.{◌>>=◌}
@@ -16,16 +16,16 @@ use Rattle.following.specs.Acts.{Act, AreNearby, NoneLost, handed_by, taken_of}
 use Rattle.following.specs.Acts.Act.{Takes}
 use Rattle.following.specs.Follower.{Following, answer_to, followed_at, opened, read_in, reading_of}
 use Rattle.following.specs.Follower.{standing_of, state_after, taken_in, without_oldest}
-use Rattle.following.specs.Following.{Handed, frames_in, is_due, is_waiting}
-use Rattle.following.specs.Following.{waits_for}
+use Rattle.following.specs.Following.{Handed, frames_in, is_due, is_waiting, waits_for}
 use Rattle.following.specs.Times.{AreTimed, Timed, handed_at, in_order, octets_of, times_of}
-use Rattle.following.specs.Turned.{answer_in, goes_early, handed_all, handed_early, handed_in}
-use Rattle.following.specs.Turned.{handed_while, is_lost, kept_of, state_behind, state_early, turned}
-use Rattle.following.specs.Turned.{with_kept}
+use Rattle.following.specs.Turned.{answer_in, early_count, handed_all, handed_early}
+use Rattle.following.specs.Turned.{handed_in, handed_while, is_lost, kept_of, state_behind}
+use Rattle.following.specs.Turned.{state_early, state_taken, turned, with_kept, without_first}
 use Rattle.following.proofs.Early.{none_lost}
 use Rattle.following.proofs.Rises.{Stands, stands_oldest, stands_read}
 use Rattle.following.proofs.Taken.{new_back, waits_new}
-use Rattle.following.proofs.Turning.{early_act, goes_in, lost_acts, step_acts, taken_early}
+use Rattle.following.proofs.Turning.{before-on, early_in, handed_hands, hands, lost_acts}
+use Rattle.following.proofs.Turning.{step_acts, taken-on, taken_hands}
 
 -- ---- one that is lost changes nothing
 
@@ -49,7 +49,7 @@ lost_state s octets h = lost_read s octets (reading_of s.opening octets) h
 
 -- ---- one for which the oldest is due is kept
 
-waits_is : (x : Standing) → is_waiting x ≡ true → x ≡ Waits
+pub waits_is : (x : Standing) → is_waiting x ≡ true → x ≡ Waits
 waits_is (Inside p) h = absurd (false≢true h)
 waits_is (New p) h = absurd (false≢true h)
 waits_is Waits h = refl
@@ -61,7 +61,7 @@ pub record HasRoom (s : Following) : Type 0 where
   pub stands : Stands s
   pub some : 0 < s.size
 
-room_after : (n size m : ℕ) → 0 < size → n ≤ size → m ≡ n - 1 → m < size
+pub room_after : (n size m : ℕ) → 0 < size → n ≤ size → m ≡ n - 1 → m < size
 room_after n size m some le e = omega (arith, some, le, e)
 
 due_read : (s : Following) (octets : List ℕ) (r : Result Datagram Refusal) → HasRoom s
@@ -123,20 +123,21 @@ room_taken s octets h = record {
 room_oldest : (s : Following) → HasRoom s → HasRoom (without_oldest s)
 room_oldest s h = record { stands = stands_oldest s h.stands; some = h.some }
 
-room_early : (b : Bool) (s : Following) → HasRoom s → HasRoom (state_early b s)
-room_early true s h = room_oldest s h
-room_early false s h = h
+room_first : (n : ℕ) (s : Following) → HasRoom s → HasRoom (without_first n s)
+room_first zero s h = h
+room_first (suc n) s h = room_first n (without_oldest s) (room_oldest s h)
 
-room_turn : (b e : Bool) (s : Following) (octets : List ℕ) → HasRoom s
-    → HasRoom (cond b (state_after (without_oldest s) octets) (state_early e (state_after s octets)))
-room_turn true e s octets h = room_taken (without_oldest s) octets (room_oldest s h)
-room_turn false e s octets h = room_early e (state_after s octets) (room_taken s octets h)
+room_ready : (b : Bool) (s : Following) (octets : List ℕ) → HasRoom s
+    → HasRoom (state_after (cond b (without_oldest s) s) octets)
+room_ready true s octets h = room_taken (without_oldest s) octets (room_oldest s h)
+room_ready false s octets h = room_taken s octets h
 
 pub room_turned : (eager : Bool) (s : Following) (octets : List ℕ) → HasRoom s
     → HasRoom (turned eager s octets)
 unfolding turned
 room_turned eager s octets h =
-    room_turn (is_due s octets) (goes_early eager (state_after s octets)) s octets h
+    room_first (early_in eager s octets) (state_taken s octets)
+    (room_ready (is_due s octets) s octets h)
 
 -- ---- as acts, without those that are lost
 
@@ -147,7 +148,7 @@ kept_acts : Bool → Following → List Timed → List Act
 kept_acts eager s [] = []
 kept_acts eager s (x ∷ xs) =
     take_act (is_lost (answer_in s x.octets)) x
-    (early_act (goes_in eager s x.octets) (kept_acts eager (turned eager s x.octets) xs))
+    (hands (early_in eager s x.octets) (kept_acts eager (turned eager s x.octets) xs))
 
 taken_act : (b : Bool) (x : Timed) (acts : List Act) (xs : List Timed) → taken_of acts ≡ xs
     → taken_of (take_act b x acts) ≡ with_kept b x xs
@@ -161,34 +162,25 @@ taken_kept eager s [] = refl
 taken_kept eager s (x ∷ xs) =
     let t : Following = turned eager s x.octets in
     taken_act (is_lost (answer_in s x.octets)) x
-    (early_act (goes_in eager s x.octets) (kept_acts eager t xs)) (kept_of eager t xs)
-    (taken_early (goes_in eager s x.octets) (kept_acts eager t xs) ∙ taken_kept eager t xs)
+    (hands (early_in eager s x.octets) (kept_acts eager t xs)) (kept_of eager t xs)
+    (taken_hands (early_in eager s x.octets) (kept_acts eager t xs) ∙ taken_kept eager t xs)
 
-early_at : (e : Bool) (s : Following) (acts : List Act)
-    → handed_by s (early_act e acts) ≡ handed_early e s ++ handed_by (state_early e s) acts
-early_at true s acts = refl
-early_at false s acts = refl
-
--- where one leaves the follower, only the oldest may go
+-- where one leaves the follower, only those may go that go early
 lost_step : (eager : Bool) (s : Following) (octets : List ℕ) (acts : List Act) → Leaves s octets
-    → handed_by s (early_act (goes_in eager s octets) acts)
+    → handed_by s (hands (early_in eager s octets) acts)
     ≡ handed_in eager s octets ++ handed_by (turned eager s octets) acts
 unfolding turned handed_in
 lost_step eager s octets acts h =
-    let t : Following = state_after s octets in
-    ap (λ (b : Bool). handed_by s (early_act (cond b false (goes_early eager t)) acts)) h.due
-    ∙ ap (λ (u : Following). handed_by s (early_act (goes_early eager u) acts)) h.after
-    ∙ early_at (goes_early eager s) s acts
-    ∙ sym
-    (ap (λ (b : Bool). cond b (take 1 (frames_in s)) (handed_early (goes_early eager t) t)
-    ++ handed_by (cond b (state_after (without_oldest s) octets) (state_early (goes_early eager t) t))
-    acts) h.due
-    ∙ ap (λ (u : Following). handed_early (goes_early eager u) u
-    ++ handed_by (state_early (goes_early eager u) u) acts) h.after)
+    let t : Following = state_taken s octets in
+    let same : t ≡ s = taken-on s octets h.due ∙ h.after in
+    ap (λ (u : Following). handed_by u (hands (early_count eager t) acts)) (sym same)
+    ∙ handed_hands (early_count eager t) t acts
+    ∙ ap (λ (hs : List Handed). (hs ++ handed_early eager t) ++ handed_by (state_early eager t) acts)
+    (sym (before-on s octets h.due))
 
 handed_act : (eager : Bool) (s : Following) (x : Timed) (acts : List Act) (b : Bool) → HasRoom s
     → is_lost (answer_in s x.octets) ≡ b
-    → handed_by s (take_act b x (early_act (goes_in eager s x.octets) acts))
+    → handed_by s (take_act b x (hands (early_in eager s x.octets) acts))
     ≡ handed_in eager s x.octets ++ handed_by (turned eager s x.octets) acts
 handed_act eager s x acts true h e = lost_step eager s x.octets acts (leaves s x.octets h e)
 handed_act eager s x acts false h e = step_acts eager s x.octets acts
@@ -206,24 +198,12 @@ handed_kept eager s (x ∷ xs) h =
     ∙ sym (append_assoc (handed_in eager s x.octets) (handed_while eager t ds)
     (frames_in (state_behind eager t ds)))
 
-none_early : (e : Bool) (s : Following) (acts : List Act) → NoneLost (state_early e s) acts
-    → NoneLost s (early_act e acts)
-none_early true s acts h = h
-none_early false s acts h = h
-
 none_step : (eager : Bool) (s : Following) (octets : List ℕ) (acts : List Act) → Leaves s octets
     → NoneLost (turned eager s octets) acts
-    → NoneLost s (early_act (goes_in eager s octets) acts)
-unfolding turned
+    → NoneLost s (hands (early_in eager s octets) acts)
 none_step eager s octets acts h none =
-    let t : Following = state_after s octets in
-    let here : NoneLost (state_early (goes_early eager s) s) acts =
-    subst (λ (u : Following). NoneLost (state_early (goes_early eager u) u) acts) h.after
-    (subst (λ (b : Bool). NoneLost (cond b (state_after (without_oldest s) octets)
-    (state_early (goes_early eager t) t)) acts) h.due none) in
-    subst (λ (b : Bool). NoneLost s (early_act (cond b false (goes_early eager t)) acts)) (sym h.due)
-    (subst (λ (u : Following). NoneLost s (early_act (goes_early eager u) acts)) (sym h.after)
-    (none_early (goes_early eager s) s acts here))
+    subst (λ (u : Following). NoneLost u (hands (early_in eager s octets) acts))
+    (taken-on s octets h.due ∙ h.after) (lost_acts eager s octets acts none)
 
 not_lost : (r : Result Followed Refusal) → is_lost r ≡ false
     → (r ≡ Ok Late → ⊥) × (r ≡ Ok Far → ⊥)
@@ -235,7 +215,7 @@ not_lost (Err e) h = (λ f. cc, λ f. cc)
 
 none_act : (eager : Bool) (s : Following) (x : Timed) (acts : List Act) (b : Bool) → HasRoom s
     → is_lost (answer_in s x.octets) ≡ b → NoneLost (turned eager s x.octets) acts
-    → NoneLost s (take_act b x (early_act (goes_in eager s x.octets) acts))
+    → NoneLost s (take_act b x (hands (early_in eager s x.octets) acts))
 none_act eager s x acts true h e none =
     none_step eager s x.octets acts (leaves s x.octets h e) none
 none_act eager s x acts false h e none =

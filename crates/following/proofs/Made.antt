@@ -17,11 +17,11 @@ use Rattle.following.specs.declared.standing.Standing.TheVariants.{Beyond, Insid
 use Rattle.following.specs.declared.standing.Standing.TheVariants.{Nowhere}
 use Rattle.following.specs.Follower.{Following, brought_in, joined, opened, read_in, reading_of}
 use Rattle.following.specs.Follower.{standing_of, state_after, taken_in, without_oldest}
-use Rattle.following.specs.Following.{Handed, frames_in, is_due, with_timestamps}
+use Rattle.following.specs.Following.{Handed, frames_in, handed_before, is_due, with_timestamps}
 use Rattle.following.specs.Pictures.{IsOfSome}
 use Rattle.following.specs.Times.{frame_of}
-use Rattle.following.specs.Turned.{goes_early, handed_all, handed_early, handed_in, handed_while}
-use Rattle.following.specs.Turned.{state_behind, state_early, turned}
+use Rattle.following.specs.Turned.{early_count, handed_all, handed_early, handed_in, handed_while}
+use Rattle.following.specs.Turned.{state_behind, state_taken, turned, without_first}
 use Rattle.following.proofs.FrameLemmas.{blank_is, frame_both}
 use Rattle.following.proofs.Kept.{comes_to, within_window}
 use Rattle.following.proofs.Rises.{Stands, stands_oldest, stands_read}
@@ -160,25 +160,24 @@ made_oldest o all s h = record {
   made = made_drop o all s.opening.window s.frames h.made;
 }
 
-made_early : (o : Opening) (all : List (List ℕ)) (b : Bool) (s : Following) → IsMade o all s
-    → IsMade o all (state_early b s)
-made_early o all true s h = made_oldest o all s h
-made_early o all false s h = h
+made_early : (o : Opening) (all : List (List ℕ)) (n : ℕ) (s : Following) → IsMade o all s
+    → IsMade o all (without_first n s)
+made_early o all zero s h = h
+made_early o all (suc n) s h = made_early o all n (without_oldest s) (made_oldest o all s h)
 
-made_turn : (o : Opening) (all : List (List ℕ)) (b e : Bool) (s : Following) (octets : List ℕ)
+made_ready : (o : Opening) (all : List (List ℕ)) (b : Bool) (s : Following) (octets : List ℕ)
     → IsMade o all s → IsMember octets all
-    → IsMade o all
-    (cond b (state_after (without_oldest s) octets) (state_early e (state_after s octets)))
-made_turn o all true e s octets h m =
+    → IsMade o all (state_after (cond b (without_oldest s) s) octets)
+made_ready o all true s octets h m =
     made_after o all (without_oldest s) octets (made_oldest o all s h) m
-made_turn o all false e s octets h m =
-    made_early o all e (state_after s octets) (made_after o all s octets h m)
+made_ready o all false s octets h m = made_after o all s octets h m
 
 made_turned : (o : Opening) (all : List (List ℕ)) (eager : Bool) (s : Following) (octets : List ℕ)
     → IsMade o all s → IsMember octets all → IsMade o all (turned eager s octets)
 unfolding turned
 made_turned o all eager s octets h m =
-    made_turn o all (is_due s octets) (goes_early eager (state_after s octets)) s octets h m
+    let t : Following = state_taken s octets in
+    made_early o all (early_count eager t) t (made_ready o all (is_due s octets) s octets h m)
 
 -- ---- what is handed out
 
@@ -190,31 +189,35 @@ made_in o all (t ∷ w) (r ∷ rs) h made (inl e) =
     subst (λ (x : Handed). IsOfSome o all x) (sym e) made.0
 made_in o all (t ∷ w) (r ∷ rs) h made (inr m) = made_in o all w rs h made.1 m
 
-in_first : (h : Handed) (hs : List Handed) → IsMember h (take 1 hs) → IsMember h hs
-in_first h [] m = m
-in_first h (x ∷ hs) (inl e) = inl e
-in_first h (x ∷ hs) (inr m) = absurd m
+pub in_first : (n : ℕ) (h : Handed) (hs : List Handed) → IsMember h (take n hs) → IsMember h hs
+in_first zero h hs m = absurd m
+in_first (suc n) h [] m = absurd m
+in_first (suc n) h (x ∷ hs) (inl e) = inl e
+in_first (suc n) h (x ∷ hs) (inr m) = inr (in_first n h hs m)
 
-made_first : (o : Opening) (all : List (List ℕ)) (s : Following) (h : Handed) → IsMade o all s
-    → IsMember h (take 1 (frames_in s)) → IsOfSome o all h
-made_first o all s h made m =
-    made_in o all s.opening.window s.frames h made.made (in_first h (frames_in s) m)
+made_first : (o : Opening) (all : List (List ℕ)) (n : ℕ) (s : Following) (h : Handed)
+    → IsMade o all s → IsMember h (take n (frames_in s)) → IsOfSome o all h
+made_first o all n s h made m =
+    made_in o all s.opening.window s.frames h made.made (in_first n h (frames_in s) m)
 
-handed_turn : (o : Opening) (all : List (List ℕ)) (b e : Bool) (s : Following) (octets : List ℕ)
-    (h : Handed) → IsMade o all s → IsMember octets all
-    → IsMember h (cond b (take 1 (frames_in s)) (handed_early e (state_after s octets)))
-    → IsOfSome o all h
-handed_turn o all true e s octets h made m k = made_first o all s h made k
-handed_turn o all false true s octets h made m k =
-    made_first o all (state_after s octets) h (made_after o all s octets made m) k
-handed_turn o all false false s octets h made m k = absurd k
+before_made : (o : Opening) (all : List (List ℕ)) (b : Bool) (s : Following) (h : Handed)
+    → IsMade o all s → IsMember h (cond b (take 1 (frames_in s)) []) → IsOfSome o all h
+before_made o all true s h made k = made_first o all 1 s h made k
+before_made o all false s h made k = absurd k
 
 handed_made : (o : Opening) (all : List (List ℕ)) (eager : Bool) (s : Following) (octets : List ℕ)
     (h : Handed) → IsMade o all s → IsMember octets all → IsMember h (handed_in eager s octets)
     → IsOfSome o all h
 unfolding handed_in
 handed_made o all eager s octets h made m k =
-    handed_turn o all (is_due s octets) (goes_early eager (state_after s octets)) s octets h made m k
+    at (member_cases h (handed_before s octets) (handed_early eager (state_taken s octets)) k)
+  where
+    at : IsMember h (handed_before s octets)
+        ⊎ IsMember h (handed_early eager (state_taken s octets)) → IsOfSome o all h
+    at (inl j) = before_made o all (is_due s octets) s h made j
+    at (inr j) =
+        made_first o all (early_count eager (state_taken s octets)) (state_taken s octets) h
+        (made_ready o all (is_due s octets) s octets made m) j
 
 -- of the first datagram, and of the rest
 parts_made : (o : Opening) (all : List (List ℕ)) (eager : Bool) (s t : Following) (d : List ℕ)

@@ -1,26 +1,27 @@
 -- What is handed out of a prompt stream, where complete frames may go early.
 use Rattle.std.proofs.Common.{◌≡◌, ℕ, suc, ◌+◌, ◌<◌, ◌≤◌, ◌⊎◌, inl, inr, Bool, true, false}
-use Rattle.std.proofs.Common.{List, [], ◌∷◌, ◌++◌, length, map, Option, None, Some, Result, Ok, Err}
-use Rattle.std.proofs.Common.{refl, sym, ap, ◌∙◌, subst, arith, append_assoc, append-nil}
+use Rattle.std.proofs.Common.{List, [], ◌∷◌, ◌++◌, length, map, take, Option, None, Some, Result}
+use Rattle.std.proofs.Common.{Ok, Err, refl, sym, ap, ◌∙◌, subst, arith, append_assoc, append-nil}
 use Rattle.std.specs.List.{filter}
 use Rattle.std.proofs.lemmas.Bool.{and_parts, cases_lt, false≢true}
 use Rattle.st_format.specs.Member.{IsMember}
 use Rattle.st_format.specs.Raster.{Raster}
-use Rattle.st_format.proofs.Members.{member_cases, member_left, member_right}
+use Rattle.st_format.proofs.Members.{member_left, member_right}
 use Rattle.path_receiver.specs.declared.answer.Refusal.{Refusal}
 use Rattle.path_receiver.specs.Grammar.{Datagram}
 use Rattle.path_receiver.specs.Opening.{Opening}
 use Rattle.following.specs.Acts.{AreNearby}
 use Rattle.following.specs.Serial.{wrapped}
 use Rattle.following.specs.Follower.{Following, opened, read_in, reading_of, standing_of}
-use Rattle.following.specs.Follower.{state_after, taken_in}
-use Rattle.following.specs.Following.{Handed, frames_in, is_due, is_waiting}
+use Rattle.following.specs.Follower.{state_after, taken_in, without_oldest}
+use Rattle.following.specs.Following.{Handed, frames_in, handed_before, is_due, is_waiting}
 use Rattle.following.specs.Prompt.{AreAgreed, IsPrompt}
 use Rattle.following.specs.Stream.{ShowsAll}
 use Rattle.following.specs.Times.{AreTimed, IsGreatest, Timed, handed_at, in_order, newer_than}
 use Rattle.following.specs.Times.{octets_of, times_of, with_time}
 use Rattle.following.specs.Turned.{first_complete, goes_early, handed_all, handed_early, handed_in}
-use Rattle.following.specs.Turned.{handed_while, is_complete, state_behind, state_early, turned}
+use Rattle.following.specs.Turned.{handed_while, is_complete, state_behind, state_early}
+use Rattle.following.specs.Turned.{state_taken, turned}
 use Rattle.following.proofs.Early.{IsNext, IsOver, IsStage, gone_older, kept_whole, near_end}
 use Rattle.following.proofs.Early.{near_in, one_more, standing-over}
 use Rattle.following.proofs.FrameLemmas.{frame_kept}
@@ -31,9 +32,11 @@ use Rattle.following.proofs.Ordered.{with_time-there}
 use Rattle.following.proofs.Repeats.{completed, repeated, still_complete, still_newer}
 use Rattle.following.proofs.Rising.{all_member}
 use Rattle.following.proofs.Streams.{Ends, EndsIn, all_newer_than, below_end, came, cases_member}
-use Rattle.following.proofs.Streams.{end_in, in_parts, in_reach}
-use Rattle.following.proofs.Streams.{order_more, rises, times_at, times_refused}
-use Rattle.following.proofs.Turning.{handed-due, handed-on, turned-due, turned-on, with_rest}
+use Rattle.following.proofs.Streams.{end_in, in_parts, in_reach, older_all, order_more, rises}
+use Rattle.following.proofs.Streams.{times_at, times_refused}
+use Rattle.following.proofs.Turning.{before-due, before-on, handed_more}
+use Rattle.following.proofs.Turning.{handed_still, state_more, state_none, taken-due, taken-on}
+use Rattle.following.proofs.Turning.{with_rest}
 use Rattle.following.proofs.WholeList.{map_members, times_has}
 use Rattle.following.proofs.Windows.{after-inside, after-new, after-refused, due-full, due-inside}
 use Rattle.following.proofs.Windows.{due-new, due-refused, frame_at_time, frames_in-shaped, shaped}
@@ -112,17 +115,50 @@ record HandsOut (eager : Bool) (o : Opening) (size ahead : ℕ) (zs xs ys : List
   handed : handed_all eager (shaped o size ahead xs last win) (octets_of ys)
       ≡ map (handed_at o zs) rest
 
+-- what is handed out from where a datagram was taken on: first the frames that go early
+abbrev all_from : Bool → Following → List (List ℕ) → List Handed
+all_from eager s ds = handed_early eager s ++ handed_all eager (state_early eager s) ds
+
+-- so from there on it is the rest
+record HandsOn (eager : Bool) (o : Opening) (size ahead : ℕ) (zs xs ys : List Timed)
+    (gone : List ℕ) (last : Option ℕ) (win : List ℕ) : Type 0 where
+  rest : List ℕ
+  order : in_order (times_of o zs) ≡ gone ++ rest
+  handed : all_from eager (shaped o size ahead xs last win) (octets_of ys)
+      ≡ map (handed_at o zs) rest
+
 -- ---- one turn, and the rest
 
 all_turn : (eager : Bool) (s t : Following) (octets : List ℕ) (ds : List (List ℕ))
-    (hs : List Handed) → t ≡ turned eager s octets → hs ≡ handed_in eager s octets
-    → handed_all eager s (octets ∷ ds) ≡ hs ++ handed_all eager t ds
+    (hs : List Handed) → state_taken s octets ≡ t → handed_before s octets ≡ hs
+    → handed_all eager s (octets ∷ ds) ≡ hs ++ all_from eager t ds
+unfolding turned handed_in
 all_turn eager s t octets ds hs same is =
-    let u : Following = turned eager s octets in
-    append_assoc (handed_in eager s octets) (handed_while eager u ds)
+    let taken : Following = state_taken s octets in
+    let u : Following = state_early eager taken in
+    append_assoc (handed_before s octets ++ handed_early eager taken) (handed_while eager u ds)
     (frames_in (state_behind eager u ds))
-    ∙ ap (λ (l : List Handed). l ++ handed_all eager u ds) (sym is)
-    ∙ ap (λ (x : Following). hs ++ handed_all eager x ds) (sym same)
+    ∙ append_assoc (handed_before s octets) (handed_early eager taken) (handed_all eager u ds)
+    ∙ ap (λ (l : List Handed). l ++ all_from eager taken ds) is
+    ∙ ap (λ (x : Following). hs ++ all_from eager x ds) same
+
+from_still : (eager : Bool) (s : Following) (ds : List (List ℕ)) → goes_early eager s ≡ false
+    → all_from eager s ds ≡ handed_all eager s ds
+from_still eager s ds stays =
+    ap (λ (l : List Handed). l ++ handed_all eager (state_early eager s) ds)
+    (handed_still eager s stays)
+    ∙ ap (λ (x : Following). handed_all eager x ds) (state_none eager s stays)
+
+from_more : (eager : Bool) (s : Following) (ds : List (List ℕ)) → goes_early eager s ≡ true
+    → all_from eager s ds ≡ take 1 (frames_in s) ++ all_from eager (without_oldest s) ds
+from_more eager s ds goes =
+    let t : Following = without_oldest s in
+    ap (λ (l : List Handed). l ++ handed_all eager (state_early eager s) ds)
+    (handed_more eager s goes)
+    ∙ append_assoc (take 1 (frames_in s)) (handed_early eager t)
+    (handed_all eager (state_early eager s) ds)
+    ∙ ap (λ (x : Following). take 1 (frames_in s) ++ (handed_early eager t ++ handed_all eager x ds))
+    (state_more eager s goes)
 
 none_first : first_complete [] ≡ true → ⊥
 unfolding first_complete
@@ -142,107 +178,109 @@ module _ (eager : Bool) (o : Opening) (size ahead : ℕ) (zs : List Timed) where
       (gone win : List ℕ) (last : Option ℕ) → IsStage o size ahead xs gone last win
       → HasWent eager o size xs last → Out xs ys gone last win
 
-  -- nothing was due, and nothing goes early
-  stays : (xs ys : List Timed) (y : Timed) (gone : List ℕ) (last : Option ℕ) (win new : List ℕ)
-      → is_due (shaped o size ahead xs last win) y.octets ≡ false
-      → state_after (shaped o size ahead xs last win) y.octets
-      ≡ shaped o size ahead (xs ++ y ∷ []) last new
-      → goes_early eager (shaped o size ahead (xs ++ y ∷ []) last new) ≡ false
-      → Out (xs ++ y ∷ []) ys gone last new → Out xs (y ∷ ys) gone last win
-  stays xs ys y gone last win new due after still h =
-      let s : Following = shaped o size ahead xs last win in
-      let t : Following = shaped o size ahead (xs ++ y ∷ []) last new in
-      record {
-        rest = h.rest;
-        order = h.order;
-        handed =
-            all_turn eager s t y.octets (octets_of ys) []
-            (turned-on eager s t t y.octets due (sym after)
-            (sym (ap (λ (b : Bool). state_early b t) still)))
-            (handed-on eager s t y.octets [] due (sym after)
-            (sym (ap (λ (b : Bool). handed_early b t) still)))
-            ∙ h.handed;
-      }
+  abbrev On : List Timed → List Timed → List ℕ → Option ℕ → List ℕ → Type 0
+  On xs ys gone last win = HandsOn eager o size ahead zs xs ys gone last win
+
+  -- the oldest isn't complete, or frames don't go early
+  stays : (xs ys : List Timed) (gone : List ℕ) (last : Option ℕ) (win : List ℕ)
+      → goes_early eager (shaped o size ahead xs last win) ≡ false
+      → Out xs ys gone last win → On xs ys gone last win
+  stays xs ys gone last win still h = record {
+    rest = h.rest;
+    order = h.order;
+    handed =
+        from_still eager (shaped o size ahead xs last win) (octets_of ys) still ∙ h.handed;
+  }
 
   -- the oldest is complete, and goes early
-  leaves : (xs ys : List Timed) (y : Timed) (gone : List ℕ) (last : Option ℕ) (win : List ℕ)
-      (v : ℕ) (new : List ℕ)
-      → is_due (shaped o size ahead xs last win) y.octets ≡ false
-      → state_after (shaped o size ahead xs last win) y.octets
-      ≡ shaped o size ahead (xs ++ y ∷ []) last (v ∷ new)
-      → goes_early eager (shaped o size ahead (xs ++ y ∷ []) last (v ∷ new)) ≡ true
-      → handed_at o (xs ++ y ∷ []) v ≡ handed_at o zs v
-      → Out (xs ++ y ∷ []) ys (gone ++ v ∷ []) (Some v) new → Out xs (y ∷ ys) gone last win
-  leaves xs ys y gone last win v new due after goes whole h =
-      let s : Following = shaped o size ahead xs last win in
-      let t : Following = shaped o size ahead (xs ++ y ∷ []) last (v ∷ new) in
-      let u : Following = shaped o size ahead (xs ++ y ∷ []) (Some v) new in
-      let one : Handed = handed_at o (xs ++ y ∷ []) v in
-      record {
-        rest = v ∷ h.rest;
-        order = h.order ∙ append_assoc gone (v ∷ []) h.rest;
-        handed =
-            all_turn eager s u y.octets (octets_of ys) (one ∷ [])
-            (turned-on eager s t u y.octets due (sym after)
-            (sym (ap (λ (b : Bool). state_early b t) goes)))
-            (handed-on eager s t y.octets (one ∷ []) due (sym after)
-            (sym (ap (λ (b : Bool). handed_early b t) goes)))
-            ∙ ap (λ (hs : List Handed). one ∷ hs) h.handed
-            ∙ ap (λ (x : Handed). x ∷ map (handed_at o zs) h.rest) whole;
-      }
-
-  -- the oldest was due
-  hand_on : (xs ys : List Timed) (y : Timed) (gone : List ℕ) (last : Option ℕ) (v : ℕ)
-      (win new : List ℕ)
-      → is_due (shaped o size ahead xs last (v ∷ win)) y.octets ≡ true
-      → state_after (shaped o size ahead xs (Some v) win) y.octets
-      ≡ shaped o size ahead (xs ++ y ∷ []) (Some v) new
+  leaves : (xs ys : List Timed) (gone : List ℕ) (last : Option ℕ) (v : ℕ) (win : List ℕ)
+      → goes_early eager (shaped o size ahead xs last (v ∷ win)) ≡ true
       → handed_at o xs v ≡ handed_at o zs v
-      → Out (xs ++ y ∷ []) ys (gone ++ v ∷ []) (Some v) new
-      → Out xs (y ∷ ys) gone last (v ∷ win)
-  hand_on xs ys y gone last v win new due after whole h =
+      → On xs ys (gone ++ v ∷ []) (Some v) win → On xs ys gone last (v ∷ win)
+  leaves xs ys gone last v win goes whole h =
       let s : Following = shaped o size ahead xs last (v ∷ win) in
-      let t : Following = shaped o size ahead (xs ++ y ∷ []) (Some v) new in
       let one : Handed = handed_at o xs v in
       record {
         rest = v ∷ h.rest;
         order = h.order ∙ append_assoc gone (v ∷ []) h.rest;
         handed =
-            all_turn eager s t y.octets (octets_of ys) (one ∷ [])
-            (sym (turned-due eager s y.octets due ∙ after))
-            (sym (handed-due eager s y.octets due))
+            from_more eager s (octets_of ys) goes
             ∙ ap (λ (hs : List Handed). one ∷ hs) h.handed
             ∙ ap (λ (x : Handed). x ∷ map (handed_at o zs) h.rest) whole;
       }
 
-  -- where nothing is due: the oldest goes then, if it may
-  go_on : Settles eager o size zs → (xs ys : List Timed) (y : Timed) → zs ≡ (xs ++ y ∷ []) ++ ys
-      → (gone : List ℕ) (last : Option ℕ) (win new : List ℕ) (b : Bool)
-      → is_due (shaped o size ahead xs last win) y.octets ≡ false
-      → state_after (shaped o size ahead xs last win) y.octets
-      ≡ shaped o size ahead (xs ++ y ∷ []) last new
-      → goes_early eager (shaped o size ahead (xs ++ y ∷ []) last new) ≡ b
-      → Goes (xs ++ y ∷ []) ys → IsStage o size ahead (xs ++ y ∷ []) gone last new
-      → HasWent eager o size xs last → Out xs (y ∷ ys) gone last win
-  go_on settled xs ys y e gone last win new false due after goes go stage went =
-      stays xs ys y gone last win new due after goes
-      (go gone new last stage (still_went eager o size xs y last went))
-  go_on settled xs ys y e gone last win [] true due after goes go stage went =
+  -- all that are complete go, up to one that isn't
+  early_on : Settles eager o size zs → (xs ys : List Timed) → zs ≡ xs ++ ys → Goes xs ys
+      → (win gone : List ℕ) (last : Option ℕ) (b : Bool)
+      → goes_early eager (shaped o size ahead xs last win) ≡ b
+      → IsStage o size ahead xs gone last win → HasWent eager o size xs last
+      → On xs ys gone last win
+  early_on settled xs ys e go win gone last false goes stage went =
+      stays xs ys gone last win goes (go gone win last stage went)
+  early_on settled xs ys e go [] gone last true goes stage went =
       absurd (none_first (and_parts eager (first_complete []) goes).1)
-  go_on settled xs ys y e gone last win (v ∷ new) true due after goes go stage went =
-      let k =
-      and_parts eager (first_complete (map (frame_at_time o (xs ++ y ∷ [])) (v ∷ new))) goes in
-      let full : is_complete (frame_at_time o (xs ++ y ∷ []) v) ≡ true =
-      one_first (frame_at_time o (xs ++ y ∷ []) v) (map (frame_at_time o (xs ++ y ∷ [])) new) k.1 in
-      leaves xs ys y gone last win v new due after goes
-      (settled.early (xs ++ y ∷ []) ys v e k.0 full)
-      (go (gone ++ v ∷ []) new (Some v)
+  early_on settled xs ys e go (v ∷ win) gone last true goes stage went =
+      let k = and_parts eager (first_complete (map (frame_at_time o xs) (v ∷ win))) goes in
+      let full : is_complete (frame_at_time o xs v) ≡ true =
+      one_first (frame_at_time o xs v) (map (frame_at_time o xs) win) k.1 in
+      leaves xs ys gone last v win goes (settled.early xs ys v e k.0 full)
+      (early_on settled xs ys e go win (gone ++ v ∷ []) (Some v)
+      (goes_early eager (shaped o size ahead xs (Some v) win)) refl
       (record {
-        times = stage.times ∙ sym (append_assoc gone (v ∷ []) new);
+        times = stage.times ∙ sym (append_assoc gone (v ∷ []) win);
         room = omega (arith, stage.room);
         ends = record { front = gone; is = refl };
       })
       (inr (k.0, full)))
+
+  -- where the oldest was due it goes first
+  hand_on : Settles eager o size zs → (xs ys : List Timed) (y : Timed)
+      → zs ≡ (xs ++ y ∷ []) ++ ys → (gone : List ℕ) (last : Option ℕ) (v : ℕ) (win new : List ℕ)
+      → is_due (shaped o size ahead xs last (v ∷ win)) y.octets ≡ true
+      → state_after (shaped o size ahead xs (Some v) win) y.octets
+      ≡ shaped o size ahead (xs ++ y ∷ []) (Some v) new
+      → handed_at o xs v ≡ handed_at o zs v → Goes (xs ++ y ∷ []) ys
+      → IsStage o size ahead (xs ++ y ∷ []) (gone ++ v ∷ []) (Some v) new
+      → HasWent eager o size (xs ++ y ∷ []) (Some v) → Out xs (y ∷ ys) gone last (v ∷ win)
+  hand_on settled xs ys y e gone last v win new due after whole go stage went =
+      let s : Following = shaped o size ahead xs last (v ∷ win) in
+      let t : Following = shaped o size ahead (xs ++ y ∷ []) (Some v) new in
+      let one : Handed = handed_at o xs v in
+      let h : On (xs ++ y ∷ []) ys (gone ++ v ∷ []) (Some v) new =
+      early_on settled (xs ++ y ∷ []) ys e go new (gone ++ v ∷ []) (Some v) (goes_early eager t)
+      refl stage went in
+      record {
+        rest = v ∷ h.rest;
+        order = h.order ∙ append_assoc gone (v ∷ []) h.rest;
+        handed =
+            all_turn eager s t y.octets (octets_of ys) (one ∷ [])
+            (taken-due s y.octets due ∙ after) (before-due s y.octets due)
+            ∙ ap (λ (hs : List Handed). one ∷ hs) h.handed
+            ∙ ap (λ (x : Handed). x ∷ map (handed_at o zs) h.rest) whole;
+      }
+
+  -- where nothing is due: the oldest go then, if they may
+  go_on : Settles eager o size zs → (xs ys : List Timed) (y : Timed) → zs ≡ (xs ++ y ∷ []) ++ ys
+      → (gone : List ℕ) (last : Option ℕ) (win new : List ℕ)
+      → is_due (shaped o size ahead xs last win) y.octets ≡ false
+      → state_after (shaped o size ahead xs last win) y.octets
+      ≡ shaped o size ahead (xs ++ y ∷ []) last new
+      → Goes (xs ++ y ∷ []) ys → IsStage o size ahead (xs ++ y ∷ []) gone last new
+      → HasWent eager o size xs last → Out xs (y ∷ ys) gone last win
+  go_on settled xs ys y e gone last win new due after go stage went =
+      let s : Following = shaped o size ahead xs last win in
+      let t : Following = shaped o size ahead (xs ++ y ∷ []) last new in
+      let h : On (xs ++ y ∷ []) ys gone last new =
+      early_on settled (xs ++ y ∷ []) ys e go new gone last (goes_early eager t) refl stage
+      (still_went eager o size xs y last went) in
+      record {
+        rest = h.rest;
+        order = h.order;
+        handed =
+            all_turn eager s t y.octets (octets_of ys) [] (taken-on s y.octets due ∙ after)
+            (before-on s y.octets due)
+            ∙ h.handed;
+      }
 
 -- ---- a time that has come before
 
@@ -368,15 +406,6 @@ not_oldest size u v us gone win e up ne full few = at (cases_lt v u)
         many_newer u gone (v ∷ win) (above (less_of u v ne le)) in
         absurd (omega (arith, all, less, full))
 
-older_all : (u v : ℕ) (gone : List ℕ) → ((x : ℕ) → IsMember x gone → x < u) → v < u → (x : ℕ)
-    → IsMember x (gone ++ v ∷ []) → x < u
-older_all u v gone less lt x m = at (member_cases x gone (v ∷ []) m)
-  where
-    at : IsMember x gone ⊎ IsMember x (v ∷ []) → x < u
-    at (inl k) = less x k
-    at (inr (inl e)) = omega (arith, lt, e)
-    at (inr (inr k)) = absurd k
-
 -- so many newer ones have come
 many_come : (size v : ℕ) (us front new : List ℕ) → in_order us ≡ front ++ new
     → size ≤ length new → ((x : ℕ) → IsMember x new → v < x) → size ≤ length (newer_than v us)
@@ -403,9 +432,8 @@ module _ (eager : Bool) (o : Opening) (size ahead : ℕ) (zs : List Timed)
       near_in size y.time us gone win on.next stage.times h stage.room in
       let up : Rises win = rises_last gone win h in
       go_on eager o size ahead zs settled xs ys y e gone last win win
-      (goes_early eager (shaped o size ahead (xs ++ y ∷ []) last win))
       (due-inside o size ahead xs y d last win read stamp within near up m)
-      (after-inside o size ahead xs y d last win read stamp within near up m) refl go
+      (after-inside o size ahead xs y d last win read stamp within near up m) go
       (record {
         times = again o xs y d read came_in ∙ stage.times;
         room = stage.room;
@@ -432,9 +460,8 @@ module _ (eager : Bool) (o : Opening) (size ahead : ℕ) (zs : List Timed)
       let over : IsOver last y.time =
       is_over size y.time us gone win last on.next stage.times h stage.room stage.ends m in
       go_on eager o size ahead zs settled xs ys y e gone last win win
-      (goes_early eager (shaped o size ahead (xs ++ y ∷ []) last win))
       (due_over o size ahead xs y d last win read stamp within near out over)
-      (after_over o size ahead xs y d last win read stamp within near out over) refl go
+      (after_over o size ahead xs y d last win read stamp within near out over) go
       (record {
         times = again o xs y d read came_in ∙ stage.times;
         room = stage.room;
@@ -460,10 +487,9 @@ module _ (eager : Bool) (o : Opening) (size ahead : ℕ) (zs : List Timed)
       λ m. fresh (came u us (gone ++ win) stage.times (member_right u gone win m)) in
       let new : List ℕ = with_time u win in
       go_on eager o size ahead zs settled xs ys y e gone last win new
-      (goes_early eager (shaped o size ahead (xs ++ y ∷ []) last new))
       (due-new o size ahead xs y d last win read stamp within near up out past room)
       (after-new o size ahead xs y d last win read stamp within near up out fresh past room)
-      refl go
+      go
       (record {
         times =
             order_more o xs y d gone win read stage.times
@@ -515,18 +541,17 @@ module _ (eager : Bool) (o : Opening) (size ahead : ℕ) (zs : List Timed)
       let many : size ≤ length (newer_than v (times_of o (xs ++ y ∷ []))) =
       many_come size v (times_of o (xs ++ y ∷ [])) (gone ++ v ∷ []) new times
       (omega (arith, count, full)) (all_newer_than u v win newer up.0) in
-      hand_on eager o size ahead zs xs ys y gone last v win new
+      hand_on eager o size ahead zs settled xs ys y e gone last v win new
       (due-full o size ahead xs y d last v win read stamp within near up out past full newer)
       (after-new o size ahead xs y d (Some v) win read stamp within (λ x m. near x (inr m)) up.1
       out_rest fresh (newer, near v (inl refl)) (omega (arith, stage.room)))
-      (all_came xs ys y e v (not_same v u newer) many)
-      (go (gone ++ v ∷ []) new (Some v)
+      (all_came xs ys y e v (not_same v u newer) many) go
       (record {
         times = times;
         room = omega (arith, count, stage.room);
         ends = record { front = gone; is = refl };
       })
-      (inl many))
+      (inl many)
 
   step_new : 0 < size → (xs ys : List Timed) (y : Timed) → zs ≡ (xs ++ y ∷ []) ++ ys
       → (d : Datagram) → reading_of o y.octets ≡ Ok d → d.timestamp ≡ wrapped y.time
@@ -584,9 +609,8 @@ module _ (eager : Bool) (o : Opening) (size ahead : ℕ) (zs : List Timed)
       → HasWent eager o size xs last → Out eager o size ahead zs xs (y ∷ ys) gone last win
   step_refused xs ys y e f read go gone win last stage went =
       go_on eager o size ahead zs settled xs ys y e gone last win win
-      (goes_early eager (shaped o size ahead (xs ++ y ∷ []) last win))
       (due-refused o size ahead xs y f last win read)
-      (after-refused o size ahead xs y f last win read) refl go
+      (after-refused o size ahead xs y f last win read) go
       (record {
         times = ap in_order (times_refused o xs y f read) ∙ stage.times;
         room = stage.room;

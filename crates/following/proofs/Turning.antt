@@ -1,7 +1,8 @@
 -- A follower's turns, one after the other.
-use Rattle.std.proofs.Common.{◌≡◌, ℕ, ◌<◌, inl, inr, Bool, true, false, cond, List, [], ◌∷◌, ◌++◌}
-use Rattle.std.proofs.Common.{map, take, None, Some, Result, Ok, refl, sym, ap, ◌∙◌}
-use Rattle.std.proofs.Common.{subst, append_assoc}
+use Rattle.std.proofs.Common.{◌≡◌, ℕ, zero, suc, ◌<◌, inl, inr, Bool, true, false, cond, List, []}
+use Rattle.std.proofs.Common.{◌∷◌, ◌++◌, length, map, drop, take, None, Some, Result, Ok, Err, refl, sym, ap}
+use Rattle.std.proofs.Common.{◌∙◌, subst, arith, append_assoc, append-nil}
+use Rattle.std.proofs.lemmas.Bool.{false≢true}
 use Rattle.std.specs.Prelude.{slice_get}
 use Rattle.st_format.specs.Device.{AreOctets}
 use Rattle.st_format.specs.Raster.{Raster}
@@ -13,13 +14,17 @@ use Rattle.following.specs.Acts.{Act, AreNearby, NoneLost, handed_by, taken_of}
 use Rattle.following.specs.Acts.Act.{Takes, Hands}
 use Rattle.following.specs.Follower.{Following, IsFollower, answer_to, opened, state_after}
 use Rattle.following.specs.Follower.{without_oldest}
-use Rattle.following.specs.Following.{Handed, frames_in, handed_before, handed_out, is_due, ready_for}
+use Rattle.following.specs.Following.{Handed, frames_in, handed_before, handed_out, is_due}
 use Rattle.following.specs.Following.{with_timestamps}
-use Rattle.following.specs.Stream.{NoneDropped, ShowsAll}
+use Rattle.following.specs.Stream.{NoneDropped, ShowsAll, still_early, without_early}
+use Rattle.following.specs.declared.fault.StreamFault.{StreamFault}
+use Rattle.following.specs.declared.fault.StreamFault.TheVariants.{Source, Sink}
+use Rattle.path_receiver.specs.declared.receiving.Received.{Received}
 use Rattle.following.specs.Times.{AreTimed, IsOrderly, Timed, handed_at, in_order, octets_of, times_of}
-use Rattle.following.specs.Turned.{answer_in, answers_in, first_complete, goes_early, handed_as}
-use Rattle.following.specs.Turned.{handed_early, handed_in, handed_while, is_complete, state_behind}
-use Rattle.following.specs.Turned.{state_early, turned}
+use Rattle.following.specs.Turned.{answer_in, answers_in, complete_count, early_count}
+use Rattle.following.specs.Turned.{first_complete, goes_early, handed_as, handed_early, handed_in}
+use Rattle.following.specs.Turned.{handed_while, is_complete, state_behind, state_early, state_taken}
+use Rattle.following.specs.Turned.{turned, without_first}
 use Rattle.following.proofs.Early.{none_lost}
 use Rattle.following.proofs.Streams.{whole_stream}
 use Rattle.following.proofs.Taken.{due_iff}
@@ -27,36 +32,23 @@ use Rattle.following.proofs.Turns.{never_due}
 
 -- ---- one turn
 
-pub turned-due : (eager : Bool) (s : Following) (octets : List ℕ) → is_due s octets ≡ true
-    → turned eager s octets ≡ state_after (without_oldest s) octets
-unfolding turned
-turned-due eager s octets due =
-    ap (λ (b : Bool). cond b (state_after (without_oldest s) octets)
-    (state_early (goes_early eager (state_after s octets)) (state_after s octets))) due
+pub taken-due : (s : Following) (octets : List ℕ) → is_due s octets ≡ true
+    → state_taken s octets ≡ state_after (without_oldest s) octets
+taken-due s octets due =
+    ap (λ (b : Bool). state_after (cond b (without_oldest s) s) octets) due
 
-pub turned-on : (eager : Bool) (s t u : Following) (octets : List ℕ) → is_due s octets ≡ false
-    → t ≡ state_after s octets → u ≡ state_early (goes_early eager t) t → u ≡ turned eager s octets
-unfolding turned
-turned-on eager s t u octets due after early =
-    early ∙ ap (λ (x : Following). state_early (goes_early eager x) x) after
-    ∙ sym (ap (λ (b : Bool). cond b (state_after (without_oldest s) octets)
-    (state_early (goes_early eager (state_after s octets)) (state_after s octets))) due)
+pub taken-on : (s : Following) (octets : List ℕ) → is_due s octets ≡ false
+    → state_taken s octets ≡ state_after s octets
+taken-on s octets due =
+    ap (λ (b : Bool). state_after (cond b (without_oldest s) s) octets) due
 
-pub handed-due : (eager : Bool) (s : Following) (octets : List ℕ) → is_due s octets ≡ true
-    → handed_in eager s octets ≡ take 1 (frames_in s)
-unfolding handed_in
-handed-due eager s octets due =
-    ap (λ (b : Bool). cond b (take 1 (frames_in s))
-    (handed_early (goes_early eager (state_after s octets)) (state_after s octets))) due
+pub before-due : (s : Following) (octets : List ℕ) → is_due s octets ≡ true
+    → handed_before s octets ≡ take 1 (frames_in s)
+before-due s octets due = ap (λ (b : Bool). cond b (take 1 (frames_in s)) []) due
 
-pub handed-on : (eager : Bool) (s t : Following) (octets : List ℕ) (hs : List Handed)
-    → is_due s octets ≡ false → t ≡ state_after s octets → hs ≡ handed_early (goes_early eager t) t
-    → hs ≡ handed_in eager s octets
-unfolding handed_in
-handed-on eager s t octets hs due after early =
-    early ∙ ap (λ (x : Following). handed_early (goes_early eager x) x) after
-    ∙ sym (ap (λ (b : Bool). cond b (take 1 (frames_in s))
-    (handed_early (goes_early eager (state_after s octets)) (state_after s octets))) due)
+pub before-on : (s : Following) (octets : List ℕ) → is_due s octets ≡ false
+    → handed_before s octets ≡ []
+before-on s octets due = ap (λ (b : Bool). cond b (take 1 (frames_in s)) []) due
 
 pub answer-due : (s : Following) (octets : List ℕ) → is_due s octets ≡ true
     → answer_in s octets ≡ answer_to (without_oldest s) octets
@@ -103,21 +95,141 @@ unfolding first_complete
 complete_some [] r e = absurd cc
 complete_some (q ∷ rs) r e = let same : q ≡ r = cc in ap is_complete same
 
+-- ---- the frames that go early
+
+take-none : (hs : List Handed) (n : ℕ) → hs ≡ [] → take n hs ≡ []
+take-none [] zero e = refl
+take-none [] (suc n) e = refl
+take-none (h ∷ hs) n e = absurd cc
+
+first_more : (n : ℕ) (w : List ℕ) (rs : List Raster)
+    → take (suc n) (with_timestamps w rs)
+    ≡ take 1 (with_timestamps w rs) ++ take n (with_timestamps (drop 1 w) (drop 1 rs))
+first_more n [] rs = sym (take-none [] n refl)
+first_more n (t ∷ []) [] = sym (take-none [] n refl)
+first_more n (t ∷ u ∷ w) [] = sym (take-none [] n refl)
+first_more n (t ∷ w) (r ∷ rs) = refl
+
+-- the oldest, and so many more
+pub take_more : (n : ℕ) (s : Following)
+    → take (suc n) (frames_in s) ≡ take 1 (frames_in s) ++ take n (frames_in (without_oldest s))
+take_more n s = first_more n s.opening.window s.frames
+
+in_parts : (w : List ℕ) (rs : List Raster)
+    → take 1 (with_timestamps w rs) ++ with_timestamps (drop 1 w) (drop 1 rs) ≡ with_timestamps w rs
+in_parts [] rs = refl
+in_parts (t ∷ []) [] = refl
+in_parts (t ∷ u ∷ w) [] = refl
+in_parts (t ∷ w) (r ∷ rs) = refl
+
+-- so many, and those that are in without them
+first_rest : (n : ℕ) (s : Following)
+    → take n (frames_in s) ++ frames_in (without_first n s) ≡ frames_in s
+first_rest zero s = refl
+first_rest (suc n) s =
+    let t : Following = without_oldest s in
+    ap (λ (hs : List Handed). hs ++ frames_in (without_first n t)) (take_more n s)
+    ∙ append_assoc (take 1 (frames_in s)) (take n (frames_in t)) (frames_in (without_first n t))
+    ∙ ap (λ (hs : List Handed). take 1 (frames_in s) ++ hs) (first_rest n t)
+    ∙ in_parts s.opening.window s.frames
+
+count_more : (rs : List Raster) → first_complete rs ≡ true
+    → complete_count rs ≡ suc (complete_count (drop 1 rs))
+unfolding first_complete complete_count
+count_more [] full = absurd (false≢true full)
+count_more (r ∷ rs) full = ap (λ (b : Bool). cond b (suc (complete_count rs)) 0) full
+
+count_none : (rs : List Raster) → first_complete rs ≡ false → complete_count rs ≡ 0
+unfolding first_complete complete_count
+count_none [] lacks = refl
+count_none (r ∷ rs) lacks = ap (λ (b : Bool). cond b (suc (complete_count rs)) 0) lacks
+
+-- where the oldest goes early, so many go as without it, and it
+early_more : (eager : Bool) (s : Following) → goes_early eager s ≡ true
+    → early_count eager s ≡ suc (early_count eager (without_oldest s))
+early_more true s goes = count_more s.frames goes
+early_more false s goes = absurd (false≢true goes)
+
+early_none : (eager : Bool) (s : Following) → goes_early eager s ≡ false → early_count eager s ≡ 0
+early_none true s stays = count_none s.frames stays
+early_none false s stays = refl
+
+-- then there is one
+some_first : (rs : List Raster) → first_complete rs ≡ true → 0 < length rs
+unfolding first_complete
+some_first [] full = absurd (false≢true full)
+some_first (r ∷ rs) full = omega arith
+
+pub some_early : (eager : Bool) (s : Following) → goes_early eager s ≡ true
+    → length s.frames ≡ length s.opening.window → 0 < length s.opening.window
+some_early true s goes each = let some = some_first s.frames goes in omega (arith, each, some)
+some_early false s goes each = absurd (false≢true goes)
+
+pub state_more : (eager : Bool) (s : Following) → goes_early eager s ≡ true
+    → state_early eager s ≡ state_early eager (without_oldest s)
+state_more eager s goes = ap (λ (n : ℕ). without_first n s) (early_more eager s goes)
+
+pub state_none : (eager : Bool) (s : Following) → goes_early eager s ≡ false
+    → state_early eager s ≡ s
+state_none eager s stays = ap (λ (n : ℕ). without_first n s) (early_none eager s stays)
+
+pub handed_more : (eager : Bool) (s : Following) → goes_early eager s ≡ true
+    → handed_early eager s ≡ take 1 (frames_in s) ++ handed_early eager (without_oldest s)
+handed_more eager s goes =
+    ap (λ (n : ℕ). take n (frames_in s)) (early_more eager s goes)
+    ∙ take_more (early_count eager (without_oldest s)) s
+
+pub handed_still : (eager : Bool) (s : Following) → goes_early eager s ≡ false
+    → handed_early eager s ≡ []
+handed_still eager s stays =
+    ap (λ (n : ℕ). take n (frames_in s)) (early_none eager s stays)
+
+-- they, and those that are in then
+pub early_rest : (eager : Bool) (s : Following)
+    → handed_early eager s ++ frames_in (state_early eager s) ≡ frames_in s
+early_rest eager s = first_rest (early_count eager s) s
+
+count_first : (rs : List Raster) → complete_count rs ≡ 0 → first_complete rs ≡ false
+unfolding first_complete complete_count
+count_first [] is = refl
+count_first (r ∷ rs) is = at (is_complete r) is
+  where
+    at : (b : Bool) → cond b (suc (complete_count rs)) 0 ≡ 0 → b ≡ false
+    at true e = absurd (omega (arith, e))
+    at false e = refl
+
+count_less : (rs : List Raster) (n : ℕ) → complete_count rs ≡ suc n
+    → complete_count (drop 1 rs) ≡ n
+unfolding complete_count
+count_less [] n is = absurd (omega (arith, is))
+count_less (r ∷ rs) n is = at (is_complete r) is
+  where
+    at : (b : Bool) → cond b (suc (complete_count rs)) 0 ≡ suc n → complete_count rs ≡ n
+    at true e = omega (arith, e)
+    at false e = absurd (omega (arith, e))
+
+none_first : (n : ℕ) (s : Following) → complete_count s.frames ≡ n
+    → first_complete (without_first n s).frames ≡ false
+none_first zero s is = count_first s.frames is
+none_first (suc n) s is = none_first n (without_oldest s) (count_less s.frames n is)
+
+-- behind a turn no complete frame is the oldest
+pub none_waits : (s : Following) (octets : List ℕ)
+    → first_complete (turned true s octets).frames ≡ false
+unfolding turned
+none_waits s octets =
+    let t : Following = state_taken s octets in
+    none_first (complete_count t.frames) t refl
+
 -- ---- where none goes early
 
-turned-plain : (s : Following) (octets : List ℕ)
-    → turned false s octets ≡ state_after (ready_for s octets) octets
+pub turned-plain : (s : Following) (octets : List ℕ) → turned false s octets ≡ state_taken s octets
 unfolding turned
-turned-plain s octets = at (is_due s octets)
-  where
-    at : (b : Bool) → cond b (state_after (without_oldest s) octets) (state_after s octets)
-        ≡ state_after (cond b (without_oldest s) s) octets
-    at true = refl
-    at false = refl
+turned-plain s octets = refl
 
 handed-plain : (s : Following) (octets : List ℕ) → handed_in false s octets ≡ handed_before s octets
 unfolding handed_in
-handed-plain s octets = refl
+handed-plain s octets = append-nil (handed_before s octets)
 
 -- What is handed out of a whole list is what is handed out meanwhile, and what is in at the end.
 pub handed_parts : (s : Following) (ds : List (List ℕ))
@@ -159,46 +271,58 @@ answers-append eager s (x ∷ xs) ys =
 
 -- ---- where frames go early: as acts
 
-abbrev pub early_act : Bool → List Act → List Act
-early_act b acts = cond b (Hands ∷ acts) acts
+-- so many go early
+abbrev pub hands : ℕ → List Act → List Act
+hands zero acts = acts
+hands (suc n) acts = Hands ∷ hands n acts
 
-abbrev pub goes_in : Bool → Following → List ℕ → Bool
-goes_in eager s octets = cond (is_due s octets) false (goes_early eager (state_after s octets))
+pub taken_hands : (n : ℕ) (acts : List Act) → taken_of (hands n acts) ≡ taken_of acts
+taken_hands zero acts = refl
+taken_hands (suc n) acts = taken_hands n acts
+
+pub handed_hands : (n : ℕ) (s : Following) (acts : List Act)
+    → handed_by s (hands n acts) ≡ take n (frames_in s) ++ handed_by (without_first n s) acts
+handed_hands zero s acts = refl
+handed_hands (suc n) s acts =
+    let t : Following = without_oldest s in
+    let rest : List Handed = handed_by (without_first n t) acts in
+    ap (λ (hs : List Handed). take 1 (frames_in s) ++ hs) (handed_hands n t acts)
+    ∙ sym (append_assoc (take 1 (frames_in s)) (take n (frames_in t)) rest)
+    ∙ ap (λ (hs : List Handed). hs ++ rest) (sym (take_more n s))
+
+pub none_hands : (n : ℕ) (s : Following) (acts : List Act) → NoneLost (without_first n s) acts
+    → NoneLost s (hands n acts)
+none_hands zero s acts h = h
+none_hands (suc n) s acts h = none_hands n (without_oldest s) acts h
+
+-- how many go early in a turn
+abbrev pub early_in : Bool → Following → List ℕ → ℕ
+early_in eager s octets = early_count eager (state_taken s octets)
 
 acts_of : Bool → Following → List Timed → List Act
 acts_of eager s [] = []
 acts_of eager s (x ∷ xs) =
-    Takes x ∷ early_act (goes_in eager s x.octets) (acts_of eager (turned eager s x.octets) xs)
-
-pub taken_early : (b : Bool) (acts : List Act) → taken_of (early_act b acts) ≡ taken_of acts
-taken_early true acts = refl
-taken_early false acts = refl
+    Takes x ∷ hands (early_in eager s x.octets) (acts_of eager (turned eager s x.octets) xs)
 
 taken_acts : (eager : Bool) (s : Following) (xs : List Timed) → taken_of (acts_of eager s xs) ≡ xs
 unfolding acts_of
 taken_acts eager s [] = refl
 taken_acts eager s (x ∷ xs) =
     ap (λ (ys : List Timed). x ∷ ys)
-    (taken_early (goes_in eager s x.octets) (acts_of eager (turned eager s x.octets) xs)
+    (taken_hands (early_in eager s x.octets) (acts_of eager (turned eager s x.octets) xs)
     ∙ taken_acts eager (turned eager s x.octets) xs)
-
-step_at : (b e : Bool) (s : Following) (octets : List ℕ) (acts : List Act)
-    → cond b (take 1 (frames_in s)) []
-    ++ handed_by (state_after (cond b (without_oldest s) s) octets) (early_act (cond b false e) acts)
-    ≡ cond b (take 1 (frames_in s)) (handed_early e (state_after s octets))
-    ++ handed_by (cond b (state_after (without_oldest s) octets) (state_early e (state_after s octets)))
-    acts
-step_at true e s octets acts = refl
-step_at false true s octets acts = refl
-step_at false false s octets acts = refl
 
 pub step_acts : (eager : Bool) (s : Following) (octets : List ℕ) (acts : List Act)
     → handed_before s octets
-    ++ handed_by (state_after (ready_for s octets) octets) (early_act (goes_in eager s octets) acts)
+    ++ handed_by (state_taken s octets) (hands (early_in eager s octets) acts)
     ≡ handed_in eager s octets ++ handed_by (turned eager s octets) acts
 unfolding turned handed_in
 step_acts eager s octets acts =
-    step_at (is_due s octets) (goes_early eager (state_after s octets)) s octets acts
+    let t : Following = state_taken s octets in
+    ap (λ (hs : List Handed). handed_before s octets ++ hs)
+    (handed_hands (early_count eager t) t acts)
+    ∙ sym (append_assoc (handed_before s octets) (handed_early eager t)
+    (handed_by (state_early eager t) acts))
 
 acts_handed : (eager : Bool) (s : Following) (xs : List Timed)
     → handed_by s (acts_of eager s xs)
@@ -213,20 +337,12 @@ acts_handed eager s (x ∷ xs) =
     ∙ sym (append_assoc (handed_in eager s x.octets) (handed_while eager t ds)
     (frames_in (state_behind eager t ds)))
 
-lost_at : (b e : Bool) (s : Following) (octets : List ℕ) (acts : List Act)
-    → NoneLost (cond b (state_after (without_oldest s) octets) (state_early e (state_after s octets)))
-    acts
-    → NoneLost (state_after (cond b (without_oldest s) s) octets) (early_act (cond b false e) acts)
-lost_at true e s octets acts h = h
-lost_at false true s octets acts h = h
-lost_at false false s octets acts h = h
-
 pub lost_acts : (eager : Bool) (s : Following) (octets : List ℕ) (acts : List Act)
     → NoneLost (turned eager s octets) acts
-    → NoneLost (state_after (ready_for s octets) octets) (early_act (goes_in eager s octets) acts)
+    → NoneLost (state_taken s octets) (hands (early_in eager s octets) acts)
 unfolding turned
 lost_acts eager s octets acts h =
-    lost_at (is_due s octets) (goes_early eager (state_after s octets)) s octets acts h
+    none_hands (early_in eager s octets) (state_taken s octets) acts h
 
 none_acts : (eager : Bool) (s : Following) (xs : List Timed)
     → NoneDropped (answers_in eager s (octets_of xs)) → NoneLost s (acts_of eager s xs)
@@ -248,6 +364,41 @@ pub with_rest : (old new missed done rest all : List Handed) → ShowsAll old ne
 with_rest old new missed done rest all shown e =
     sym (append_assoc new missed rest) ∙ ap (λ (hs : List Handed). hs ++ rest) shown
     ∙ append_assoc old done rest ∙ ap (λ (hs : List Handed). old ++ hs) e
+
+-- the frames that are in, where the sink failed in a turn
+pub rest_in : (eager : Bool) (r : Result Received StreamFault) (s : Following)
+    → still_early eager r s ++ frames_in (without_early eager r s) ≡ frames_in s
+rest_in eager (Ok d) s = refl
+rest_in eager (Err (Source e)) s = refl
+rest_in eager (Err (Sink e)) s = early_rest eager s
+
+-- what the sink did not take, and what is in
+pub with_still : (eager : Bool) (r : Result Received StreamFault) (s : Following)
+    (old new missed all : List Handed)
+    → ShowsAll old new ((missed ++ still_early eager r s) ++ frames_in (without_early eager r s)) all
+    → ShowsAll old new (missed ++ frames_in s) all
+with_still eager r s old new missed all shown =
+    ap (λ (hs : List Handed). new ++ (missed ++ hs)) (sym (rest_in eager r s))
+    ∙ ap (λ (hs : List Handed). new ++ hs)
+    (sym (append_assoc missed (still_early eager r s) (frames_in (without_early eager r s))))
+    ∙ shown
+
+-- where none goes early, all is shown that goes in a turn
+pub plain_still : (r : Result Received StreamFault) (s : Following) → still_early false r s ≡ []
+plain_still (Ok d) s = refl
+plain_still (Err (Source e)) s = refl
+plain_still (Err (Sink e)) s = refl
+
+pub plain_state : (r : Result Received StreamFault) (s : Following) → without_early false r s ≡ s
+plain_state (Ok d) s = refl
+plain_state (Err (Source e)) s = refl
+plain_state (Err (Sink e)) s = refl
+
+pub plain_shown : (r : Result Received StreamFault) (s : Following) (old new missed all : List Handed)
+    → ShowsAll old new (missed ++ still_early false r s) all → ShowsAll old new missed all
+plain_shown r s old new missed all shown =
+    ap (λ (hs : List Handed). new ++ hs) (sym (append-nil missed))
+    ∙ ap (λ (hs : List Handed). new ++ (missed ++ hs)) (sym (plain_still r s)) ∙ shown
 
 -- What was shown, and what is in, of an orderly list.
 pub stream_turned : (s t : Following) (o : Opening) (xs : List Timed) (ds : List (List ℕ))

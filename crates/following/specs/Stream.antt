@@ -13,8 +13,9 @@ use Rattle.following.specs.declared.answer.Followed.{Followed}
 use Rattle.following.specs.declared.answer.Followed.TheVariants.{Far, Late}
 use Rattle.following.specs.declared.fault.StreamFault.{StreamFault}
 use Rattle.following.specs.declared.fault.StreamFault.TheVariants.{Source, Sink}
+use Rattle.following.specs.Follower.{Following}
 use Rattle.following.specs.Following.{Handed}
-use Rattle.following.specs.Turned.{handed_as}
+use Rattle.following.specs.Turned.{handed_as, handed_early, state_early}
 
 -- how many datagrams were delivered
 abbrev pub delivered_by : Result Received StreamFault → ℕ
@@ -27,6 +28,18 @@ abbrev pub not_shown : Result Received StreamFault → Raster → List Handed
 not_shown (Ok r) frame = []
 not_shown (Err (Source e)) frame = []
 not_shown (Err (Sink e)) frame = handed_as (Some e.timestamp) frame
+
+-- the complete frames behind that one, which are still in
+abbrev pub still_early : Bool → Result Received StreamFault → Following → List Handed
+still_early eager (Ok r) s = []
+still_early eager (Err (Source e)) s = []
+still_early eager (Err (Sink e)) s = handed_early eager s
+
+-- the follower when they have gone too
+abbrev pub without_early : Bool → Result Received StreamFault → Following → Following
+without_early eager (Ok r) s = s
+without_early eager (Err (Source e)) s = s
+without_early eager (Err (Sink e)) s = state_early eager s
 
 -- so many turns as the limit; or fewer, where the source ended
 abbrev pub AreEnough : ℕ → Bool → ℕ → Type 0

@@ -1,14 +1,14 @@
 -- What a follower does with datagrams one after the other, and hands out meanwhile; where frames go
--- early, its oldest may go before it is due.
-use Rattle.std.specs.Prelude.{ℕ, Bool, true, false, if◌then◌else◌, ◌==◌, ◌&&◌, List, [], ◌∷◌, ◌++◌}
-use Rattle.std.specs.Prelude.{count_by, take, Option, None, Some, Result, Ok, Err}
+-- early, those that are complete go before they are due.
+use Rattle.std.specs.Prelude.{ℕ, zero, suc, Bool, true, false, if◌then◌else◌, ◌==◌, ◌&&◌, List, []}
+use Rattle.std.specs.Prelude.{◌∷◌, ◌++◌, count_by, take, Option, None, Some, Result, Ok, Err}
 use Rattle.st_format.specs.Cell.{is_missing}
 use Rattle.st_format.specs.Raster.{Raster}
 use Rattle.path_receiver.specs.declared.answer.Refusal.{Refusal}
 use Rattle.following.specs.declared.answer.Followed.{Followed}
 use Rattle.following.specs.declared.answer.Followed.TheVariants.{Kept, Due, Late, Far}
 use Rattle.following.specs.Follower.{Following, answer_to, state_after, without_oldest}
-use Rattle.following.specs.Following.{Handed, frames_in, is_due, ready_for}
+use Rattle.following.specs.Following.{Handed, frames_in, handed_before, ready_for}
 use Rattle.following.specs.Times.{Timed}
 
 -- nothing of a frame is missing
@@ -20,28 +20,43 @@ unfoldable pub first_complete : List Raster → Bool
 first_complete [] = false
 first_complete (r ∷ rs) = is_complete r
 
+-- how many of these frames are complete, from the first on, up to one that isn't
+unfoldable pub complete_count : List Raster → ℕ
+complete_count [] = 0
+complete_count (r ∷ rs) = if is_complete r then suc (complete_count rs) else 0
+
 -- the oldest frame may go before it is due: frames may go early, and nothing of it is missing
 abbrev pub goes_early : Bool → Following → Bool
 goes_early eager s = eager && first_complete s.frames
 
--- the follower, where its oldest frame goes early or doesn't
+-- how many frames may go before they are due: the oldest, up to one of which something is missing
+abbrev pub early_count : Bool → Following → ℕ
+early_count eager s = if eager then complete_count s.frames else 0
+
+-- the follower without so many of its oldest frames
+abbrev pub without_first : ℕ → Following → Following
+without_first zero s = s
+without_first (suc n) s = without_first n (without_oldest s)
+
+-- the follower, where all have gone that may go early
 abbrev pub state_early : Bool → Following → Following
-state_early early s = if early then without_oldest s else s
+state_early eager s = without_first (early_count eager s) s
 
--- what is handed out then
+-- these frames, oldest first
 abbrev pub handed_early : Bool → Following → List Handed
-handed_early early s = if early then take 1 (frames_in s) else []
+handed_early eager s = take (early_count eager s) (frames_in s)
 
--- The follower after a turn: where the oldest frame is due it goes, and the datagram is taken; else
--- the datagram is taken, and then the oldest goes if it may go early.
+-- the follower where a datagram was taken: the oldest frame goes first, where it is due
+abbrev pub state_taken : Following → List ℕ → Following
+state_taken s octets = state_after (ready_for s octets) octets
+
+-- The follower after a turn: a datagram was taken, and then all frames went that may go early.
 unfoldable pub turned : Bool → Following → List ℕ → Following
-turned eager s octets = if is_due s octets then state_after (without_oldest s) octets else
-    state_early (goes_early eager (state_after s octets)) (state_after s octets)
+turned eager s octets = state_early eager (state_taken s octets)
 
--- what is handed out in a turn: one frame at most
+-- what is handed out in a turn: the frame that was due, and those that go early
 unfoldable pub handed_in : Bool → Following → List ℕ → List Handed
-handed_in eager s octets = if is_due s octets then take 1 (frames_in s) else
-    handed_early (goes_early eager (state_after s octets)) (state_after s octets)
+handed_in eager s octets = handed_before s octets ++ handed_early eager (state_taken s octets)
 
 -- what a turn answers
 abbrev pub answer_in : Following → List ℕ → Result Followed Refusal

@@ -21,7 +21,7 @@
 //! - Since when only late datagrams came, where a stream is to be followed anew: `lost_since`.
 ghost use Rattle.std.specs.Prelude.{◌≡◌, ◌↔◌, ◌⊎◌, ◌++◌, ◌^◌, ◌<◌, ◌≤◌, ℕ, Bool, IsTrue, List};
 ghost use Rattle.std.specs.Prelude.{None, Some};
-ghost use Rattle.std.specs.Prelude.{false, map};
+ghost use Rattle.std.specs.Prelude.{false, map, true};
 ghost use Rattle.st_format.specs.declared.cell.Cell.TheVariants.{Contested};
 ghost use Rattle.st_format.specs.Position.{IsPosition, Position};
 ghost use Rattle.st_format.specs.Raster.{cell_at};
@@ -43,8 +43,8 @@ ghost use Rattle.following.specs.Times.{frame_of, handed_of, in_order, octets_of
 ghost use Rattle.following.specs.Need.{none_noted, noted_behind};
 ghost use Rattle.following.specs.Prompt.{AreAgreed, FirstsInTime, FirstsRise, IsPrompt};
 ghost use Rattle.following.specs.Restarts.{AreLostSince, Reply, lost_behind};
-ghost use Rattle.following.specs.Turned.{answers_in, goes_early, handed_all, handed_early};
-ghost use Rattle.following.specs.Turned.{handed_while, is_complete, kept_of, state_behind};
+ghost use Rattle.following.specs.Turned.{answers_in, first_complete, handed_all, handed_early};
+ghost use Rattle.following.specs.Turned.{handed_while, is_complete, kept_of, state_behind, turned};
 
 /// What a follower hands out of a list of datagrams, from its opening to its end, where none comes
 /// after as many newer timestamps as it has frames, and none is more ticks ahead of the newest than
@@ -179,12 +179,15 @@ pub fn each_frame()
         IsSendersSample (cell_at h.frame at) s pictures h.timestamp at }
 {}
 
-/// A frame that goes early, before it is due, has nothing missing (`complete`). What comes of its
-/// timestamp afterwards, and is late then, could add nothing: of more datagrams each cell is as it
-/// is, or contested (`no_more`).
+/// Each frame that goes early, before it is due, has nothing missing (`complete`), and behind a turn
+/// no such frame is the oldest: all have gone, however many (`none_waits`). What comes of the
+/// timestamp of one afterwards, and is late then, could add nothing: of more datagrams each cell is
+/// as it is, or contested (`no_more`).
 pub fn early()
     ensures complete { (eager : Bool) (s : Following) (h : Handed) →
-        IsMember h (handed_early (goes_early eager s) s) → IsTrue (is_complete h.frame) }
+        IsMember h (handed_early eager s) → IsTrue (is_complete h.frame) }
+    ensures none_waits { (s : Following) (octets : List ℕ) →
+        first_complete (turned true s octets).frames ≡ false }
     ensures no_more { (o : Opening) (before after : List (List ℕ)) (timestamp : ℕ)
         (at : Position) → IsTrue (is_complete (frame_of o before timestamp)) →
         IsPosition at o.format →

@@ -28,4 +28,4 @@ pub use sink::{FollowObserver, FrameSink, FrameSinkFault, Unobserved};
 pub use standing::newer;
 pub use stream::{finish, follow, follow_eagerly};
 pub use tally::FollowTally;
-pub use turn::{TurnTaken, hand_out, take_turn};
+pub use turn::{TurnTaken, goes_early, hand_out, take_turn};

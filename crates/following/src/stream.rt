@@ -11,16 +11,17 @@ ghost use Rattle.following.specs.Following.{frames_in};
 ghost use Rattle.following.specs.Prompt.{AreAgreed, IsPrompt};
 ghost use Rattle.following.specs.Stream.{CountsSink, CountsSource, NoneDropped, ShowsAll};
 ghost use Rattle.following.specs.Stream.{TellsSourceFault};
-ghost use Rattle.following.specs.Stream.{TookTurns, delivered_by, not_shown};
+ghost use Rattle.following.specs.Stream.{TookTurns, delivered_by, not_shown, still_early};
+ghost use Rattle.following.specs.Stream.{without_early};
 ghost use Rattle.following.specs.Times.{AreTimed, IsOrderly, Timed, handed_at, in_order, octets_of};
 ghost use Rattle.following.specs.Times.{times_of};
-ghost use Rattle.following.specs.Turned.{answer_in, answers_in, handed_as, handed_in, handed_while};
-ghost use Rattle.following.specs.Turned.{state_behind, turned};
+ghost use Rattle.following.specs.Turned.{answer_in, answers_in, goes_early, handed_as, handed_early};
+ghost use Rattle.following.specs.Turned.{handed_in, handed_while, state_behind, state_early, turned};
 
 use crate::fault::{FrameFault, StreamFault};
 use crate::follower::Follower;
 use crate::sink::{FollowObserver, FrameSink};
-use crate::turn::{hand_out, take_turn};
+use crate::turn::{goes_early, hand_out, take_turn};
 use frame_assembly::Frame;
 use path_receiver::{ReceiveFault, Received};
 use st_format::{DatagramSource, Turn};
@@ -94,11 +95,13 @@ pub fn follow<S: DatagramSource, A: Allocator, K: FrameSink, O: FollowObserver>(
     take_turns(source, follower, buf, limit, false, frame, sink, observer)
 }
 
-/// The same, where after each datagram the oldest frame is shown too if nothing of it is missing:
-/// early, before it is due.
+/// The same, where after each datagram the oldest frames are shown too, up to one of which something
+/// is missing: early, before they are due.
 ///
 /// What comes of a timestamp whose frame went is late. So a caller that counts late datagrams
-/// counts the repeats of frames that went early among them.
+/// counts the repeats of frames that went early among them. Where the sink failed, the complete
+/// frames behind the one that it did not take stay in: hand them out, as long as the oldest
+/// [`goes_early`](crate::goes_early), before the next call.
 pub fn follow_eagerly<S: DatagramSource, A: Allocator, K: FrameSink, O: FollowObserver>(
     source: &mut S,
     follower: &mut Follower<A>,
@@ -112,10 +115,11 @@ pub fn follow_eagerly<S: DatagramSource, A: Allocator, K: FrameSink, O: FollowOb
     requires format { frame.old.format ≡ follower.old.opening.format }
     ensures took { TookTurns limit result (S.turns source.old) (S.turns source.new)
         (S.came source.old) (S.came source.new) }
-    ensures state { follower.new
+    ensures state { without_early true result follower.new
         ≡ state_behind true follower.old
         (datagrams_since (S.came source.old) (S.came source.new)) }
-    ensures shown { ShowsAll (K.shown sink.old) (K.shown sink.new) (not_shown result frame.new)
+    ensures shown { ShowsAll (K.shown sink.old) (K.shown sink.new)
+        (not_shown result frame.new ++ still_early true result follower.new)
         (handed_while true follower.old
         (datagrams_since (S.came source.old) (S.came source.new))) }
     ensures heard { observer.new
@@ -179,10 +183,11 @@ fn take_turns<S: DatagramSource, A: Allocator, K: FrameSink, O: FollowObserver>(
     requires follower { IsFollower follower.old }
     ensures took { TookTurns limit result (S.turns source.old) (S.turns source.new)
         (S.came source.old) (S.came source.new) }
-    ensures state { follower.new
+    ensures state { without_early eager result follower.new
         ≡ state_behind eager follower.old
         (datagrams_since (S.came source.old) (S.came source.new)) }
-    ensures shown { ShowsAll (K.shown sink.old) (K.shown sink.new) (not_shown result frame.new)
+    ensures shown { ShowsAll (K.shown sink.old) (K.shown sink.new)
+        (not_shown result frame.new ++ still_early eager result follower.new)
         (handed_while eager follower.old
         (datagrams_since (S.came source.old) (S.came source.new))) }
     ensures heard { observer.new
@@ -231,8 +236,8 @@ fn take_turns<S: DatagramSource, A: Allocator, K: FrameSink, O: FollowObserver>(
     })
 }
 
-/// Takes a datagram in its turn, tells the answer, and shows the frame that is handed out. Answers
-/// its timestamp where the sink failed.
+/// Takes a datagram in its turn, tells the answer, and shows the frames that are handed out. Answers
+/// the timestamp of one at which the sink failed; the complete ones behind it are in then.
 fn show_turn<A: Allocator, K: FrameSink, O: FollowObserver>(
     follower: &mut Follower<A>,
     octets: &[u8],
@@ -242,9 +247,11 @@ fn show_turn<A: Allocator, K: FrameSink, O: FollowObserver>(
     observer: &mut O,
 ) -> Option<u32>
     requires { frame.old.format ≡ follower.old.opening.format }
-    ensures state { follower.new ≡ turned eager follower.old octets.now }
+    ensures state { state_early eager follower.new ≡ turned eager follower.old octets.now }
     ensures shown { ShowsAll (K.shown sink.old) (K.shown sink.new)
-        (handed_as result frame.new) (handed_in eager follower.old octets.now) }
+        (handed_as result frame.new ++ handed_early eager follower.new)
+        (handed_in eager follower.old octets.now) }
+    ensures none { IfNone result (goes_early eager follower.new ≡ false) }
     ensures heard { observer.new ≡ O.after observer.old (answer_in follower.old octets.now) }
     ensures counted { IfSome result
         (λ _. CountsOne (K.failures sink.old) (K.failures sink.new)) }
@@ -252,9 +259,42 @@ fn show_turn<A: Allocator, K: FrameSink, O: FollowObserver>(
     ensures format { frame.new.format ≡ follower.new.opening.format }
     ensures follower { IsFollower follower.new }
 {
-    let turn = take_turn(follower, octets, eager, frame);
+    let turn = take_turn(follower, octets, frame);
     observer.note(turn.answer);
-    show(turn.handed, frame, sink)
+    match show(turn.handed, frame, sink) {
+        None => show_early(follower, eager, frame, sink),
+        Some(timestamp) => Some(timestamp),
+    }
+}
+
+/// Shows all frames that may go before they are due. Answers the timestamp of one at which the sink
+/// failed.
+fn show_early<A: Allocator, K: FrameSink>(
+    follower: &mut Follower<A>,
+    eager: bool,
+    frame: &mut Frame<A>,
+    sink: &mut K,
+) -> Option<u32>
+    requires { frame.old.format ≡ follower.old.opening.format }
+    ensures state { state_early eager follower.new ≡ state_early eager follower.old }
+    ensures shown { ShowsAll (K.shown sink.old) (K.shown sink.new)
+        (handed_as result frame.new ++ handed_early eager follower.new)
+        (handed_early eager follower.old) }
+    ensures none { IfNone result (goes_early eager follower.new ≡ false) }
+    ensures counted { IfSome result
+        (λ _. CountsOne (K.failures sink.old) (K.failures sink.new)) }
+    ensures blameless { IfNone result (K.failures sink.new ≡ K.failures sink.old) }
+    ensures format { frame.new.format ≡ follower.new.opening.format }
+    ensures follower { IsFollower follower.new }
+{
+    follower.facts();
+    while goes_early(follower, eager) {
+        let handed = hand_out(follower, frame);
+        if let Some(timestamp) = show(handed, frame, sink) {
+            return Some(timestamp);
+        }
+    }
+    None
 }
 
 /// Shows a frame of this timestamp, if one was handed out. Answers the timestamp where the sink

@@ -1,9 +1,8 @@
 //! A datagram taken in its turn.
 ghost use Rattle.std.specs.Prelude.{◌≡◌, ◌≢◌, [], Ok, IfNone, take, true};
 ghost use Rattle.following.specs.Follower.{IsFollower, answer_to, state_after, without_oldest};
-ghost use Rattle.following.specs.Following.{frames_in, is_due, is_due_answer};
-ghost use Rattle.following.specs.Turned.{answer_in, goes_early, handed_as, handed_early, handed_in};
-ghost use Rattle.following.specs.Turned.{state_early, turned};
+ghost use Rattle.following.specs.Following.{frames_in, handed_before, is_due, is_due_answer};
+ghost use Rattle.following.specs.Turned.{answer_in, goes_early, handed_as, state_taken};
 
 use crate::answer::Followed;
 use crate::follower::Follower;
@@ -21,23 +20,21 @@ pub struct TurnTaken {
 }
 
 /// Takes a datagram in its turn. Where the oldest frame is due it is handed out first: so the
-/// answer is never `Due`. Else, where frames may go early, the oldest is handed out afterwards if
-/// nothing of it is missing.
+/// answer is never `Due`. Where frames may go early, the caller then hands the oldest out as long
+/// as it [`goes_early`].
 ///
 /// A frame that is handed out is then in `frame`, which has the follower's format; what it held is
 /// lost. One frame goes at most. No memory is taken.
 pub fn take_turn<A: Allocator>(
     follower: &mut Follower<A>,
     octets: &[u8],
-    eager: bool,
     frame: &mut Frame<A>,
 ) -> TurnTaken
     requires { frame.old.format ≡ follower.old.opening.format }
     ensures answer { result.answer ≡ answer_in follower.old octets.now }
     ensures never { result.answer ≢ Ok Followed.Due }
-    ensures state { follower.new ≡ turned eager follower.old octets.now }
-    ensures handed { handed_as result.handed frame.new
-        ≡ handed_in eager follower.old octets.now }
+    ensures state { follower.new ≡ state_taken follower.old octets.now }
+    ensures handed { handed_as result.handed frame.new ≡ handed_before follower.old octets.now }
     ensures none { IfNone result.handed (frame.new ≡ frame.old) }
     ensures format { frame.new.format ≡ follower.new.opening.format }
     ensures follower { IsFollower follower.new }
@@ -46,8 +43,10 @@ pub fn take_turn<A: Allocator>(
     if is_due(answer) {
         return take_waiting(follower, octets, frame);
     }
-    let handed = hand_early(follower, eager, frame);
-    TurnTaken { answer, handed }
+    TurnTaken {
+        answer,
+        handed: None,
+    }
 }
 
 /// Takes a datagram for which the oldest frame is due.
@@ -71,25 +70,18 @@ fn take_waiting<A: Allocator>(
     TurnTaken { answer, handed }
 }
 
-/// Hands the oldest frame out, where frames may go early and nothing of it is missing.
-fn hand_early<A: Allocator>(
-    follower: &mut Follower<A>,
-    eager: bool,
-    frame: &mut Frame<A>,
-) -> Option<u32>
-    requires { frame.old.format ≡ follower.old.opening.format }
-    ensures state { follower.new ≡ state_early (goes_early eager follower.old) follower.old }
-    ensures handed { handed_as result frame.new
-        ≡ handed_early (goes_early eager follower.old) follower.old }
-    ensures none { IfNone result (frame.new ≡ frame.old) }
-    ensures format { frame.new.format ≡ follower.new.opening.format }
+/// Whether the oldest frame may be handed out before it is due: where frames may go early, and
+/// nothing of it is missing.
+pub fn goes_early<A: Allocator>(follower: &mut Follower<A>, eager: bool) -> bool
+    ensures goes { result ≡ goes_early eager follower.old }
+    ensures same { follower.new ≡ follower.old }
     ensures follower { IsFollower follower.new }
 {
-    if eager && follower.is_first_complete() {
-        return hand_out(follower, frame);
+    if !eager {
+        follower.facts();
+        return false;
     }
-    follower.facts();
-    None
+    follower.is_first_complete()
 }
 
 /// Hands the oldest frame out: it is then in `frame`, and its timestamp is answered. `None`, and

@@ -17,12 +17,14 @@ use Rattle.following.specs.declared.standing.Standing.TheVariants.{Inside, New, 
 use Rattle.following.proofs.Insertions.{AllNear, IsInReach, IsPast, count_older}
 use Rattle.following.proofs.Insertions.{standing-inside, standing-new}
 use Rattle.following.proofs.Newest.{last_in, last_of, newest-map, time_within}
-use Rattle.following.proofs.Ordered.{Rises, later, length-with_time, many_newer, order_keeps}
+use Rattle.following.proofs.Ordered.{Rises, later, length-with_time, many_newer}
 use Rattle.following.proofs.Ordered.{parts_rise, rises_last, with_time-there}
 use Rattle.following.proofs.Rising.{all_member}
-use Rattle.following.proofs.Streams.{HasGone, IsLast, IsStage, came, cases_member, le_last}
-use Rattle.following.proofs.Streams.{order_more, rises, times_at, times_refused}
-use Rattle.following.proofs.Turning.{answer-due, answer-on, turned-due, turned-on}
+use Rattle.following.proofs.Streams.{HasGone, IsLast, IsStage, came, cases_member, in_parts}
+use Rattle.following.proofs.Streams.{le_greatest, le_last, older_all, order_more, rises, times_at}
+use Rattle.following.proofs.Streams.{times_refused}
+use Rattle.following.proofs.Turning.{answer-due, answer-on, taken-due, taken-on}
+use Rattle.following.proofs.Turning.{turned-plain}
 use Rattle.following.proofs.Windows.{after-inside, after-new, after-refused, due-full, due-inside}
 use Rattle.following.proofs.Windows.{due-new, due-refused, shaped, stands-shaped}
 use Rattle.path_receiver.specs.declared.answer.Refusal.{Refusal}
@@ -30,7 +32,7 @@ use Rattle.path_receiver.specs.Grammar.{Datagram}
 use Rattle.path_receiver.specs.Opening.{Opening}
 use Rattle.st_format.specs.Member.{IsMember}
 use Rattle.st_format.specs.Reading.{◌>>=◌}
-use Rattle.st_format.proofs.Members.{member_cases, member_left, member_right}
+use Rattle.st_format.proofs.Members.{member_left, member_right}
 
 -- ---- a time that comes next
 
@@ -92,22 +94,6 @@ gone_older size ahead u us gone win (Some g) next e h is x m =
 
 -- ---- it is not too far ahead
 
-le_greatest : (x : ℕ) (w : List ℕ) (y : ℕ) → Rises (x ∷ w) → IsMember y (x ∷ w)
-    → y ≤ last_of x w
-le_greatest x [] y h (inl e) = omega (arith, e)
-le_greatest x [] y h (inr m) = absurd m
-le_greatest x (z ∷ w) y h (inl e) =
-    let lt : x < last_of z w =
-    all_member (λ u. x < u) (last_of z w) (z ∷ w) h.0 (last_in z w) in
-    omega (arith, e, lt)
-le_greatest x (z ∷ w) y h (inr m) = le_greatest z w y h.1 m
-
-in_parts : (us gone win : List ℕ) (y : ℕ) → in_order us ≡ gone ++ win → IsMember y us
-    → IsMember y gone ⊎ IsMember y win
-in_parts us gone win y e m =
-    member_cases y gone win
-    (subst (λ (xs : List ℕ). IsMember y xs) e (order_keeps y [] us (inr m)))
-
 newest_greatest : (us gone : List ℕ) (x : ℕ) (win : List ℕ) → in_order us ≡ gone ++ x ∷ win
     → Rises (gone ++ x ∷ win) → IsGreatest (last_of x win) us
 newest_greatest us gone x win e h = record {
@@ -165,16 +151,6 @@ newer_oldest size ahead u v us gone win next e up full out (inr le) =
     newer lt x (inl s) = omega (arith, lt, s)
     newer lt x (inr m) =
         let k : v < x = all_member (λ y. v < y) x win up.0 m in omega (arith, lt, k)
-
--- what has gone with the oldest is older
-older : (u v : ℕ) (gone : List ℕ) → ((x : ℕ) → IsMember x gone → x < u) → v < u → (x : ℕ)
-    → IsMember x (gone ++ v ∷ []) → x < u
-older u v gone less lt x m = at (member_cases x gone (v ∷ []) m)
-  where
-    at : IsMember x gone ⊎ IsMember x (v ∷ []) → x < u
-    at (inl k) = less x k
-    at (inr (inl e)) = omega (arith, lt, e)
-    at (inr (inr k)) = absurd k
 
 -- ---- what is answered
 
@@ -239,7 +215,7 @@ module _ (o : Opening) (size ahead : ℕ) (some : 0 < size) where
       let t : Following = shaped o size ahead (xs ++ y ∷ []) last new in (
         ap is_lost (answer-on s y.octets due) ∙ kept,
         subst (λ (u : Following). NoneIsLost u ys)
-            (turned-on false s t t y.octets due (sym after) refl) rest,
+            (sym (turned-plain s y.octets ∙ taken-on s y.octets due ∙ after)) rest,
       )
 
   -- where the oldest is due
@@ -254,7 +230,7 @@ module _ (o : Opening) (size ahead : ℕ) (some : 0 < size) where
       let s : Following = shaped o size ahead xs last (v ∷ win) in (
         ap is_lost (answer-due s y.octets due) ∙ kept,
         subst (λ (u : Following). NoneIsLost u ys)
-            (sym after ∙ sym (turned-due false s y.octets due)) rest,
+            (sym (turned-plain s y.octets ∙ taken-due s y.octets due ∙ after)) rest,
       )
 
   step_inside : (xs ys : List Timed) (y : Timed) (d : Datagram) → reading_of o y.octets ≡ Ok d
@@ -356,7 +332,7 @@ module _ (o : Opening) (size ahead : ℕ) (some : 0 < size) where
       let parts : in_order us ≡ (gone ++ v ∷ []) ++ win =
       stage.times ∙ sym (append_assoc gone (v ∷ []) win) in
       let more : IsStage o size ahead (xs ++ y ∷ []) (gone ++ v ∷ []) (Some v) new = record {
-        times = order_more o xs y d (gone ++ v ∷ []) win read parts (older u v gone less newer);
+        times = order_more o xs y d (gone ++ v ∷ []) win read parts (older_all u v gone less newer);
         room = omega (arith, count, stage.room);
         last_is = record { front = gone; is = refl; full = omega (arith, count, full, stage.room) };
       } in

@@ -1,7 +1,8 @@
 -- A prompt stream of which no datagram is more than ten seconds older than one before it isn't
 -- followed anew.
-use Rattle.std.proofs.Common.{◌≡◌, ◌∙◌, ◌⊎◌, ℕ, ◌+◌, ◌-◌, ◌<◌, ◌≤◌, Bool, true, false, cond, not}
-use Rattle.std.proofs.Common.{eqb, List, [], ◌∷◌, ◌++◌, Option, None, Some, Result, Ok, Err, ap}
+use Rattle.std.proofs.Common.{◌≡◌, ◌∙◌, ◌⊎◌, ℕ, ◌+◌, ◌<◌, ◌≤◌, Bool, true, false, cond, not, eqb}
+use Rattle.std.proofs.Common.{List, [], ◌∷◌, ◌++◌, Option, None, Some, Result, Ok, Err, ap, zero}
+use Rattle.std.proofs.Common.{suc}
 use Rattle.std.proofs.Common.{append_assoc, arith, drop, inl, inr, length, length-drop, map, refl}
 use Rattle.std.proofs.Common.{subst, sym}
 use Rattle.std.specs.List.{insert}
@@ -21,18 +22,19 @@ use Rattle.following.specs.Restarts.{first_lost, is_restart, since_behind}
 use Rattle.following.specs.Serial.{wrapped}
 use Rattle.following.specs.Standing.{is_beyond}
 use Rattle.following.specs.Times.{AreTimed, IsNear, Timed, octets_of, times_of}
-use Rattle.following.specs.Turned.{answer_in, goes_early, is_lost, state_behind, state_early}
-use Rattle.following.specs.Turned.{turned}
+use Rattle.following.specs.Turned.{answer_in, early_count, is_lost, state_behind, state_taken}
+use Rattle.following.specs.Turned.{turned, without_first}
 use Rattle.following.specs.declared.answer.Followed.{Followed}
 use Rattle.following.specs.declared.standing.Standing.{Standing}
 use Rattle.following.specs.declared.standing.Standing.TheVariants.{Beyond, Inside, New, Nowhere}
 use Rattle.following.specs.declared.standing.Standing.TheVariants.{Waits}
-use Rattle.following.proofs.Lost.{HasRoom, room_turned}
+use Rattle.following.proofs.Lost.{HasRoom, room_after, room_turned, waits_is}
 use Rattle.following.proofs.Newest.{time_within}
 use Rattle.following.proofs.PromptPictures.{senders_agree}
 use Rattle.following.proofs.Streams.{times_at, times_refused}
 use Rattle.following.proofs.Taken.{answer-for, new_back, waits_new}
 use Rattle.following.proofs.Turning.{answer-on}
+use Rattle.following.proofs.Pictures.{timed-octets}
 use Rattle.media_file.specs.Records.{Entry}
 use Rattle.packet_plan.specs.Sender.{Sender}
 use Rattle.path_receiver.specs.Admission.{by_header, by_payload, datagram_walk, datagram_with}
@@ -56,12 +58,9 @@ use Rattle.st_format.proofs.Members.{member-map, member_cases, member_left, memb
 use Rattle.stream_laws.specs.Brought.{AreRecent}
 use Rattle.stream_laws.proofs.LostRepeats.{lost_came}
 use Rattle.stream_laws.proofs.NoneLate.{not_anew}
-use Rattle.stream_laws.proofs.SenderTimes.{are_timed, near_one, timed-octets}
+use Rattle.stream_laws.proofs.SenderTimes.{are_timed, near_one, same_reading}
 
 -- ---- the timestamp of a datagram that is read
-
-same_datagram : (d g : Datagram) → (let r : Result Datagram Refusal = Ok d in r ≡ Ok g) → d ≡ g
-same_datagram d g e = cc
 
 abbrev read_rest : Opening → Rtp → Result Datagram Refusal
 read_rest o r = by_payload (payload_walk o.format r.payload) >>= by_rtp r
@@ -69,7 +68,7 @@ read_rest o r = by_payload (payload_walk o.format r.payload) >>= by_rtp r
 time_paid : (r : Rtp) (p : Result (ℕ × List Segment) PayloadFault) (d : Datagram)
     → (by_payload p >>= by_rtp r) ≡ Ok d → r.timestamp ≡ d.timestamp
 time_paid r (Ok x) d e =
-    ap (λ (g : Datagram). g.timestamp) (same_datagram (datagram_with r x) d e)
+    ap (λ (g : Datagram). g.timestamp) (same_reading (datagram_with r x) d e)
 time_paid r (Err f) d e = absurd cc
 
 time_checked : (o : Opening) (r : Rtp) (t s : Bool) (d : Datagram)
@@ -117,32 +116,35 @@ keeps_read o ahead s octets (Ok d) h =
     keeps_taken o ahead s octets d.timestamp (standing_of s d.timestamp) h
 keeps_read o ahead s octets (Err e) h = h
 
-keeps_early : (o : Opening) (ahead : ℕ) (b : Bool) (s : Following) → KeepsOpening o ahead s
-    → KeepsOpening o ahead (state_early b s)
-keeps_early o ahead true s h = record {
+keeps_oldest : (o : Opening) (ahead : ℕ) (s : Following) → KeepsOpening o ahead s
+    → KeepsOpening o ahead (without_oldest s)
+keeps_oldest o ahead s h = record {
   opening = ap (λ (q : Opening). with_window q (drop 1 s.opening.window)) h.opening;
   most = h.most;
 }
-keeps_early o ahead false s h = h
+
+keeps_early : (o : Opening) (ahead : ℕ) (n : ℕ) (s : Following) → KeepsOpening o ahead s
+    → KeepsOpening o ahead (without_first n s)
+keeps_early o ahead zero s h = h
+keeps_early o ahead (suc n) s h =
+    keeps_early o ahead n (without_oldest s) (keeps_oldest o ahead s h)
 
 keeps_after : (o : Opening) (ahead : ℕ) (s : Following) (octets : List ℕ) → KeepsOpening o ahead s
     → KeepsOpening o ahead (state_after s octets)
 keeps_after o ahead s octets h = keeps_read o ahead s octets (reading_of s.opening octets) h
 
-keeps_turn : (o : Opening) (ahead : ℕ) (b e : Bool) (s : Following) (octets : List ℕ)
-    → KeepsOpening o ahead s
-    → KeepsOpening o ahead
-    (cond b (state_after (without_oldest s) octets) (state_early e (state_after s octets)))
-keeps_turn o ahead true e s octets h =
-    keeps_after o ahead (without_oldest s) octets (keeps_early o ahead true s h)
-keeps_turn o ahead false e s octets h =
-    keeps_early o ahead e (state_after s octets) (keeps_after o ahead s octets h)
+keeps_due : (o : Opening) (ahead : ℕ) (b : Bool) (s : Following) → KeepsOpening o ahead s
+    → KeepsOpening o ahead (cond b (without_oldest s) s)
+keeps_due o ahead true s h = keeps_oldest o ahead s h
+keeps_due o ahead false s h = h
 
 keeps_turned : (o : Opening) (ahead : ℕ) (eager : Bool) (s : Following) (octets : List ℕ)
     → KeepsOpening o ahead s → KeepsOpening o ahead (turned eager s octets)
 unfolding turned
 keeps_turned o ahead eager s octets h =
-    keeps_turn o ahead (is_due s octets) (goes_early eager (state_after s octets)) s octets h
+    let t : Following = state_taken s octets in
+    keeps_early o ahead (early_count eager t) t
+    (keeps_after o ahead (ready_for s octets) octets (keeps_due o ahead (is_due s octets) s h))
 
 behind_more : (eager : Bool) (s : Following) (xs : List Timed) (x : Timed)
     → state_behind eager s (octets_of (xs ++ x ∷ []))
@@ -173,20 +175,10 @@ answer_read : (o : Opening) (ahead : ℕ) (s : Following) (octets : List ℕ) (d
 answer_read o ahead s octets d h read =
     answer-for (ready_for s octets) octets d
     (read_same o ahead (ready_for s octets) octets (Ok d)
-    (keeps_early o ahead (is_due s octets) s h) read)
-
-waits_is : (x : Standing) → is_waiting x ≡ true → x ≡ Waits
-waits_is (Inside p) h = absurd (false≢true h)
-waits_is (New p) h = absurd (false≢true h)
-waits_is Waits h = refl
-waits_is Nowhere h = absurd (false≢true h)
-waits_is Beyond h = absurd (false≢true h)
+    (keeps_due o ahead (is_due s octets) s h) read)
 
 new_waits : (p : ℕ) → New p ≡ Waits → ⊥
 new_waits p e = cc
-
-room_after : (n size m : ℕ) → 0 < size → n ≤ size → m ≡ n - 1 → m < size
-room_after n size m some le e = omega (arith, some, le, e)
 
 -- it never waits: where it did, the oldest went first
 never_waits : (s : Following) (octets : List ℕ) (d : Datagram) (b : Bool) → HasRoom s

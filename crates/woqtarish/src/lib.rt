@@ -75,7 +75,7 @@ pub mod follow {
     pub use following::{
         FollowFault, FollowObserver, FollowTally, Followed, Follower, FrameFault, FrameSink,
         FrameSinkFault, MemoryFrames, Restarts, Shown, StreamFault, TEN_SECONDS, TurnTaken,
-        Unobserved, WindowNeed, finish, follow, follow_eagerly, hand_out, take_turn,
+        Unobserved, WindowNeed, finish, follow, follow_eagerly, goes_early, hand_out, take_turn,
     };
 }
 

@@ -1,32 +1,42 @@
-use Rattle.std.proofs.Common.{true}
+use Rattle.std.proofs.Common.{◌++◌, map, true}
 use Rattle.path_receiver.specs.Took.{datagrams_since}
-use Rattle.following.specs.Stream.{not_shown}
+use Rattle.following.specs.Stream.{not_shown, still_early, without_early}
+use Rattle.following.specs.Times.{handed_at, in_order, times_of}
 use Rattle.following.proofs.Driving.{turns_told}
 use Rattle.following.proofs.Prompt.{prompt_turned}
-use Rattle.following.proofs.Turning.{early_turned}
+use Rattle.following.proofs.Turning.{early_turned, with_still}
 use Rattle.following.proofs.stream.follow_eagerly.Goals as goal
 
 pub returns-clause-stream : goal.returns-clause-stream
-returns-clause-stream g c o timed =
+returns-clause-stream g c o timed same octets are_timed nearby none =
     let came = g.S.DatagramSource.came in
     let shown = g.K.FrameSink.shown in
-    early_turned c.args.follower.now c.take_turns.new.follower o timed
+    let r = c.take_turns.result in
+    let t = c.take_turns.new.follower in
+    let missed = not_shown r c.take_turns.new.frame in
+    with_still true r t (shown c.args.sink.now) (shown c.take_turns.new.sink) missed
+    (map (handed_at o timed) (in_order (times_of o timed)))
+    (early_turned c.args.follower.now (without_early true r t) o timed
     (datagrams_since (came c.args.source.now) (came c.take_turns.new.source))
-    (shown c.args.sink.now) (shown c.take_turns.new.sink)
-    (not_shown c.take_turns.result c.take_turns.new.frame) c.facts.ensures.size.some
-    c.take_turns.ensures.shown c.take_turns.ensures.state
+    (shown c.args.sink.now) (shown c.take_turns.new.sink) (missed ++ still_early true r t)
+    c.facts.ensures.size.some c.take_turns.ensures.shown c.take_turns.ensures.state same octets
+    are_timed nearby none)
 
 pub returns-clause-prompt : goal.returns-clause-prompt
 returns-clause-prompt g c o timed same octets are_timed nearby prompt agreed =
     let came = g.S.DatagramSource.came in
     let shown = g.K.FrameSink.shown in
-    prompt_turned true c.args.follower.now c.take_turns.new.follower o timed
+    let r = c.take_turns.result in
+    let t = c.take_turns.new.follower in
+    let missed = not_shown r c.take_turns.new.frame in
+    with_still true r t (shown c.args.sink.now) (shown c.take_turns.new.sink) missed
+    (map (handed_at o timed) (in_order (times_of o timed)))
+    (prompt_turned true c.args.follower.now (without_early true r t) o timed
     (datagrams_since (came c.args.source.now) (came c.take_turns.new.source))
-    (shown c.args.sink.now) (shown c.take_turns.new.sink)
-    (not_shown c.take_turns.result c.take_turns.new.frame) c.facts.ensures.size.some
-    c.take_turns.ensures.shown c.take_turns.ensures.state same octets are_timed nearby
-    prompt
-    (λ is. agreed)
+    (shown c.args.sink.now) (shown c.take_turns.new.sink) (missed ++ still_early true r t)
+    c.facts.ensures.size.some c.take_turns.ensures.shown c.take_turns.ensures.state same octets
+    are_timed nearby prompt
+    (λ is. agreed))
 
 pub returns-clause-turns : goal.returns-clause-turns
 returns-clause-turns g c =

@@ -2,9 +2,9 @@ use Rattle.std.proofs.Common.{◌≡◌, ◌+◌, ◌++◌, [], arith, refl, sub
 use Rattle.std.proofs.Common.{Some, append-nil, take}
 use Rattle.st_format.specs.Turns.{TakesTurn, arrived}
 use Rattle.st_format.specs.declared.device.Turn.{Turn}
-use Rattle.following.specs.Turned.{handed_as}
-use Rattle.following.proofs.Driving.{heard_since, shown_since, so_datagram, so_none}
-use Rattle.following.proofs.Driving.{so_nothing, so_quiet, state_since, took_turns}
+use Rattle.following.specs.Turned.{handed_as, handed_early, handed_in, state_early, turned}
+use Rattle.following.proofs.Driving.{heard_since, shown_since, shown_still, so_datagram, so_none}
+use Rattle.following.proofs.Driving.{so_nothing, so_quiet, state_since, state_still, took_turns}
 use Rattle.following.proofs.stream.take_turns.Goals as goal
 
 pub overflow_add-delivered : goal.overflow_add-delivered
@@ -72,6 +72,7 @@ loop-preserved-in-None g c =
     subst (λ (t : Turn). TakesTurn (turns c.loop.source)
     (turns c.next.new.self) t c.next.new.buf) w.field-0-is w.ensures.turn in
     let before = c.loop.invariant in
+    let behind = c.show_turn.new.follower in
     record {
       few = omega (arith, before.few);
       room = w.ensures.room ∙ before.room;
@@ -83,7 +84,13 @@ loop-preserved-in-None g c =
           c.args.follower.now c.loop.follower c.show_turn.new.follower (shown c.args.sink.now)
           (shown c.loop.sink) (shown c.show_turn.new.sink) [] c.args.observer.now c.loop.observer
           c.show_turn.new.observer w.field-0-0 (take w.count c.next.new.buf) c.loop.invariant.so_far turn
-          arrives c.show_turn.ensures.state c.in-None.ensures.shown c.show_turn.ensures.heard;
+          arrives
+          (state_still c.args.eager behind
+          (turned c.args.eager c.loop.follower (take w.count c.next.new.buf)) c.in-None.ensures.none
+          c.show_turn.ensures.state)
+          (shown_still c.args.eager behind (shown c.loop.sink) (shown c.show_turn.new.sink)
+          (handed_in c.args.eager c.loop.follower (take w.count c.next.new.buf))
+          c.in-None.ensures.none c.in-None.ensures.shown) c.show_turn.ensures.heard;
       last = w.ensures.blameless ∙ before.last;
       before = w.ensures.before ∙ before.before;
       names = w.ensures.names ∙ before.names;
@@ -103,19 +110,22 @@ returns-in-Some-clause-took g c =
     let turn =
     subst (λ (t : Turn). TakesTurn (turns c.loop.source)
     (turns c.next.new.self) t c.next.new.buf) w.field-0-is w.ensures.turn in
-    let missed = handed_as (Some c.in-Some.timestamp) c.show_turn.new.frame in
+    let after = state_early c.args.eager c.show_turn.new.follower in
+    let missed =
+    handed_as (Some c.in-Some.timestamp) c.show_turn.new.frame
+    ++ handed_early c.args.eager c.show_turn.new.follower in
     let so =
     so_datagram g.O.FollowObserver.after c.args.eager c.loop.counter c.loop.delivered
     (turns c.args.source.now) (turns c.loop.source) (turns c.next.new.self)
     (came c.args.source.now) (came c.loop.source) (came c.next.new.self)
-    c.args.follower.now c.loop.follower c.show_turn.new.follower (shown c.args.sink.now)
+    c.args.follower.now c.loop.follower after (shown c.args.sink.now)
     (shown c.loop.sink) (shown c.show_turn.new.sink) missed c.args.observer.now c.loop.observer
     c.show_turn.new.observer w.field-0-0 (take w.count c.next.new.buf) c.loop.invariant.so_far turn
     arrives c.show_turn.ensures.state c.in-Some.ensures.shown c.show_turn.ensures.heard in
     took_turns g.O.FollowObserver.after c.args.eager c.args.limit (c.loop.counter + 1)
     (c.loop.delivered + 1) _
     (turns c.args.source.now) (turns c.next.new.self) (turns c.next.new.self)
-    (came c.args.source.now) (came c.next.new.self) c.args.follower.now c.show_turn.new.follower
+    (came c.args.source.now) (came c.next.new.self) c.args.follower.now after
     (shown c.args.sink.now) (shown c.show_turn.new.sink) missed c.args.observer.now
     c.show_turn.new.observer so refl (omega (arith, c.loop-test.true)) refl
 
@@ -131,18 +141,21 @@ returns-in-Some-clause-state g c =
     let turn =
     subst (λ (t : Turn). TakesTurn (turns c.loop.source)
     (turns c.next.new.self) t c.next.new.buf) w.field-0-is w.ensures.turn in
-    let missed = handed_as (Some c.in-Some.timestamp) c.show_turn.new.frame in
+    let after = state_early c.args.eager c.show_turn.new.follower in
+    let missed =
+    handed_as (Some c.in-Some.timestamp) c.show_turn.new.frame
+    ++ handed_early c.args.eager c.show_turn.new.follower in
     let so =
     so_datagram g.O.FollowObserver.after c.args.eager c.loop.counter c.loop.delivered
     (turns c.args.source.now) (turns c.loop.source) (turns c.next.new.self)
     (came c.args.source.now) (came c.loop.source) (came c.next.new.self)
-    c.args.follower.now c.loop.follower c.show_turn.new.follower (shown c.args.sink.now)
+    c.args.follower.now c.loop.follower after (shown c.args.sink.now)
     (shown c.loop.sink) (shown c.show_turn.new.sink) missed c.args.observer.now c.loop.observer
     c.show_turn.new.observer w.field-0-0 (take w.count c.next.new.buf) c.loop.invariant.so_far turn
     arrives c.show_turn.ensures.state c.in-Some.ensures.shown c.show_turn.ensures.heard in
     state_since g.O.FollowObserver.after c.args.eager (c.loop.counter + 1) (c.loop.delivered + 1)
     (turns c.args.source.now) (turns c.next.new.self) (came c.args.source.now)
-    (came c.next.new.self) c.args.follower.now c.show_turn.new.follower (shown c.args.sink.now)
+    (came c.next.new.self) c.args.follower.now after (shown c.args.sink.now)
     (shown c.show_turn.new.sink) missed c.args.observer.now c.show_turn.new.observer so
 
 pub returns-in-Some-clause-shown : goal.returns-in-Some-clause-shown
@@ -157,18 +170,21 @@ returns-in-Some-clause-shown g c =
     let turn =
     subst (λ (t : Turn). TakesTurn (turns c.loop.source)
     (turns c.next.new.self) t c.next.new.buf) w.field-0-is w.ensures.turn in
-    let missed = handed_as (Some c.in-Some.timestamp) c.show_turn.new.frame in
+    let after = state_early c.args.eager c.show_turn.new.follower in
+    let missed =
+    handed_as (Some c.in-Some.timestamp) c.show_turn.new.frame
+    ++ handed_early c.args.eager c.show_turn.new.follower in
     let so =
     so_datagram g.O.FollowObserver.after c.args.eager c.loop.counter c.loop.delivered
     (turns c.args.source.now) (turns c.loop.source) (turns c.next.new.self)
     (came c.args.source.now) (came c.loop.source) (came c.next.new.self)
-    c.args.follower.now c.loop.follower c.show_turn.new.follower (shown c.args.sink.now)
+    c.args.follower.now c.loop.follower after (shown c.args.sink.now)
     (shown c.loop.sink) (shown c.show_turn.new.sink) missed c.args.observer.now c.loop.observer
     c.show_turn.new.observer w.field-0-0 (take w.count c.next.new.buf) c.loop.invariant.so_far turn
     arrives c.show_turn.ensures.state c.in-Some.ensures.shown c.show_turn.ensures.heard in
     shown_since g.O.FollowObserver.after c.args.eager (c.loop.counter + 1) (c.loop.delivered + 1)
     (turns c.args.source.now) (turns c.next.new.self) (came c.args.source.now)
-    (came c.next.new.self) c.args.follower.now c.show_turn.new.follower (shown c.args.sink.now)
+    (came c.next.new.self) c.args.follower.now after (shown c.args.sink.now)
     (shown c.show_turn.new.sink) missed c.args.observer.now c.show_turn.new.observer so
 
 pub returns-in-Some-clause-heard : goal.returns-in-Some-clause-heard
@@ -183,18 +199,21 @@ returns-in-Some-clause-heard g c =
     let turn =
     subst (λ (t : Turn). TakesTurn (turns c.loop.source)
     (turns c.next.new.self) t c.next.new.buf) w.field-0-is w.ensures.turn in
-    let missed = handed_as (Some c.in-Some.timestamp) c.show_turn.new.frame in
+    let after = state_early c.args.eager c.show_turn.new.follower in
+    let missed =
+    handed_as (Some c.in-Some.timestamp) c.show_turn.new.frame
+    ++ handed_early c.args.eager c.show_turn.new.follower in
     let so =
     so_datagram g.O.FollowObserver.after c.args.eager c.loop.counter c.loop.delivered
     (turns c.args.source.now) (turns c.loop.source) (turns c.next.new.self)
     (came c.args.source.now) (came c.loop.source) (came c.next.new.self)
-    c.args.follower.now c.loop.follower c.show_turn.new.follower (shown c.args.sink.now)
+    c.args.follower.now c.loop.follower after (shown c.args.sink.now)
     (shown c.loop.sink) (shown c.show_turn.new.sink) missed c.args.observer.now c.loop.observer
     c.show_turn.new.observer w.field-0-0 (take w.count c.next.new.buf) c.loop.invariant.so_far turn
     arrives c.show_turn.ensures.state c.in-Some.ensures.shown c.show_turn.ensures.heard in
     heard_since g.O.FollowObserver.after c.args.eager (c.loop.counter + 1) (c.loop.delivered + 1)
     (turns c.args.source.now) (turns c.next.new.self) (came c.args.source.now)
-    (came c.next.new.self) c.args.follower.now c.show_turn.new.follower (shown c.args.sink.now)
+    (came c.next.new.self) c.args.follower.now after (shown c.args.sink.now)
     (shown c.show_turn.new.sink) missed c.args.observer.now c.show_turn.new.observer so
 
 pub returns-in-Ok-End-clause-state : goal.returns-in-Ok-End-clause-state

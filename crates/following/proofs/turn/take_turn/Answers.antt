@@ -1,8 +1,8 @@
 use Rattle.std.proofs.Common.{sym, ap, ◌∙◌}
 use Rattle.following.specs.Follower.{Following, answer_to, state_after, without_oldest}
 use Rattle.following.specs.Following.{frames_in}
-use Rattle.following.proofs.Turning.{answer-due, answer-on, handed-due, handed-on, turned-due}
-use Rattle.following.proofs.Turning.{turned-on}
+use Rattle.following.proofs.Turning.{answer-due, answer-on, before-due, before-on, taken-due}
+use Rattle.following.proofs.Turning.{taken-on}
 use Rattle.following.proofs.Turns.{due_is, not_due}
 use Rattle.std.proofs.Common.{take}
 use Rattle.following.proofs.turn.take_turn.Goals as goal
@@ -27,7 +27,7 @@ returns-then-is_due-clause-state g c =
     c.is_due.ensures c.if-is_due.true in
     c.take_waiting.ensures.state
     ∙ ap (λ (t : Following). state_after (without_oldest t) octets) (c.join-answer.ensures.left due.0)
-    ∙ sym (turned-due c.args.eager s octets due.1)
+    ∙ sym (taken-due s octets due.1)
 
 pub returns-then-is_due-clause-handed : goal.returns-then-is_due-clause-handed
 returns-then-is_due-clause-handed g c =
@@ -38,7 +38,7 @@ returns-then-is_due-clause-handed g c =
     c.is_due.ensures c.if-is_due.true in
     c.take_waiting.ensures.handed
     ∙ ap (λ (t : Following). take 1 (frames_in t)) (c.join-answer.ensures.left due.0)
-    ∙ sym (handed-due c.args.eager s octets due.1)
+    ∙ sym (before-due s octets due.1)
 
 pub returns-clause-answer : goal.returns-clause-answer
 returns-clause-answer g c =
@@ -56,8 +56,7 @@ returns-clause-state g c =
     let none =
     not_due s octets c.join-answer.result c.is_due.result c.join-answer.ensures.answer
     c.is_due.ensures c.if-is_due.false in
-    turned-on c.args.eager s c.join-answer.new.self c.hand_early-handed.new.follower octets none
-    c.join-answer.ensures.state c.hand_early-handed.ensures.state
+    c.join-answer.ensures.state ∙ sym (taken-on s octets none)
 
 pub returns-clause-handed : goal.returns-clause-handed
 returns-clause-handed g c =
@@ -66,5 +65,4 @@ returns-clause-handed g c =
     let none =
     not_due s octets c.join-answer.result c.is_due.result c.join-answer.ensures.answer
     c.is_due.ensures c.if-is_due.false in
-    handed-on c.args.eager s c.join-answer.new.self octets _ none c.join-answer.ensures.state
-    c.hand_early-handed.ensures.handed
+    sym (before-on s octets none)

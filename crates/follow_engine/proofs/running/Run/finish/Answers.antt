@@ -2,6 +2,7 @@ use Rattle.std.proofs.Common.{◌∙◌, [], ap, arith, length, refl, subst, sym
 use Rattle.std.proofs.lemmas.List.{length-drop}
 use Rattle.std.proofs.lemmas.Result.{err_from_is_err_and}
 use Rattle.following.specs.Follower.{Following, IsFollower}
+use Rattle.following.specs.Following.{frames_in}
 use Rattle.following.specs.Turned.{handed_as}
 use Rattle.following.specs.declared.restarts.Restarts.{Restarts}
 use Rattle.path_receiver.specs.Sliding.{with_window}
@@ -9,7 +10,8 @@ use Rattle.st_format.specs.Raster.{Raster}
 use Rattle.follow_engine.specs.Running.{running_of}
 use Rattle.follow_engine.proofs.Blamed.{blames_both}
 use Rattle.follow_engine.proofs.Cut.{leaving_cut}
-use Rattle.follow_engine.proofs.Leaving.{left_all, left_more, left_none, oldest_frames}
+use Rattle.follow_engine.proofs.Leaving.{left_all, left_end, left_more, left_none}
+use Rattle.follow_engine.proofs.Leaving.{oldest_frames}
 use Rattle.follow_engine.proofs.Turns.{run_oldest}
 use Rattle.follow_engine.proofs.running.Run.finish.Goals as goal
 
@@ -20,7 +22,7 @@ loop-self-init g c = record {
   opening = refl;
   size = refl;
   ahead = refl;
-  left = left_none g.P.PictureSink.takes (running_of c.args.self.now) c.args.pictures.now
+  left = left_none g.P.PictureSink.takes frames_in (running_of c.args.self.now) c.args.pictures.now
       (g.O.ByteSink.took c.args.output.now);
   picture_failures = refl;
   output_failures = refl;
@@ -48,8 +50,8 @@ loop-self-preserved g c =
       opening = ap (λ (f : Following). with_window f.opening []) at ∙ l.invariant.opening;
       size = ap (λ (f : Following). f.size) at ∙ l.invariant.size;
       ahead = ap (λ (f : Following). f.most_ahead) at ∙ l.invariant.ahead;
-      left = left_more g.P.PictureSink.takes (running_of c.args.self.now) (running_of old)
-          (running_of new) c.args.pictures.now l.pictures c.leave.new.pictures
+      left = left_more g.P.PictureSink.takes frames_in (running_of c.args.self.now)
+          (running_of old) (running_of new) c.args.pictures.now l.pictures c.leave.new.pictures
           (took c.args.output.now) (took l.output) (took c.leave.new.output)
           (handed_as out.result out.new.frame) out.new.follower l.invariant.left
           (oldest_frames old.follower out.new.follower (handed_as out.result out.new.frame)
@@ -89,8 +91,9 @@ returns-clause-finished g c =
     let took = g.O.ByteSink.took in
     let none = c.has_frames.ensures.none c.loop-self-test.false in
     let all =
-    left_all g.P.PictureSink.takes (running_of c.args.self.now) (running_of l.self)
-    c.args.pictures.now l.pictures (took c.args.output.now) (took l.output) l.invariant.left none in
+    left_all g.P.PictureSink.takes frames_in (running_of c.args.self.now) (running_of l.self)
+    c.args.pictures.now l.pictures (took c.args.output.now) (took l.output) l.invariant.left
+    (left_end l.self.follower none) in
     record {
       run = l.invariant.run;
       none = none;
@@ -109,8 +112,8 @@ returns-in_err-leave-clause-part g c =
     let out = c.hand_out-handed in
     let took = g.O.ByteSink.took in
     rw (p.1)
-    (leaving_cut g.P.PictureSink.takes g.P.PictureSink.fails (running_of c.args.self.now)
-    (running_of old) c.args.pictures.now l.pictures c.leave.new.pictures (took c.args.output.now)
+    (leaving_cut g.P.PictureSink.takes g.P.PictureSink.fails frames_in
+    (running_of c.args.self.now) (running_of old) c.args.pictures.now l.pictures c.leave.new.pictures (took c.args.output.now)
     (took l.output) (took c.leave.new.output) (handed_as out.result out.new.frame)
     out.new.follower l.invariant.left
     (oldest_frames old.follower out.new.follower (handed_as out.result out.new.frame)

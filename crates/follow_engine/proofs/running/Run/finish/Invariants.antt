@@ -1,4 +1,5 @@
 use Rattle.std.proofs.Common.{◌≡◌, [], length}
+use Rattle.following.specs.Following.{frames_in}
 use Rattle.path_receiver.specs.Sliding.{with_window}
 use Rattle.follow_engine.specs.Running.{IsSoundRun, running_of}
 use Rattle.follow_engine.proofs.Leaving.{HasLeft}
@@ -12,7 +13,7 @@ invariant-loop-self g l = record {
       ≡ with_window l.initial.self.follower.opening [];
   size : l.self.follower.size ≡ l.initial.self.follower.size;
   ahead : l.self.follower.most_ahead ≡ l.initial.self.follower.most_ahead;
-  left : HasLeft g.P.PictureSink.takes (running_of l.initial.self) (running_of l.self)
+  left : HasLeft g.P.PictureSink.takes frames_in (running_of l.initial.self) (running_of l.self)
       l.initial.pictures l.pictures (g.O.ByteSink.took l.initial.output)
       (g.O.ByteSink.took l.output);
   picture_failures : g.P.PictureSink.failures l.pictures
