@@ -15,7 +15,8 @@ use Rattle.side_by_side.specs.Strands.{Goes, GoesWhole, TakesAt}
 use Rattle.side_by_side.specs.declared.side.Side.{Side}
 use Rattle.side_by_side.specs.declared.steering.Steering.{Steering}
 use Rattle.st_format.specs.declared.path.Path.{Path}
-use Rattle.follow_engine.specs.Order.{GoesToFault, datagrams_in, most_datagrams}
+use Rattle.follow_engine.specs.Order.{GoesFirst, GoesToFault, GoesToMost, datagrams_in}
+use Rattle.follow_engine.specs.Order.{most_datagrams}
 use Rattle.follow_engine.specs.Refused.{StopsFollowing, StopsReadSides}
 use Rattle.follow_engine.proofs.First.{goes_first, goes_to_fault}
 use Rattle.follow_engine.proofs.Turns.{since_by, since_more}
@@ -100,25 +101,24 @@ came_count source source' entries none is =
     ap (λ (l : List (Path × List ℕ)). length (datagrams_since l source'.came)) none
     ∙ ap (λ (l : List (List ℕ)). length l) is ∙ length-map entries (λ (e : Entry). e.octets)
 
-many_read : {A S : Type 0} (gave : S → List ℕ) (ended : S → Type 0) (source source' : Sides A S)
-    (sides : List (Side A S)) → IsSideBySide source'
+-- so many went of them, whatever is behind what was read
+most_read : {A S : Type 0} (gave : S → List ℕ) (ended : S → Type 0) (st : Steering)
+    (source source' : Sides A S) (octets : List (List ℕ)) → (is : IsSideBySide source')
     → AllByRecursion (λ s. HasKnownOctets gave ended s.file) source'.sides → source.came ≡ []
-    → source'.sides ≡ sides
+    → source'.steering ≡ st
     → most_datagrams ≤ length (datagrams_since source.came source'.came)
-    → (octets : List (List ℕ)) → AllZip (SideGave gave ended) sides octets
-    → most_datagrams ≤ record_count (strands_of sides octets)
-many_read gave ended source source' sides is known none at many octets read =
-    let there =
-    subst (λ (l : List (Side _ _)). AllZip (SideGave gave ended) l octets) (sym at) read in
-    let first = goes_first gave ended source' octets is known there in
-    subst (λ (l : List (Side _ _)). most_datagrams ≤ record_count (strands_of l octets)) at
-    (omega (
-      arith,
-      many,
-      came_count source source' is.entries none (datagrams_from source'.came is.entries is.came_is),
-      goes_count source'.steering (strands_of source'.sides octets) is.entries first.left
-          first.goes,
-    ))
+    → AllZip (SideGave gave ended) source'.sides octets
+    → GoesToMost st (strands_of source'.sides octets) is.entries
+most_read gave ended st source source' octets is known none steering many read = record {
+  goes =
+      subst (λ (x : Steering). GoesFirst x (strands_of source'.sides octets) is.entries) steering
+      (goes_first gave ended source' octets is known read);
+  most = omega (
+    arith,
+    many,
+    came_count source source' is.entries none (datagrams_from source'.came is.entries is.came_is),
+  );
+}
 
 -- what stops files stops them by what was read
 pub stops_read : {A S : Type 0} (gave : S → List ℕ) (ended : S → Type 0) (st : Steering)
@@ -139,4 +139,10 @@ stops_read gave ended st source source' sides r is known none steering at (inl (
           steering (goes_to_fault gave ended source' octets f r is known told stops read),
     ))
 stops_read gave ended st source source' sides r is known none steering at (inr many) =
-    inr (many.0, many_read gave ended source source' sides is known none at many.1)
+    subst (λ (l : List (Side _ _)). StopsReadSides gave ended st l r) at
+    (inr (
+      many.0,
+      is.entries,
+      λ octets read.
+          most_read gave ended st source source' octets is known none steering many.1 read,
+    ))

@@ -6,9 +6,10 @@ use Rattle.std.specs.Prelude.{⊤}
 use Rattle.flow.specs.declared.flows.Flows.{Flows}
 use Rattle.media_file.specs.Records.{Entry}
 use Rattle.recording_counts.specs.declared.left_out.LeftOut.{LeftOut}
-use Rattle.recording_engines.proofs.FileFaults.{fault_is, fault_none, of_file, strand_by}
+use Rattle.recording_engines.proofs.FileFaults.{fault_is, fault_none, not_device, not_memory}
+use Rattle.recording_engines.proofs.FileFaults.{of_file, strand_by}
 use Rattle.recording_engines.specs.Files.{HasKnownOctets, IsFailedAt}
-use Rattle.recording_engines.specs.Joining.{ComesNoFault, Strand}
+use Rattle.recording_engines.specs.Joining.{ComesNoFault, IsAtNoFault, Strand}
 use Rattle.recording_engines.specs.Steps.{Ahead, Over, left_by, left_of, lefts, nothing, whole}
 use Rattle.recording_engines.specs.Steps.{whole_by, wholes}
 use Rattle.recording_engines.specs.Strands.{fault_of_file, strand_in}
@@ -24,15 +25,17 @@ use Rattle.run_outcome.specs.declared.fault.Fault.{Fault}
 use Rattle.run_outcome.specs.declared.fault.Fault.TheVariants.{Device, Memory, Refused}
 use Rattle.run_outcome.specs.declared.refusal.Refusal.{Refusal}
 use Rattle.side_by_side.specs.Going.{first_place}
-use Rattle.side_by_side.specs.Side.{ahead_by, standing_by}
-use Rattle.side_by_side.specs.Sides.{FileGave, IsSideBySide, OneSideAt, SideGave, Sides, standings}
-use Rattle.side_by_side.specs.Sides.{strand_of, strands_of}
+use Rattle.side_by_side.specs.Side.{IsSoundSide, ahead_by, standing_by, standing_of}
+use Rattle.side_by_side.specs.Sides.{AllSound, FileGave, FirstSideAt, IsSideBySide, SideGave}
+use Rattle.side_by_side.specs.Sides.{Sides, standings, strand_of, strands_of}
 use Rattle.side_by_side.specs.Strands.{AllRunning, Goes, TakesAt, going_in, goings_in}
 use Rattle.side_by_side.specs.declared.going.Going.{Going}
 use Rattle.side_by_side.specs.declared.going.Going.TheVariants.{Unread, AtOnce, By, Never}
 use Rattle.side_by_side.specs.declared.side.Side.{Side}
 use Rattle.side_by_side.specs.declared.steering.Steering.{Steering}
-use Rattle.follow_engine.specs.Order.{GoesFirst, GoesToFault, OneIsAt}
+use Rattle.side_by_side.proofs.Gone.{IsKnownAhead, running_left}
+use Rattle.side_by_side.proofs.Reading.{known_side}
+use Rattle.follow_engine.specs.Order.{FirstIsAt, GoesFirst, GoesToFault}
 
 abbrev strand : List Entry → Option ReadingFault → Strand
 strand es f = record { entries = es; fault = f }
@@ -199,12 +202,6 @@ none_refuses : (f : ReadingFault) (x : Fault) → reading_fault f ≡ x
     → ((r : Refusal) → x ≡ Refused r → ⊥) → RefusesNone f
 none_refuses f x is none = λ r told. none r (sym is ∙ told)
 
-not_device : (r : Refusal) → Device ≡ Refused r → ⊥
-not_device r is = cc
-
-not_memory : (r : Refusal) → Memory ≡ Refused r → ⊥
-not_memory r is = cc
-
 -- at a fault by which a run is refused all of its records were read
 longer_at : (flows : Option Flows) (f : ReadingFault) (w : Going) (h : Option Entry)
     (octets : List ℕ) (es : List Entry) (left : LeftOut)
@@ -293,26 +290,42 @@ left_file f r w (Open x) q l told at longer =
     (ap (λ (s : Stand). ahead_by s w x.at_hand) at) longer
 left_file f r w Taken q l told at longer = absurd at
 
-one_at : {A S : Type 0} (f : ReadingFault) (r : Refusal) (sides : List (Side A S))
-    (rs left : List Strand) → reading_fault f ≡ Refused r → OneSideAt f sides
-    → AllLonger (lefts (standings sides) rs) left → OneIsAt f left
-one_at f r [] rs left told at longer = absurd at
-one_at f r (s ∷ ss) [] [] told at longer = absurd longer
-one_at f r (s ∷ ss) [] (l ∷ ls) told (inl here) longer =
-    inl (left_file f r s.going s.file nothing l told here longer.0)
-one_at f r (s ∷ ss) [] (l ∷ ls) told (inr more) longer =
-    inr (one_at f r ss [] ls told more longer.1)
-one_at f r (s ∷ ss) (q ∷ qs) [] told at longer = absurd longer
-one_at f r (s ∷ ss) (q ∷ qs) (l ∷ ls) told (inl here) longer =
-    inl (left_file f r s.going s.file q l told here longer.0)
-one_at f r (s ∷ ss) (q ∷ qs) (l ∷ ls) told (inr more) longer =
-    inr (one_at f r ss qs ls told more longer.1)
+-- one of which what comes next is known is at no fault
+left_known : (a : Ahead) (q l : Strand) → IsKnownAhead a → IsLonger (left_by a q) l
+    → IsAtNoFault l
+left_known a q l known longer = running_longer (left_by a q) l longer (running_left a q known)
+
+module _ {A S : Type 0} (f : ReadingFault) (r : Refusal) (st : Steering)
+    (told : reading_fault f ≡ Refused r) where
+  -- what is left of one that came to the fault, or of one that is read and of those behind it
+  here_or_behind : (s : Side A S) (ss : List (Side A S)) (q l : Strand) (ls : List Strand)
+      → IsSoundSide st s → IsLonger (left_of (standing_of s) q) l
+      → (FirstSideAt f ss → FirstIsAt f ls) → FirstSideAt f (s ∷ ss) → FirstIsAt f (l ∷ ls)
+  here_or_behind s ss q l ls sound longer rest (inl here) =
+      inl (left_file f r s.going s.file q l told here longer)
+  here_or_behind s ss q l ls sound longer rest (inr behind) =
+      inr (
+        left_known (standing_of s).ahead q l (known_side st s sound behind.0).known longer,
+        rest behind.1,
+      )
+
+  first_at : (sides : List (Side A S)) (rs left : List Strand) → AllSound st sides
+      → FirstSideAt f sides → AllLonger (lefts (standings sides) rs) left → FirstIsAt f left
+  first_at [] rs left sound at longer = absurd at
+  first_at (s ∷ ss) [] [] sound at longer = absurd longer
+  first_at (s ∷ ss) [] (l ∷ ls) sound at longer =
+      here_or_behind s ss nothing l ls sound.0 longer.0
+      (λ behind. first_at ss [] ls sound.1 behind longer.1) at
+  first_at (s ∷ ss) (q ∷ qs) [] sound at longer = absurd longer
+  first_at (s ∷ ss) (q ∷ qs) (l ∷ ls) sound at longer =
+      here_or_behind s ss q l ls sound.0 longer.0
+      (λ behind. first_at ss qs ls sound.1 behind longer.1) at
 
 -- where a file is at a fault by which a run is refused, all went that goes up to there
 pub goes_to_fault : {A S : Type 0} (gave : S → List ℕ) (ended : S → Type 0) (s : Sides A S)
     (octets : List (List ℕ)) (f : ReadingFault) (r : Refusal) → (is : IsSideBySide s)
     → AllByRecursion (λ x. HasKnownOctets gave ended x.file) s.sides
-    → reading_fault f ≡ Refused r → OneSideAt f s.sides
+    → reading_fault f ≡ Refused r → FirstSideAt f s.sides
     → AllZip (SideGave gave ended) s.sides octets
     → GoesToFault f s.steering (strands_of s.sides octets) is.entries
 goes_to_fault gave ended s octets f r is known told at read =
@@ -323,5 +336,5 @@ goes_to_fault gave ended s octets f r is known told at read =
     record {
       left = rest.left';
       goes = rest.goes;
-      at = one_at f r s.sides all.0 rest.left' told at rest.longer;
+      at = first_at f r s.steering told s.sides all.0 rest.left' is.sound at rest.longer;
     }

@@ -15,5 +15,6 @@ pub mod Openings
 pub mod Grows
 pub mod Cut
 pub mod First
+pub mod OneFault
 pub mod Counted
 pub mod Short

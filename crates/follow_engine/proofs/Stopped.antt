@@ -1,5 +1,5 @@
 -- What stops files that are followed, and the text of the first one.
-use Rattle.std.proofs.Common.{◌≡◌, ◌≤◌, ℕ, ◌⊎◌, inl, inr, List, [], ◌∷◌, Option, None, Some}
+use Rattle.std.proofs.Common.{◌≡◌, ℕ, ◌⊎◌, inl, inr, List, [], ◌∷◌, Option, None, Some}
 use Rattle.std.proofs.Common.{Result, refl, sym, ap, subst, ◌∙◌}
 use Rattle.std.specs.List.{AllByRecursion, AllZip, zip}
 use Rattle.std.specs.Prelude.{MatchOption}
@@ -11,7 +11,6 @@ use Rattle.media_file.specs.declared.fault.FileFault.TheVariants.{TooManyRecords
 use Rattle.recording_engines.proofs.FileFaults.{of_file}
 use Rattle.recording_engines.proofs.Same.{no_more, same_head, same_tail}
 use Rattle.recording_engines.specs.Files.{HasKnownOctets, IsFailedAt, ended_by, gave_by}
-use Rattle.recording_engines.specs.Joining.{Strand}
 use Rattle.recording_engines.specs.declared.file.ImportFile.{ImportFile}
 use Rattle.recording_engines.specs.declared.file.ImportFile.TheVariants.{Closed, Open, Taken}
 use Rattle.recording_reader.specs.FileReader.{FileReader, HasGivenFile, IsKnownBy}
@@ -25,17 +24,16 @@ use Rattle.run_outcome.specs.declared.fault.Fault.TheVariants.{Device, Memory, R
 use Rattle.run_outcome.specs.declared.refusal.Refusal.{Refusal}
 use Rattle.run_outcome.specs.declared.refusal.Refusal.TheVariants as refusal
 use Rattle.st_format.specs.History.{IsRead}
-use Rattle.side_by_side.specs.InOrder.{record_count}
 use Rattle.side_by_side.specs.Side.{Begun, begun_at}
-use Rattle.side_by_side.specs.Sides.{IsFaultOfFiles, OneSideAt, SideGave, begun_each, strands_of}
+use Rattle.side_by_side.specs.Sides.{FirstSideAt, IsFaultOfFiles, SideGave, begun_each, strands_of}
 use Rattle.side_by_side.specs.declared.side.Side.{Side}
 use Rattle.side_by_side.specs.declared.steering.Steering.{Steering}
 use Rattle.follow_engine.specs.Opened.{AreOpened, IsFirstText}
-use Rattle.follow_engine.specs.Order.{GoesToFault, most_datagrams}
-use Rattle.follow_engine.specs.Refused.{AreTooMany, FirstRefuses, IsFileRefusal, IsFirstRefusal}
+use Rattle.follow_engine.specs.Order.{GoesToFault, GoesToMost}
+use Rattle.follow_engine.specs.Refused.{FirstRefuses, IsFileRefusal, IsFirstRefusal}
 use Rattle.follow_engine.specs.Refused.{StopsFollowing, StopsReadSides, fault_in}
 use Rattle.follow_engine.specs.Sides.{SideRead}
-use Rattle.follow_engine.proofs.Whole.{all_taken, begun_by, first_said, same_fault}
+use Rattle.follow_engine.proofs.Whole.{begun_by, first_said, same_fault}
 use Rattle.run_outcome.specs.LowerFaults.{reading_fault}
 
 -- ---- the text of the first
@@ -69,7 +67,7 @@ first_by gave ended ways (Some t) text olds news r opened first is = absurd is
 -- ---- the fault of one
 
 stops_by : {A S : Type 0} (f : Fault) (reading : ReadingFault) (sides : List (Side A S))
-    (count : ℕ) → f ≡ reading_fault reading → OneSideAt reading sides
+    (count : ℕ) → f ≡ reading_fault reading → FirstSideAt reading sides
     → OfRefusal f (StopsFollowing count sides)
 stops_by (Refused r) reading sides count told at = inl (reading, sym told, at)
 stops_by Device reading sides count told at = tt
@@ -114,7 +112,7 @@ one_stops : {A S : Type 0} (gave : S → List ℕ) (ended : S → Type 0)
     (ways : List (Result Flows Refusal)) (olds mids news : List (Side A S)) (f : ReadingFault)
     (r : Refusal) → AreOpened gave ended ways olds mids → begun_each news ≡ begun_each mids
     → AllByRecursion (λ x. HasKnownOctets gave ended x.file) news → reading_fault f ≡ Refused r
-    → OneSideAt f news
+    → FirstSideAt f news
     → OneFileIs (λ w s. IsFileRefusal (SideRead gave ended s) r) ways (zip olds news)
 one_stops gave ended ways olds mids [] f r opened same known told at = absurd at
 one_stops gave ended ways olds [] (n ∷ ns) f r opened same known told at =
@@ -131,31 +129,28 @@ one_stops gave ended ways (x ∷ xs) (m ∷ ms) (n ∷ ns) f r opened same known
     )
 one_stops gave ended ways (x ∷ xs) (m ∷ ms) (n ∷ ns) f r opened same known told (inr at) =
     let tail = same_tail (begun_at n.file) (begun_at m.file) (begun_each ns) (begun_each ms) same in
-    inr (one_stops gave ended (other_ways ways) xs ms ns f r opened.1 tail known.1 told at)
+    inr (one_stops gave ended (other_ways ways) xs ms ns f r opened.1 tail known.1 told at.1)
 
 pub stops_files : {A S : Type 0} (gave : S → List ℕ) (ended : S → Type 0)
     (ways : List (Result Flows Refusal)) (olds mids news : List (Side A S)) (st : Steering)
-    (r : Refusal) (Turn : Type 0)
+    (r : Refusal) (Turn Most : Type 0)
     → AreOpened gave ended ways olds mids → begun_each news ≡ begun_each mids
     → AllByRecursion (λ x. HasKnownOctets gave ended x.file) news
     → ((f : ReadingFault) (entries : List Entry) → reading_fault f ≡ Refused r
     → ((octets : List (List ℕ)) → AllZip (SideGave gave ended) news octets
     → GoesToFault f st (strands_of news octets) entries) → Turn)
+    → ((entries : List Entry)
+    → ((octets : List (List ℕ)) → AllZip (SideGave gave ended) news octets
+    → GoesToMost st (strands_of news octets) entries) → Most)
     → StopsReadSides gave ended st news r
     → (OneFileIs (λ w s. IsFileRefusal (SideRead gave ended s) r) ways (zip olds news) × Turn)
-    ⊎ ((r ≡ refusal.Capture TooManyRecords)
-    × AreTooMany ways (SideRead gave ended) (zip olds news))
-stops_files gave ended ways olds mids news st r Turn opened same known turn
+    ⊎ ((r ≡ refusal.Capture TooManyRecords) × Most)
+stops_files gave ended ways olds mids news st r Turn Most opened same known turn most
     (inl (f, told, at, entries, goes)) =
     inl (
       one_stops gave ended ways olds mids news f r opened same known told at,
       turn f entries told goes,
     )
-stops_files gave ended ways olds mids news st r Turn opened same known turn (inr many) =
-    inr (
-      many.0,
-      λ octets read.
-          let taken = all_taken gave ended ways olds mids news octets opened same read in
-          subst (λ (l : List Strand). most_datagrams ≤ record_count l) taken.strands
-          (many.1 octets taken.given),
-    )
+stops_files gave ended ways olds mids news st r Turn Most opened same known turn most
+    (inr (many, entries, goes)) =
+    inr (many, most entries goes)

@@ -1,9 +1,9 @@
 -- The order in which the records of files go into a stream (own).
-use Rattle.std.specs.Prelude.{◌≡◌, ◌⊎◌, ℕ, ⊤, List, [], ◌∷◌, Some, map, Result}
+use Rattle.std.specs.Prelude.{◌≡◌, ◌≤◌, ◌⊎◌, ℕ, ⊤, List, [], ◌∷◌, Some, length, map, Result}
 use Rattle.flow.specs.declared.flows.Flows.{Flows}
 use Rattle.media_file.specs.Records.{Entry}
 use Rattle.capture_engines.specs.Files.{first_way, flows_in, other_ways}
-use Rattle.recording_engines.specs.Joining.{Strand}
+use Rattle.recording_engines.specs.Joining.{IsAtNoFault, Strand}
 use Rattle.recording_engines.specs.Strands.{IsTakenBy, strand_in}
 use Rattle.recording_reader.specs.declared.fault.ReadingFault.{ReadingFault}
 use Rattle.side_by_side.specs.Strands.{Goes}
@@ -35,14 +35,23 @@ pub record GoesFirst (s : Steering) (strands : List Strand) (entries : List Entr
   pub left : List Strand
   pub goes : Goes s strands entries left
 
--- one of some files is at this fault: none of its records is left
-abbrev pub OneIsAt : ReadingFault → List Strand → Type 0
-OneIsAt f [] = ⊥
-OneIsAt f (s ∷ ss) = (s ≡ record { entries = []; fault = Some f }) ⊎ OneIsAt f ss
+-- The first of some files that is at a fault is at this one: none of its records is left. Of each
+-- before it one is left, or it has no fault.
+abbrev pub FirstIsAt : ReadingFault → List Strand → Type 0
+FirstIsAt f [] = ⊥
+FirstIsAt f (s ∷ ss) = (s ≡ record { entries = []; fault = Some f })
+    ⊎ (IsAtNoFault s × FirstIsAt f ss)
 
--- These records are all that go of files until one is at this fault.
+-- These records are all that go of files until one is at a fault; of those that are at one then,
+-- this is the first file's.
 pub record GoesToFault (f : ReadingFault) (s : Steering) (strands : List Strand)
     (entries : List Entry) : Type 0 where
   pub left : List Strand
   pub goes : Goes s strands entries left
-  pub at : OneIsAt f left
+  pub at : FirstIsAt f left
+
+-- These records are the first that go of files, and as many as are counted: no file came to its
+-- fault before.
+pub record GoesToMost (s : Steering) (strands : List Strand) (entries : List Entry) : Type 0 where
+  pub goes : GoesFirst s strands entries
+  pub most : most_datagrams ≤ length entries

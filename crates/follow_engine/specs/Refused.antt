@@ -10,6 +10,7 @@ use Rattle.media_file.specs.Records.{Entry}
 use Rattle.media_file.specs.declared.fault.FileFault.TheVariants.{TooManyRecords}
 use Rattle.path_receiver.specs.Opening.{IsWindowSize, Opening}
 use Rattle.path_receiver.specs.declared.fault.OpenFault.TheVariants as open_fault
+use Rattle.recording_engines.specs.Joining.{Strand}
 use Rattle.recording_reader.specs.Files.{IsFileFault, text_of_file}
 use Rattle.recording_reader.specs.declared.fault.ReadingFault.{ReadingFault}
 use Rattle.run_outcome.specs.Sources.{IsSourceText}
@@ -18,13 +19,12 @@ use Rattle.run_outcome.specs.declared.fault.Fault.{Fault}
 use Rattle.run_outcome.specs.declared.fault.Fault.TheVariants.{Device, Refused}
 use Rattle.run_outcome.specs.declared.refusal.Refusal.{Refusal}
 use Rattle.run_outcome.specs.declared.refusal.Refusal.TheVariants as refusal
-use Rattle.side_by_side.specs.InOrder.{record_count}
-use Rattle.side_by_side.specs.Sides.{OneSideAt, SideGave, strands_of}
+use Rattle.side_by_side.specs.Sides.{FirstSideAt, SideGave, strands_of}
 use Rattle.side_by_side.specs.declared.side.Side.{Side}
 use Rattle.side_by_side.specs.declared.steering.Steering.{Steering}
 use Rattle.run_outcome.specs.LowerFaults.{reading_fault}
 use Rattle.follow_engine.specs.Fronts.{HaveSoundFronts, StopsFirstFront}
-use Rattle.follow_engine.specs.Order.{GoesToFault, most_datagrams, strands_by}
+use Rattle.follow_engine.specs.Order.{GoesToFault, GoesToMost, most_datagrams, strands_by}
 use Rattle.follow_engine.specs.Running.{steering_of}
 
 -- ---- the words
@@ -74,53 +74,56 @@ abbrev pub fault_in : Option ReadingFault → Fault
 fault_in None = Device
 fault_in (Some f) = reading_fault f
 
--- what stops files that are read, behind so many datagrams: one is at its fault; or no more are
--- counted
+-- what stops files that are read, behind so many datagrams: the fault of the first that is at one;
+-- or no more are counted
 abbrev pub StopsFollowing : {A S : Type 0} → ℕ → List (Side A S) → Refusal → Type 0
 StopsFollowing count sides r =
-    ((f : ReadingFault) × (reading_fault f ≡ Refused r) × OneSideAt f sides)
+    ((f : ReadingFault) × (reading_fault f ≡ Refused r) × FirstSideAt f sides)
     ⊎ ((r ≡ refusal.Capture TooManyRecords) × (most_datagrams ≤ count))
 
--- so by what was read of them: all records went up to the fault; they have as many records as are
--- counted
+-- so by what was read of them: all records went up to the fault; or as many as are counted
 abbrev pub StopsReadSides : {A S : Type 0} → (S → List ℕ) → (S → Type 0) → Steering
     → List (Side A S) → Refusal → Type 0
 StopsReadSides gave ended steering sides r =
-    ((f : ReadingFault) × (reading_fault f ≡ Refused r) × OneSideAt f sides
+    ((f : ReadingFault) × (reading_fault f ≡ Refused r) × FirstSideAt f sides
     × (entries : List Entry)
     × ((octets : List (List ℕ)) → AllZip (SideGave gave ended) sides octets
     → GoesToFault f steering (strands_of sides octets) entries))
-    ⊎ ((r ≡ refusal.Capture TooManyRecords)
+    ⊎ ((r ≡ refusal.Capture TooManyRecords) × (entries : List Entry)
     × ((octets : List (List ℕ)) → AllZip (SideGave gave ended) sides octets
-    → most_datagrams ≤ record_count (strands_of sides octets)))
+    → GoesToMost steering (strands_of sides octets) entries))
 
 -- so of what was read: one file has this as its first fault
 abbrev pub IsFileRefusal : (List ℕ → Type 0) → Refusal → Type 0
 IsFileRefusal told r = (f : ReadingFault) × (reading_fault f ≡ Refused r)
     × ((octets : List ℕ) → told octets → IsFileFault f octets)
 
--- files have as many records as are counted, or more
-abbrev pub AreTooMany : {S : Type 0} → List (Result Flows Refusal) → (S → List ℕ → Type 0)
-    → List S → Type 0
-AreTooMany ways told files = (octets : List (List ℕ)) → AllZip told files octets
-    → most_datagrams ≤ record_count (strands_by ways octets)
-
 -- ---- the run
 
--- This is the fault of the file whose turn it is: by an opening that the words and the SDP text
--- say, all records that go side by side went until one is at it.
-pub record IsInTurnFault {S : Type 0} (ssrc : List ℕ) (sdp : Option (List ℕ))
-    (ways : List (Result Flows Refusal)) (told : S → List ℕ → Type 0) (files : List S) (r : Refusal)
-    : Type 0 where
-  pub reading : ReadingFault
-  pub refused : reading_fault reading ≡ Refused r
+-- By an opening that the words and the SDP text say this holds of the files that are read side by
+-- side, and of the records that went of them.
+pub record GoesSoFar {S : Type 0} (ssrc : List ℕ) (sdp : Option (List ℕ))
+    (ways : List (Result Flows Refusal)) (told : S → List ℕ → Type 0) (files : List S)
+    (Goes : Steering → List Strand → List Entry → Type 0) : Type 0 where
   pub opening : Opening
   pub entries : List Entry
   pub source_is : IsSourceText ssrc opening.ssrc
   pub announced : (octets : List (List ℕ)) (text : List ℕ) → AllZip told files octets
       → said_behind sdp octets ≡ Some text → AnnouncesStream text opening
   pub goes : (octets : List (List ℕ)) → AllZip told files octets
-      → GoesToFault reading (steering_of opening) (strands_by ways octets) entries
+      → Goes (steering_of opening) (strands_by ways octets) entries
+
+-- This is the fault of the file whose turn it is: all records that go side by side went until one
+-- is at a fault, and of those that are at one this is the first file's.
+abbrev pub IsInTurnFault : {S : Type 0} → List ℕ → Option (List ℕ) → List (Result Flows Refusal)
+    → (S → List ℕ → Type 0) → List S → Refusal → Type 0
+IsInTurnFault ssrc sdp ways told files r = (f : ReadingFault) × (reading_fault f ≡ Refused r)
+    × GoesSoFar ssrc sdp ways told files (GoesToFault f)
+
+-- as many records went as are counted, and no file came to its fault before
+abbrev pub AreTooMany : {S : Type 0} → List ℕ → Option (List ℕ) → List (Result Flows Refusal)
+    → (S → List ℕ → Type 0) → List S → Type 0
+AreTooMany ssrc sdp ways told files = GoesSoFar ssrc sdp ways told files GoesToMost
 
 -- The refusals of the files' records: the first fault of the one whose turn it is; that there are
 -- too many.
@@ -129,7 +132,7 @@ abbrev pub IsRecordsRefusal : {S : Type 0} → List ℕ → Option (List ℕ)
 IsRecordsRefusal ssrc sdp ways told files r =
     (OneFileIs (λ w s. IsFileRefusal (told s) r) ways files
     × IsInTurnFault ssrc sdp ways told files r)
-    ⊎ ((r ≡ refusal.Capture TooManyRecords) × AreTooMany ways told files)
+    ⊎ ((r ≡ refusal.Capture TooManyRecords) × AreTooMany ssrc sdp ways told files)
 
 -- The refusal of files: of the first front that has one; else of the first file's SDP text, where
 -- none is given; else of the records.

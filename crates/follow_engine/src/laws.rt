@@ -2,9 +2,14 @@
 ghost use Rattle.std.specs.Prelude.{◌≡◌, ◌++◌, ◌∷◌, [], ℕ, Bool, true, List};
 ghost use Rattle.follow_engine.specs.Events.{Running, behind_all, events_in, events_of};
 ghost use Rattle.follow_engine.specs.Events.{frames_of_events, is_anew, running_from};
+ghost use Rattle.follow_engine.specs.Order.{GoesToFault};
 ghost use Rattle.follow_engine.specs.Plain.{NoneAnew};
 ghost use Rattle.following.specs.Follower.{Following, opened};
 ghost use Rattle.following.specs.Turned.{handed_all};
+ghost use Rattle.media_file.specs.Records.{Entry};
+ghost use Rattle.recording_engines.specs.Joining.{Strand};
+ghost use Rattle.recording_reader.specs.declared.fault.ReadingFault.{ReadingFault};
+ghost use Rattle.side_by_side.specs.declared.steering.Steering.{Steering};
 
 /// Where a stream isn't followed anew, the frames that leave it are those that a follower hands out
 /// of its datagrams, with those that are in at the end: so every law of a follower holds of them.
@@ -35,4 +40,12 @@ pub fn in_parts()
     ensures events { (eager : Bool) (r : Running) (first rest : List (List ℕ)) →
         events_in eager r (first ++ rest)
         ≡ events_in eager r first ++ events_in eager (behind_all eager r first) rest }
+{}
+
+/// By the records that files have one fault is that of the file whose turn it is, behind the same
+/// records: of several files that are at theirs it is the first one's.
+pub fn one_fault_in_turn()
+    ensures { (s : Steering) (strands : List Strand) (entries others : List Entry)
+        (f g : ReadingFault) → GoesToFault f s strands entries → GoesToFault g s strands others
+        → (f ≡ g) × (entries ≡ others) }
 {}

@@ -160,7 +160,7 @@ going_left st Unknown r known = absurd known
 going_left st (Coming e) r known = refl
 going_left st (Over f) r known = refl
 
-running_left : (a : Ahead) (r : Strand) → IsKnownAhead a
+pub running_left : (a : Ahead) (r : Strand) → IsKnownAhead a
     → ComesNoFault (left_by a r).entries (left_by a r).fault
 running_left Unknown r known = absurd known
 running_left (Coming e) r known = tt

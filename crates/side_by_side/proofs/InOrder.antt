@@ -14,7 +14,7 @@ use Rattle.side_by_side.specs.declared.steering.Steering.{Steering}
 
 -- ---- a record that is taken
 
-taken_head : (k : ℕ) (strands : List Strand) (e : Entry) (left : List Strand)
+pub taken_head : (k : ℕ) (strands : List Strand) (e : Entry) (left : List Strand)
     → TakesAt k strands e left → first_entry_at k strands ≡ Some e
 taken_head k [] e left takes = absurd takes
 taken_head k (s ∷ ss) e [] takes = absurd takes
@@ -31,7 +31,7 @@ tail_left s l e is =
     ap (λ (x : Strand). (let t : Strand = record { entries = tail_of x.entries; fault = x.fault } in t))
     is
 
-taken_rest : (k : ℕ) (strands : List Strand) (e : Entry) (left : List Strand)
+pub taken_rest : (k : ℕ) (strands : List Strand) (e : Entry) (left : List Strand)
     → TakesAt k strands e left → without_at k strands ≡ left
 taken_rest k [] e left takes = absurd takes
 taken_rest k (s ∷ ss) e [] takes = absurd takes

@@ -26,7 +26,7 @@ use Rattle.side_by_side.specs.Side.{Begun, HandGoes, IsNewSide, IsSoundBy, IsSou
 use Rattle.side_by_side.specs.Side.{IsUnfailed, IsUnfailedFile, ReadsFile, ReadsReader, ReadsSide}
 use Rattle.side_by_side.specs.Side.{ComesToFault, StopsReader, StopsSide, ahead_by, ahead_of_hand}
 use Rattle.side_by_side.specs.Side.{going_found, goings, reader_standing, standing_by, standing_of}
-use Rattle.side_by_side.specs.Sides.{AllRead, AllSound, AllUnfailed, OneSideAt, standings}
+use Rattle.side_by_side.specs.Sides.{AllRead, AllSound, AllUnfailed, FirstSideAt, standings}
 use Rattle.side_by_side.specs.Steering.{stamp_of}
 use Rattle.side_by_side.specs.Steps.{HasReadOn, HaveReadOn}
 use Rattle.side_by_side.specs.declared.going.Going.{Going}
@@ -401,11 +401,14 @@ on_set [] k d s' on = tt
 on_set (s ∷ ss) zero d s' on = (on, all_stay (standings ss))
 on_set (s ∷ ss) (suc k) d s' on = (inl refl, on_set ss k d s' on)
 
+-- the one of a place came to a fault, and those before it are read
 pub stopped_set : {A S : Type 0} (f : ReadingFault) (sides : List (Side A S)) (k : ℕ)
-    (s' : Side A S) → k < length sides → IsFailedAt f s'.file → OneSideAt f (set sides k s')
-stopped_set f [] k s' lt at = absurd (omega (arith, lt))
-stopped_set f (s ∷ ss) zero s' lt at = inl at
-stopped_set f (s ∷ ss) (suc k) s' lt at = inr (stopped_set f ss k s' (omega (arith, lt)) at)
+    (s' : Side A S) → k < length sides → AllRead (take k sides) → IsFailedAt f s'.file
+    → FirstSideAt f (set sides k s')
+stopped_set f [] k s' lt read at = absurd (omega (arith, lt))
+stopped_set f (s ∷ ss) zero s' lt read at = inl at
+stopped_set f (s ∷ ss) (suc k) s' lt read at =
+    inr (read.0, stopped_set f ss k s' (omega (arith, lt)) read.1 at)
 
 pub all_unfailed : {A S : Type 0} (st : Steering) (sides : List (Side A S)) → AllSound st sides
     → AllRead sides → AllUnfailed sides

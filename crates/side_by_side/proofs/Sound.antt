@@ -18,8 +18,8 @@ use Rattle.st_format.specs.declared.device.Turn.{Turn}
 use Rattle.st_format.specs.declared.device.Turn.TheVariants.{Datagram, Quiet, End}
 use Rattle.st_format.specs.declared.path.Path.{Path}
 use Rattle.side_by_side.specs.Side.{IsUnfailedFile}
-use Rattle.side_by_side.specs.Sides.{AllUnfailed, IsFaultOfFiles, IsSideBySide, IsUnreadSide}
-use Rattle.side_by_side.specs.Sides.{OneSideAt, Sides, StopsAll, StopsSides, TellsNextSide}
+use Rattle.side_by_side.specs.Sides.{AllUnfailed, FirstSideAt, IsFaultOfFiles, IsSideBySide}
+use Rattle.side_by_side.specs.Sides.{IsUnreadSide, Sides, StopsAll, StopsSides, TellsNextSide}
 use Rattle.side_by_side.specs.Sides.{TellsSide}
 use Rattle.side_by_side.specs.Sides.{TellsSides, given_of, standings}
 use Rattle.side_by_side.specs.Steps.{HasGone}
@@ -89,11 +89,11 @@ at_unfailed f (Open r) at unfailed =
     let no : Some f ≡ None = sym (ap (λ (s : Stand). fault_of s) at) ∙ unfailed in absurd cc
 at_unfailed f Taken at unfailed = at
 
-one_unfailed : {A S : Type 0} (f : ReadingFault) (sides : List (Side A S)) → OneSideAt f sides
+one_unfailed : {A S : Type 0} (f : ReadingFault) (sides : List (Side A S)) → FirstSideAt f sides
     → AllUnfailed sides → ⊥
 one_unfailed f [] at unfailed = at
 one_unfailed f (s ∷ ss) (inl at) unfailed = at_unfailed f s.file at unfailed.0
-one_unfailed f (s ∷ ss) (inr at) unfailed = one_unfailed f ss at unfailed.1
+one_unfailed f (s ∷ ss) (inr at) unfailed = one_unfailed f ss at.1 unfailed.1
 
 -- where none was at a fault, it stays at none
 stopped_none : {A S : Type 0} (fault : Option ReadingFault) (olds news : List (Side A S))

@@ -63,10 +63,11 @@ AllRead sides = AllByRecursion (λ s. IsReadBy s.going) sides
 abbrev pub AllOver : {A S : Type 0} → List (Side A S) → Type 0
 AllOver sides = AllByRecursion (λ s. (standing_of s).ahead ≡ Over None) sides
 
--- one of the files came to this fault
-abbrev pub OneSideAt : {A S : Type 0} → ReadingFault → List (Side A S) → Type 0
-OneSideAt f [] = ⊥
-OneSideAt f (s ∷ ss) = IsFailedAt f s.file ⊎ OneSideAt f ss
+-- one of the files came to this fault, and what comes next of each before it is read: those are at
+-- none
+abbrev pub FirstSideAt : {A S : Type 0} → ReadingFault → List (Side A S) → Type 0
+FirstSideAt f [] = ⊥
+FirstSideAt f (s ∷ ss) = IsFailedAt f s.file ⊎ (IsReadBy s.going × FirstSideAt f ss)
 
 -- nothing was read of a file behind what stands before its records, if it is opened
 abbrev pub IsFreshFile : {A S : Type 0} → ImportFile A S → Type 0
@@ -87,11 +88,11 @@ pub record ReadsAll {A S : Type 0} (steering : Steering) (olds news : List (Side
   pub read : AllRead news
   pub goes_on : HaveReadOn (standings olds) (standings news)
 
--- One was read on to a fault, at which it stays.
+-- One was read on to a fault, at which it stays, behind those before it, which came to none.
 pub record StopsAll {A S : Type 0} (steering : Steering) (f : ReadingFault)
     (olds news : List (Side A S)) : Type 0 where
   pub sound : AllSound steering news
-  pub stopped : OneSideAt f news
+  pub stopped : FirstSideAt f news
   pub goes_on : HaveReadOn (standings olds) (standings news)
 
 -- The datagram that the one of a place has at hand was given by a turn, whose octets stand at the
@@ -151,10 +152,10 @@ pub record Sides (A S : Type 0) : Type 0 where
 abbrev pub last_fault_of : Option ReadingFault → Option SourceFault
 last_fault_of fault = option_map source_fault fault
 
--- where it came to a fault, one of the files is at it
+-- where it came to a fault, that is the first of the files', in their order
 abbrev pub IsFaultOfFiles : {A S : Type 0} → Option ReadingFault → List (Side A S) → Type 0
 IsFaultOfFiles None sides = ⊤
-IsFaultOfFiles (Some f) sides = OneSideAt f sides
+IsFaultOfFiles (Some f) sides = FirstSideAt f sides
 
 -- What is so of each: the datagrams that it gave are those of the files' records, each file's in
 -- its order, always that of the file that goes first.

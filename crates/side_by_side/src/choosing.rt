@@ -48,7 +48,7 @@ fn sooner(first: Going, later: Option<(usize, Going)>, _count: usize) -> Option<
 ///
 /// # Errors
 ///
-/// The fault of the first of them that comes to one; it stays there.
+/// The fault of the first of them that comes to one; it stays there, and none behind it is read on.
 pub(crate) fn read_all<A: Allocator, S: ByteSource>(
     steering: Steering,
     sides: &mut [Side<A, S>],

@@ -20,7 +20,7 @@ use std::alloc::Allocator;
 ///
 /// # Errors
 ///
-/// The fault of a file that has one before its next datagram: it ends all of them there.
+/// The fault of the first file that has one before its next datagram: it ends all of them there.
 pub(crate) fn tell_next<A: Allocator, S: ByteSource>(
     steering: Steering,
     sides: &mut [Side<A, S>],

@@ -24,9 +24,10 @@ use std::marker::Model;
 /// has the oldest timestamp (RFC 1982, 3.2), of those of one timestamp the first file's. A datagram
 /// that steers nothing, as one of RTCP, goes at once. The timestamps are those of one stream.
 ///
-/// Each file keeps its order. A file is read on only when its datagram is wanted, one ahead. At the
-/// first fault of a file it ends: the datagrams that were given before it stay, those of the others
-/// are not read on, and each later call answers that fault. A file that isn't opened gives none.
+/// Each file keeps its order. A file is read on only when its datagram is wanted, one ahead, the
+/// first file first. At the first fault of a file it ends: the datagrams that were given before it
+/// stay, those of the others are not read on, and each later call answers that fault. A file that
+/// isn't opened gives none.
 ///
 /// Of more than two files whose next timestamps lie over more than half of the round no one is
 /// the oldest: it is then asked from the last file to the first which of two is older.
@@ -108,7 +109,7 @@ impl<A: Allocator, S: ByteSource> SideBySide<A, S> {
         know_all(&self.sides);
     }
 
-    /// The fault of a file at which it stays, if it came to one.
+    /// The fault of a file at which it stays, if it came to one: the first, in the files' order.
     pub fn fault(&self) -> Option<ReadingFault>
         ensures fault { result ≡ self.now.fault }
         ensures stopped { IsFaultOfFiles result self.now.sides }

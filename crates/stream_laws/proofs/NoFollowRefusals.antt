@@ -1,6 +1,6 @@
 -- Against what a run of `follow` read that ended well no refusal speaks.
 use Rattle.std.proofs.Common.{◌≡◌, ◌∙◌, ℕ, zero, suc, Bool, true, false, inl, inr, List, [], ◌∷◌}
-use Rattle.std.proofs.Common.{Option, None, Some, Result, length, refl, sym, ap, subst, arith}
+use Rattle.std.proofs.Common.{Option, None, Some, Result, length, refl, sym, ap, subst, arith, ◌<◌}
 use Rattle.std.specs.Prelude.{IsSome, MatchOption, ⊤}
 use Rattle.std.specs.List.{AllByRecursion, AllZip}
 use Rattle.flow.specs.declared.flows.Flows.{Flows}
@@ -28,15 +28,15 @@ use Rattle.side_by_side.specs.declared.steering.Steering.{Steering}
 use Rattle.following.specs.Following.{Handed}
 use Rattle.follow_engine.specs.Followed.{FollowsWhole}
 use Rattle.follow_engine.specs.Fronts.{StopsFirstFront}
-use Rattle.follow_engine.specs.Order.{AreTakenBy, strands_by}
+use Rattle.follow_engine.specs.Order.{AreTakenBy, GoesToMost, most_datagrams, strands_by}
 use Rattle.follow_engine.specs.Refused.{FirstRefuses, IsFileRefusal, IsFirstRefusal}
 use Rattle.follow_engine.specs.Refused.{IsFollowRefusal, IsFollowWordRefusal}
 use Rattle.follow_engine.specs.Running.{steering_of}
 use Rattle.follow_engine.specs.declared.opening.FollowAsked.{FollowAsked}
 use Rattle.follow_engine.specs.declared.telling.FollowTotals.{FollowTotals}
-use Rattle.follow_engine.proofs.Counted.{whole_count}
+use Rattle.follow_engine.proofs.Counted.{goes_count, whole_count}
 use Rattle.run_laws.proofs.NoTextFault.{no_text_fault}
-use Rattle.run_laws.proofs.WholeFiles.{fault_never}
+use Rattle.run_laws.proofs.WholeFiles.{fault_never, no_flows}
 
 -- ---- files that go to their ends have no fault
 
@@ -88,12 +88,6 @@ have_none ways (o ∷ os) none by =
     (record { none = none.0; by_flows = by.0 }, have_none (other_ways ways) os none.1 by.1)
 
 -- ---- so nothing stops one at its front
-
-abbrev none_flows : Option Flows
-none_flows = None
-
-no_flows : IsSome none_flows → ⊥
-no_flows is = cc
 
 no_kind : (b : Bool) → (b ≡ true → ⊥) → b ≡ false
 no_kind true never = absurd (never refl)
@@ -164,6 +158,21 @@ first_text_not o text r says (inl wrong) =
     absurd announced.described
 first_text_not o text r says (inr wrong) = text_not o text r says wrong.1
 
+-- ---- how many go
+
+-- files that go whole in fewer records than are counted have no more
+too_many : (strands : List Strand) (entries first : List Entry) (st : Steering)
+    → record_count strands ≡ length entries → length entries < most_datagrams
+    → GoesToMost st strands first → ⊥
+too_many strands entries first st count few most =
+    omega (
+      arith,
+      count,
+      few,
+      most.most,
+      goes_count st strands first most.goes.left most.goes.goes,
+    )
+
 -- ---- the run
 
 module _ {F K : Type 0} (told : F → List ℕ → Type 0) (w : FollowAsked)
@@ -219,4 +228,6 @@ module _ {F K : Type 0} (told : F → List ℕ → Type 0) (w : FollowAsked)
         by are count (inr (words, inr (said, inr (fronts, inr (text, inl fault))))) =
             fault_not told ways files octets r read are fault.0
         by are count (inr (words, inr (said, inr (fronts, inr (text, inr many))))) =
-            omega (arith, count, run.few, many.1 octets read)
+            let most = many.1.goes octets read in
+            too_many (strands_by ways octets) run.entries many.1.entries
+            (steering_of many.1.opening) count run.few most

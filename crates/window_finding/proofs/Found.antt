@@ -1,27 +1,27 @@
 -- What was found of one file.
-use Rattle.std.proofs.Common.{◌≡◌, ℕ, ◌≤◌, ◌⊎◌, List, [], ◌∷◌, ◌++◌, length, Option, None, Some}
+use Rattle.std.proofs.Common.{◌≡◌, ℕ, ◌<◌, ◌≤◌, List, [], ◌∷◌, ◌++◌, length, Option, None, Some}
 use Rattle.std.proofs.Common.{Result, Ok, Err, inl, inr, refl, sym, ap, subst, ◌∙◌, append_assoc}
-use Rattle.std.proofs.Common.{append-nil, take, zero, suc}
+use Rattle.std.proofs.Common.{append-nil, arith, take, zero, suc, Bool, true, false}
 use Rattle.std.proofs.lemmas.List.{map-append}
-use Rattle.std.specs.Prelude.{IfOk, MatchOption, OnOk, ⊤}
+use Rattle.std.specs.Prelude.{IfOk, IsSome, IsTrue, OnErr, OnOk, ⊤, ◌↔◌}
 use Rattle.flow.specs.declared.flows.Flows.{Flows}
 use Rattle.media_file.specs.Records.{Entry}
 use Rattle.recording_reader.specs.FileReader.{FileReader, FindsOne, HasGivenFile, IsKnownBy}
 use Rattle.recording_reader.specs.FileReader.{octets_at_hand}
 use Rattle.recording_reader.specs.Files.{AreFirst, records_of_file}
 use Rattle.recording_reader.specs.declared.way.Standing.{Standing}
-use Rattle.recording_reader.specs.declared.way.Standing.TheVariants.{Reads}
+use Rattle.recording_reader.specs.declared.way.Standing.TheVariants.{Ended, Reads}
 use Rattle.run_outcome.specs.Refusing.{OfRefusal}
 use Rattle.run_outcome.specs.declared.fault.Fault.{Fault}
-use Rattle.run_outcome.specs.declared.refusal.Refusal.{Refusal}
 use Rattle.st_format.specs.History.{IsRead}
-use Rattle.capture_engines.specs.Files.{file_datagrams, flows_in, octets_of}
-use Rattle.capture_engines.specs.Stopping.{IsReadingStop}
-use Rattle.capture_engines.specs.Taking.{said_behind, said_by}
+use Rattle.capture_engines.specs.Files.{IsReadWhole, file_datagrams, flows_in, octets_of}
+use Rattle.capture_engines.specs.Received.{IsFrontRefusal, Opens}
+use Rattle.capture_engines.specs.Stopping.{IsWithinTaken, StopsOpened}
+use Rattle.capture_engines.specs.Taking.{Holding, RecordsGo, said_behind, said_by}
 use Rattle.capture_engines.specs.declared.way.Way.{Way}
-use Rattle.capture_engines.proofs.Readings.{ended_has, file_goes, said_same}
+use Rattle.capture_engines.proofs.Readings.{ended_has, ended_taken, file_goes, said_same}
 use Rattle.window_finding.specs.Finding.{AnnouncesType, FindsFile, FindsRecords, FindsSought}
-use Rattle.window_finding.specs.Finding.{FindsSoFar}
+use Rattle.window_finding.specs.Finding.{FindsSoFar, IsFull}
 use Rattle.window_finding.specs.First.{first_timestamps}
 use Rattle.window_finding.specs.Turns.{IsDone, IsStop}
 use Rattle.window_finding.specs.declared.finder.Finder.{Finder}
@@ -128,9 +128,25 @@ first_found {A} o text begun b a xs is opened found =
 
 -- ---- where all are found
 
--- as many were found as are sought
-abbrev pub IsFull : {A : Type 0} → Option (Finder A) → Type 0
-IsFull begun = MatchOption begun ⊥ (λ s. s.sought.count ≤ length s.window.items)
+-- whether they are
+pub is_full : {P : Type 0} (b : Bool) → (IsTrue b ↔ P) → b ≡ true → P
+is_full b full is = full.0 is
+
+pub not_full : {P : Type 0} (b : Bool) → (IsTrue b ↔ P) → b ≡ false → P → ⊥
+not_full b full is p = let no : false ≡ true = sym is ∙ full.1 p in cc
+
+pub ok_any : {V E : Type 0} (r : Result V E) (P : Type 0) → P → OnOk r P
+ok_any (Ok v) P p = p
+ok_any (Err e) P p = tt
+
+pub err_any : {V E : Type 0} (r : Result V E) (P : Type 0) → P → OnErr r P
+err_any (Ok v) P p = tt
+err_any (Err e) P p = p
+
+-- where all are, it has begun
+pub full_begun : {A : Type 0} (begun : Option (Finder A)) → IsFull begun → begun ≡ None → ⊥
+full_begun None full none = full
+full_begun (Some s) full none = cc
 
 full_on : {A : Type 0} (o : Sought) (a : Option (Finder A)) (said : Option (List ℕ))
     (ds more : List (List ℕ)) → IsFull a → FindsSoFar o a said ds → FindsSoFar o a said (ds ++ more)
@@ -217,14 +233,53 @@ file_found_if {S} {T} o r at gave ended old new w text b a (Ok v) before now by 
 file_found_if o r at gave ended old new w text b a (Err e) before now by same done given found =
     tt
 
--- what ended it, as `receive` tells that; where memory was wanted it is no refusal
-pub stop_told : (standing : Standing) (count : ℕ) (P : Refusal → Type 0) (f : Fault)
-    → IsStop standing count f ⊎ OfRefusal f P
-    → (⊤ × IsReadingStop standing count f) ⊎ (⊤ × OfRefusal f P)
-stop_told standing count P f (inl (inl stop)) = inl (tt, stop)
-stop_told standing count P f (inl (inr wanted)) =
-    inr (tt, subst (λ (x : Fault). OfRefusal x P) (sym wanted.1) tt)
-stop_told standing count P f (inr refused) = inr (tt, refused)
+-- ---- a file that was read to its end
+
+-- whatever text and datagrams there are
+abbrev pub Any : Holding
+Any said datagrams = ⊤
+
+is_over : (stands : Standing) (Full : Type 0) → IsDone stands Full → (Full → ⊥) → stands ≡ Ended
+is_over stands Full (inl over) lacks = over
+is_over stands Full (inr full) lacks = absurd (lacks full.1)
+
+few_read : (stands : Standing) (count : ℕ) → IsWithinTaken stands count → stands ≡ Ended
+    → count < 16777216
+few_read stands count (inl few) over = few
+few_read stands count (inr reads) over = absurd (apart (sym reads ∙ over))
+  where
+    apart : Reads ≡ Ended → ⊥
+    apart same = cc
+
+-- where not all are found then, it has no fault
+pub whole_if : {S T A V E : Type 0} (r : FileReader S) (at : S → T) (gave : T → List ℕ)
+    (ended : T → Type 0) (old new : T) (w : Way) (a : Option (Finder A)) (result : Result V E)
+    → r.before.gave ≡ gave old → new ≡ at r.source → r.flows ≡ flows_in w
+    → (r.is_recording ≡ true → IsSome r.flows)
+    → OnOk result (IsDone r.standing (IsFull a)) → IsWithinTaken r.standing (length r.records)
+    → HasGivenFile (λ (s : S). gave (at s)) (λ (s : S). ended (at s)) r
+    → OnOk result ((IsFull a → ⊥) → IsReadWhole w (IsRead (gave old) (gave new) (ended new)))
+whole_if {S} {T} {A} {V} {E} r at gave ended old new w a (Ok v) before now by kind done within
+    given = λ lacks.
+    let over : r.standing ≡ Ended = is_over r.standing (IsFull a) done lacks in
+    (ended_taken {E = E} r at gave ended old new w r.text Any Any (Ok v) before now by refl kind
+    over (few_read r.standing (length r.records) within over) given any_records).1
+  where
+    any_records : RecordsGo r.text (octets_of r.records) Any Any
+    any_records = record { stands = λ said ds any. tt }
+whole_if r at gave ended old new w a (Err e) before now by kind done within given = tt
+
+-- ---- what ended it
+
+-- as `receive` tells that; where memory was wanted it is no refusal
+pub stop_told : (window text : List ℕ) (Unopened : Type 0) (standing : Standing) (count : ℕ)
+    (f : Fault) → (Unopened → Opens window text) → IsWithinTaken standing count
+    → IsStop standing count f → StopsOpened window text Unopened standing count f
+stop_told window text Unopened standing count f opens within (inl stop) =
+    inl (opens, within, stop)
+stop_told window text Unopened standing count f opens within (inr wanted) =
+    inr (subst (λ (x : Fault). OfRefusal x (λ r. Unopened × IsFrontRefusal window text r))
+    (sym wanted.1) tt)
 
 -- ---- the beginning
 
@@ -238,3 +293,14 @@ pub opened_if : {A E : Type 0} (o : Sought) (r : Result (Finder A) E) (text : Li
 opened_if o (Ok s) text sought announced none =
     record { sought = sought; announced = announced; first = none ∙ nothing o.count }
 opened_if o (Err e) text sought announced none = tt
+
+-- a text that announces a payload type opens a receiver of one timestamp
+pub announced_opens : (text : List ℕ) (number : ℕ) → AnnouncesType text number
+    → Opens (0 ∷ []) text
+announced_opens text number says = record {
+  sdp = (says.description, says.described);
+  is_window = record {
+    size = record { some = omega arith; most = omega arith };
+    different = (λ member. member, tt);
+  };
+}

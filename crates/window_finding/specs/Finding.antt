@@ -1,13 +1,16 @@
 -- What the timestamps are found in, and by what (own). What was read is told by a predicate: it
 -- holds of any octets that begin with it, and of no others where the source has ended.
-use Rattle.std.specs.Prelude.{◌≡◌, ℕ, ◌⊎◌, List, [], ◌∷◌, MatchOption, Option, None, Some, Result}
+use Rattle.std.specs.Prelude.{◌≡◌, ℕ, ◌<◌, ◌≤◌, ◌⊎◌, ⊤, List, [], ◌∷◌, MatchOption, Option, None}
+use Rattle.std.specs.Prelude.{Some, Result, length}
+use Rattle.std.specs.List.{AllZip}
 use Rattle.sdp_format.specs.Bytes.{lines}
 use Rattle.sdp_format.specs.Grammar.{IsDescribed}
 use Rattle.sdp_format.specs.Sections.{Description, video_sections}
 use Rattle.flow.specs.declared.flows.Flows.{Flows}
-use Rattle.capture_engines.specs.Files.{files_datagrams}
-use Rattle.capture_engines.specs.Received.{IsFilesRefusal, IsOpeningRefusal}
-use Rattle.capture_engines.specs.Taking.{AreRead, FileGoes, FilesGo, RecordsGo, said_behind}
+use Rattle.capture_engines.specs.Files.{AreReadWhole, files_datagrams, first_way}
+use Rattle.capture_engines.specs.Received.{FileOpens, IsGivenFilesRefusal, Opens}
+use Rattle.capture_engines.specs.Sent.{FirstIs}
+use Rattle.capture_engines.specs.Taking.{FileGoes, FilesGo, RecordsGo, said_behind}
 use Rattle.capture_engines.specs.declared.way.Way.{Way}
 use Rattle.path_receiver.specs.declared.fault.OpenFault.TheVariants as open_fault
 use Rattle.run_outcome.specs.declared.refusal.Refusal.{Refusal}
@@ -31,12 +34,16 @@ pub record IsFirstWindow (count : ℕ) (ssrc : Option ℕ) (said : Option (List 
   pub first : window ≡ first_timestamps count payload_type ssrc datagrams
 
 -- So it is of what was read of files, each taken so, whatever is behind that: by the SDP text that
--- is given, or, where none is, by that of the first file.
+-- is given, or, where none is, by that of the first file, and nothing is wrong with it. Where fewer
+-- are found than are sought, the files were read to their ends, without a fault.
 pub record FindsFirst {S : Type 0} (count : ℕ) (ssrc : Option ℕ) (sdp : Option (List ℕ))
     (ways : List (Result Flows Refusal)) (told : S → List ℕ → Type 0) (files : List S)
     (window : List ℕ) : Type 0 where
-  pub found : (octets : List (List ℕ)) → AreRead told files octets
+  pub found : (octets : List (List ℕ)) → AllZip told files octets
       → IsFirstWindow count ssrc (said_behind sdp octets) (files_datagrams ways octets) window
+  pub given : MatchOption sdp ⊤ (λ text. Opens (0 ∷ []) text)
+  pub first : sdp ≡ None → FirstIs (λ s. FileOpens (0 ∷ []) (first_way ways) (told s)) files
+  pub whole : length window < count → AreReadWhole ways told files
 
 -- ---- on the way there
 
@@ -72,17 +79,20 @@ abbrev pub FindsFiles : {S A : Type 0} → Sought → List (Result Flows Refusal
 FindsFiles o ways told files before after =
     FilesGo ways told files (FindsSoFar o before) (FindsSoFar o after)
 
+-- as many were found as are sought
+abbrev pub IsFull : {A : Type 0} → Option (Finder A) → Type 0
+IsFull begun = MatchOption begun ⊥ (λ s. s.sought.count ≤ length s.window.items)
+
 -- ---- refusals
 
--- The refusals of what was read: of the SDP text that is given; of the files, as `receive` refuses
--- them, but none of a window, as of one of one timestamp, with which nothing is wrong.
+-- The refusal of what was read: as `receive` tells it, for a window of one timestamp, with which
+-- nothing is wrong: of the SDP text that is given; else of the first of the files that is refused,
+-- where those before it were read to their ends.
 abbrev pub IsFindingRefusal : {S : Type 0} → Option (List ℕ) → List (Result Flows Refusal)
     → (S → List ℕ → Type 0) → List S → Refusal → Type 0
-IsFindingRefusal sdp ways told files r =
-    MatchOption sdp ⊥ (λ text. IsOpeningRefusal (0 ∷ []) text r)
-    ⊎ IsFilesRefusal (0 ∷ []) sdp ways told files r
+IsFindingRefusal sdp ways told files r = IsGivenFilesRefusal (0 ∷ []) sdp ways told files r
 
--- the refusals: of what was read; that no timestamp came
+-- the refusal: of what was read; or, where nothing is wrong with that, that no timestamp came
 abbrev pub IsFindRefusal : {S : Type 0} → ℕ → Option ℕ → Option (List ℕ)
     → List (Result Flows Refusal) → (S → List ℕ → Type 0) → List S → Refusal → Type 0
 IsFindRefusal count ssrc sdp ways told files r = IsFindingRefusal sdp ways told files r

@@ -4,6 +4,7 @@ ghost use Rattle.std.specs.Prelude.{OnOk, length, take};
 ghost use Rattle.std.specs.List.{cons_option};
 ghost use Rattle.capture_engines.specs.Files.{octets_of};
 ghost use Rattle.capture_engines.specs.Received.{IsOpeningRefusal};
+ghost use Rattle.capture_engines.specs.Stopping.{IsWithinTaken};
 ghost use Rattle.recording_reader.specs.FileReader.{IsSameFile};
 ghost use Rattle.recording_reader.specs.declared.way.Standing.TheVariants.{Reads};
 ghost use Rattle.run_outcome.specs.Fault.{Accounts, counts};
@@ -137,6 +138,7 @@ impl<A: Allocator> Finder<A> {
             (datagrams ++ octets_of reader.new.records)) }
         ensures stop { IfErr result
             (IsStop reader.new.standing (length reader.new.records)) }
+        ensures within { IsWithinTaken reader.new.standing (length reader.new.records) }
         ensures same { IsSameFile reader.old reader.new }
         ensures failures { Accounts result (counts (S.failures reader.old.source)
             (S.failures reader.new.source) ∷ []) }

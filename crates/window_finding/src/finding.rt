@@ -1,22 +1,25 @@
 //! Finding the first timestamps that come of files.
-ghost use Rattle.std.specs.Prelude.{◌≡◌, ◌≢◌, ◌≤◌, ◌<◌, ◌+◌, ◌⊎◌, ◌∷◌, [], IfErr, IfOk, IsTrue};
-ghost use Rattle.std.specs.Prelude.{MatchOption, None, OnOk, Some, drop, length, sum_by, take};
+ghost use Rattle.std.specs.Prelude.{◌≡◌, ◌≢◌, ◌≤◌, ◌<◌, ◌+◌, ◌↔◌, ◌∷◌, [], IfErr, IfOk, IsTrue};
+ghost use Rattle.std.specs.Prelude.{MatchOption, None, OnErr, OnOk, drop, length, sum_by, take};
 ghost use Rattle.std.specs.List.{zip};
 ghost use Rattle.std.specs.Option.{option_copied};
-ghost use Rattle.capture_engines.specs.Files.{octets_of, way_at};
-ghost use Rattle.capture_engines.specs.Received.{IsFilesRefusal, IsFrontRefusal};
-ghost use Rattle.capture_engines.specs.Received.{IsOpeningRefusal, IsTakeRefusal};
+ghost use Rattle.capture_engines.specs.Files.{AreReadWhole, IsReadWhole, first_way, octets_of};
+ghost use Rattle.capture_engines.specs.Files.{way_at};
+ghost use Rattle.capture_engines.specs.Received.{FileOpens, IfFirst, IsFirstFilesRefusal};
+ghost use Rattle.capture_engines.specs.Received.{IsFrontRefusal, IsOpeningRefusal, IsTurnRefusal};
+ghost use Rattle.capture_engines.specs.Received.{Opens};
 ghost use Rattle.capture_engines.specs.Sent.{FirstIs};
+ghost use Rattle.capture_engines.specs.Stopping.{IsWithinTaken, StopsOpened};
 ghost use Rattle.recording_reader.specs.FileReader.{IsSameFile};
 ghost use Rattle.recording_reader.specs.declared.way.Standing.TheVariants.{Reads};
 ghost use Rattle.run_outcome.specs.Fault.{Accounts, counts};
 ghost use Rattle.run_outcome.specs.Moments.{WasRead};
 ghost use Rattle.run_outcome.specs.Refusing.{OfRefusal};
 ghost use Rattle.st_format.specs.History.{IsRead};
-ghost use Rattle.window_finding.specs.Finding.{FindsFile, FindsFiles, FindsFirst, FindsSought};
-ghost use Rattle.window_finding.specs.Finding.{FindsRecords, FindsSoFar, IsFindRefusal};
-ghost use Rattle.window_finding.specs.Finding.{IsFindingRefusal};
-ghost use Rattle.window_finding.specs.Turns.{IsDone, IsStop};
+ghost use Rattle.window_finding.specs.Finding.{FindsFile, FindsFiles, FindsFirst};
+ghost use Rattle.window_finding.specs.Finding.{FindsRecords, FindsSoFar, FindsSought};
+ghost use Rattle.window_finding.specs.Finding.{IsFindRefusal, IsFindingRefusal, IsFull};
+ghost use Rattle.window_finding.specs.Turns.{IsDone};
 
 use crate::finder::{Finder, Sought};
 use capture_engines::{Way, unopened};
@@ -38,8 +41,9 @@ use std::alloc::Allocator;
 ///
 /// # Errors
 ///
-/// A refusal where the SDP text or what was read of a file is refused, and `Open(BadWindow)`
-/// where no timestamp comes; and else that a source failed or memory was wanted.
+/// The first refusal in this order: of the SDP text that is given; of each file in turn, where
+/// those before it were read to their ends; and `Open(BadWindow)` where no timestamp comes. And
+/// else that a source failed or memory was wanted.
 pub fn find_window<A: Allocator + Copy, S: ByteSource>(
     alloc: A,
     sought: Sought,
@@ -133,7 +137,14 @@ fn find_all<A: Allocator + Copy, S: ByteSource>(
         (zip files.old files.new) begun.old begun.new) }
     ensures none { OnOk result (begun.new ≡ None
         → (begun.old ≡ None) × (files.old ≡ [])) }
-    ensures refusal { IfErr result (λ f. OfRefusal f (IsFilesRefusal (0 ∷ [])
+    // Where no finder had begun, the first file's text opened one; and the files were read to their
+    // ends, unless all are found.
+    ensures opened { OnOk result (begun.old ≡ None → IfFirst
+        (λ s. FileOpens (0 ∷ []) (first_way ways.now) (WasRead S.gave S.ended s))
+        (zip files.old files.new)) }
+    ensures whole { OnOk result ((IsFull begun.new → ⊥)
+        → AreReadWhole ways.now (WasRead S.gave S.ended) (zip files.old files.new)) }
+    ensures refusal { IfErr result (λ f. OfRefusal f (IsFirstFilesRefusal (0 ∷ [])
         begun.old ways.now (WasRead S.gave S.ended) (zip files.old files.new))) }
     ensures failures { Accounts result (counts (sum_by S.failures files.old)
         (sum_by S.failures files.new) ∷ []) }
@@ -166,8 +177,17 @@ fn find_at<A: Allocator + Copy, S: ByteSource>(
         begun.old begun.new)
         (zip (drop place files.old) (drop place files.new))) }
     ensures begun { OnOk result (begun.new ≢ None) }
+    ensures opens { OnOk result (begun.old ≡ None → FirstIs
+        (λ s. FileOpens (0 ∷ []) (way_at ways.now place) (WasRead S.gave S.ended s))
+        (zip (drop place files.old) (drop place files.new))) }
+    ensures whole { OnOk result ((IsFull begun.new → ⊥) → FirstIs
+        (λ s. IsReadWhole (way_at ways.now place) (WasRead S.gave S.ended s))
+        (zip (drop place files.old) (drop place files.new))) }
+    ensures full { OnOk result (IsFull begun.old → IsFull begun.new) }
+    ensures lacks { OnErr result (IsFull begun.old → ⊥) }
     ensures refusal { IfErr result (λ f. OfRefusal f (λ r. FirstIs
-        (λ s. IsTakeRefusal (0 ∷ []) (way_at ways.now place) begun.old (WasRead S.gave S.ended s) r)
+        (λ s. IsTurnRefusal (0 ∷ []) (way_at ways.now place) (begun.old ≡ None)
+        (WasRead S.gave S.ended s) r)
         (zip (drop place files.old) (drop place files.new)))) }
     ensures failures { Accounts result (counts (sum_by S.failures files.old)
         (sum_by S.failures files.new) ∷ []) }
@@ -197,8 +217,14 @@ fn find_one<A: Allocator + Copy, S: ByteSource>(
     ensures found { OnOk result (FindsFile sought way (IsRead (S.gave file.old)
         (S.gave file.new) (S.ended file.new)) begun.old begun.new) }
     ensures begun { OnOk result (begun.new ≢ None) }
-    ensures refusal { IfErr result (λ f. OfRefusal f (IsTakeRefusal (0 ∷ []) way
-        begun.old (IsRead (S.gave file.old) (S.gave file.new) (S.ended file.new)))) }
+    ensures opens { OnOk result (begun.old ≡ None → FileOpens (0 ∷ []) way
+        (IsRead (S.gave file.old) (S.gave file.new) (S.ended file.new))) }
+    ensures whole { OnOk result ((IsFull begun.new → ⊥) → IsReadWhole way
+        (IsRead (S.gave file.old) (S.gave file.new) (S.ended file.new))) }
+    ensures full { OnOk result (IsFull begun.old → IsFull begun.new) }
+    ensures lacks { OnErr result (IsFull begun.old → ⊥) }
+    ensures refusal { IfErr result (λ f. OfRefusal f (IsTurnRefusal (0 ∷ []) way
+        (begun.old ≡ None) (IsRead (S.gave file.old) (S.gave file.new) (S.ended file.new)))) }
     ensures failures { Accounts result (counts (S.failures file.old) (S.failures file.new)
         ∷ []) }
 {
@@ -217,8 +243,7 @@ fn find_one<A: Allocator + Copy, S: ByteSource>(
 }
 
 fn has_all<A: Allocator>(begun: &Option<Finder<A>>) -> bool
-    ensures { IsTrue result
-        → MatchOption begun.now ⊥ (λ s. s.sought.count ≤ length s.window.items) }
+    ensures { IsTrue result ↔ IsFull begun.now }
 {
     match begun {
         Some(finder) => finder.is_full(),
@@ -240,10 +265,11 @@ fn find_opened<A: Allocator + Copy, S: ByteSource>(
     ensures found { OnOk result (FindsRecords sought text.now (octets_of reader.new.records)
         begun.old begun.new) }
     ensures begun { OnOk result (begun.new ≢ None) }
-    ensures done { OnOk result (IsDone reader.new.standing
-        (MatchOption begun.new ⊥ (λ s. s.sought.count ≤ length s.window.items))) }
-    ensures stop { IfErr result (λ f. IsStop reader.new.standing (length reader.new.records) f
-        ⊎ OfRefusal f (λ r. (begun.old ≡ None) × IsFrontRefusal (0 ∷ []) text.now r)) }
+    ensures done { OnOk result (IsDone reader.new.standing (IsFull begun.new)) }
+    ensures opens { OnOk result (begun.old ≡ None → Opens (0 ∷ []) text.now) }
+    ensures within { IsWithinTaken reader.new.standing (length reader.new.records) }
+    ensures refusal { IfErr result (StopsOpened (0 ∷ []) text.now (begun.old ≡ None)
+        reader.new.standing (length reader.new.records)) }
     ensures same { IsSameFile reader.old reader.new }
     ensures failures { Accounts result (counts (S.failures reader.old.source)
         (S.failures reader.new.source) ∷ []) }

@@ -6,7 +6,8 @@ use Rattle.std.specs.Prelude.{take}
 use Rattle.capture_engines.proofs.FirstRefused.{of_both}
 use Rattle.run_outcome.proofs.Refusals.{none_refused, of_refusal_map}
 use Rattle.side_by_side.specs.Sides.{failures_each}
-use Rattle.follow_engine.specs.Refused.{IsInTurnFault}
+use Rattle.follow_engine.specs.Order.{GoesToFault, GoesToMost}
+use Rattle.follow_engine.specs.Refused.{AreTooMany, IsInTurnFault}
 use Rattle.follow_engine.specs.Sides.{SideRead}
 use Rattle.follow_engine.proofs.Beginnings.{opened_begun}
 use Rattle.follow_engine.proofs.Blamed.{blames_end, blames_files, blames_from, blames_none}
@@ -14,7 +15,7 @@ use Rattle.follow_engine.proofs.Cut.{if_refused, refused_map, unrefused_if}
 use Rattle.follow_engine.proofs.Fronts.{ask_for, first_describes, given_describes, opened_fronts}
 use Rattle.follow_engine.proofs.Fronts.{sound_fronts}
 use Rattle.follow_engine.proofs.Outcome.{follows_whole}
-use Rattle.follow_engine.proofs.Short.{ends_part, follows_part, follows_short, turn_fault}
+use Rattle.follow_engine.proofs.Short.{ends_part, follows_part, follows_short, goes_so_far}
 use Rattle.follow_engine.proofs.Stopped.{first_by, stops_files}
 use Rattle.follow_engine.proofs.files.follow_files.Goals as goal
 
@@ -140,13 +141,26 @@ returns-in_err-follow_opened-clause-refusal g c =
             stops_files gave ended c.args.ways.now olds mids news c.in_ok-run.run'.steering r
                 (IsInTurnFault c.args.asked.ssrc.now (option_copied c.args.sdp) c.args.ways.now
                 (SideRead gave ended) (zip olds news) r)
+                (AreTooMany c.args.asked.ssrc.now (option_copied c.args.sdp) c.args.ways.now
+                (SideRead gave ended) (zip olds news))
                 c.in_ok-count.ensures.opened read.begun read.known
-                (λ f entries told goes. turn_fault gave ended c.args.asked c.in_ok-ssrc.ssrc
+                (λ f entries told goes. (
+                  f,
+                  told,
+                  goes_so_far gave ended c.args.asked c.in_ok-ssrc.ssrc
+                      (option_copied c.args.sdp) c.args.ways.now
+                      (take c.in_ok-count.count c.open_files.new.text) olds mids news
+                      c.in_ok-run.run' c.in_ok-ssrc.ensures.source
+                      c.in_ok-run.ensures.begun c.in_ok-count.ensures.opened
+                      c.in_ok-count.ensures.first read.begun read.known (GoesToFault f) entries
+                      goes,
+                ))
+                (λ entries goes. goes_so_far gave ended c.args.asked c.in_ok-ssrc.ssrc
                 (option_copied c.args.sdp) c.args.ways.now
-                (take c.in_ok-count.count c.open_files.new.text) olds mids news c.in_ok-run.run' f
-                entries r c.in_ok-ssrc.ensures.source c.in_ok-run.ensures.begun
-                c.in_ok-count.ensures.opened c.in_ok-count.ensures.first read.begun read.known told
-                goes) is,
+                (take c.in_ok-count.count c.open_files.new.text) olds mids news c.in_ok-run.run'
+                c.in_ok-ssrc.ensures.source c.in_ok-run.ensures.begun
+                c.in_ok-count.ensures.opened c.in_ok-count.ensures.first read.begun read.known
+                GoesToMost entries goes) is,
           ),
         ),
       ),
@@ -286,11 +300,11 @@ returns-in_err-follow_opened-clause-before g c =
     (λ up. inr (follows_short g.S.ByteSource.gave g.S.ByteSource.ended c.args.asked
     c.in_ok-ssrc.ssrc (option_copied c.args.sdp) c.args.ways.now
     (take c.in_ok-count.count c.open_files.new.text) c.args.sides.now.items
-    c.open_files.new.sides.items c.follow_opened.new.sides.items c.in_ok-run.run' takes
+    c.open_files.new.sides.items c.follow_opened.new.sides.items c.in_ok-run.run'
+    c.in_ok-ssrc.ensures.source c.in_ok-run.ensures.begun c.in_ok-count.ensures.opened
+    c.in_ok-count.ensures.first c.follow_opened.ensures.begun c.follow_opened.ensures.known takes
     c.args.pictures.now c.follow_opened.new.pictures (took c.args.output.now)
-    (took c.follow_opened.new.output) c.in_ok-ssrc.ensures.source c.in_ok-run.ensures.begun
-    c.in_ok-count.ensures.opened c.in_ok-count.ensures.first c.follow_opened.ensures.begun
-    c.follow_opened.ensures.known up)) begun.before)
+    (took c.follow_opened.new.output) up)) begun.before)
 
 pub returns-in_err-follow_opened-clause-part : goal.returns-in_err-follow_opened-clause-part
 returns-in_err-follow_opened-clause-part g c =
@@ -302,11 +316,11 @@ returns-in_err-follow_opened-clause-part g c =
     c.in_ok-ssrc.ssrc (option_copied c.args.sdp) c.args.ways.now
     (take c.in_ok-count.count c.open_files.new.text) c.args.sides.now.items
     c.open_files.new.sides.items c.follow_opened.new.sides.items c.in_ok-run.run'
+    c.in_ok-ssrc.ensures.source c.in_ok-run.ensures.begun c.in_ok-count.ensures.opened
+    c.in_ok-count.ensures.first c.follow_opened.ensures.begun c.follow_opened.ensures.known
     g.P.PictureSink.takes g.P.PictureSink.fails c.args.pictures.now c.follow_opened.new.pictures
-    (took c.args.output.now) (took c.follow_opened.new.output) c.in_ok-ssrc.ensures.source
-    c.in_ok-run.ensures.begun
-    c.in_ok-count.ensures.opened c.in_ok-count.ensures.first c.follow_opened.ensures.begun
-    c.follow_opened.ensures.known c.in_err-follow_opened.ensures.part))
+    (took c.args.output.now) (took c.follow_opened.new.output)
+    c.in_err-follow_opened.ensures.part))
 
 pub returns-in_err-totals-clause-before : goal.returns-in_err-totals-clause-before
 returns-in_err-totals-clause-before g c =
@@ -321,14 +335,13 @@ returns-in_err-totals-clause-part g c =
     let took = g.O.ByteSink.took in
     let begun = c.in_ok-follow_opened.ensures in
     rw (p.1)
-    (inr (ends_part g.S.ByteSource.gave g.S.ByteSource.ended g.P.PictureSink.takes
-    g.P.PictureSink.fails c.args.asked
+    (inr (ends_part g.S.ByteSource.gave g.S.ByteSource.ended c.args.asked
     c.in_ok-ssrc.ssrc (option_copied c.args.sdp) c.args.ways.now
     (take c.in_ok-count.count c.open_files.new.text) c.args.sides.now.items
     c.open_files.new.sides.items c.follow_opened.new.sides.items c.in_ok-run.run'
-    c.follow_opened.new.run c.args.pictures.now
-    c.follow_opened.new.pictures c.end_stream.new.pictures (took c.args.output.now)
-    (took c.follow_opened.new.output) (took c.end_stream.new.output)
     c.in_ok-ssrc.ensures.source c.in_ok-run.ensures.begun c.in_ok-count.ensures.opened
-    c.in_ok-count.ensures.first begun.begun begun.known begun.followed
+    c.in_ok-count.ensures.first begun.begun begun.known g.P.PictureSink.takes
+    g.P.PictureSink.fails c.follow_opened.new.run c.args.pictures.now
+    c.follow_opened.new.pictures c.end_stream.new.pictures (took c.args.output.now)
+    (took c.follow_opened.new.output) (took c.end_stream.new.output) begun.followed
     c.in_err-totals.ensures.part))

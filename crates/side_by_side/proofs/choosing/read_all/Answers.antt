@@ -86,7 +86,7 @@ returns-in_err-read_on-clause-fault g c =
     rw (p.1, p.2) (record {
       sound = all_set (λ s. IsSoundSide st s) l.sides l.place y l.invariant.sound
           (sound_given st y stops.unread);
-      stopped = stopped_set fault l.sides l.place y lt stops.at;
+      stopped = stopped_set fault l.sides l.place y lt l.invariant.read stops.at;
       goes_on = all_on (standings c.args.sides.now) (standings l.sides)
           (standings (set l.sides l.place y)) l.invariant.goes_on
           (on_set l.sides l.place d y stops.goes_on);

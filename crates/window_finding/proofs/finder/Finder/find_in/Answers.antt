@@ -1,5 +1,5 @@
-use Rattle.std.proofs.Common.{◌≡◌, ◌∷◌, [], ap, arith, length, length-append, refl, rules, true}
-use Rattle.std.proofs.Common.{◌∙◌}
+use Rattle.std.proofs.Common.{◌≡◌, ◌∷◌, [], ap, arith, false, inl, inr, length, length-append}
+use Rattle.std.proofs.Common.{refl, rules, true, ◌∙◌}
 use Rattle.capture_engines.specs.Files.{octets_of}
 use Rattle.run_outcome.proofs.Blaming.{reading_blamed}
 use Rattle.capture_engines.proofs.Readings.{same_twice}
@@ -56,3 +56,17 @@ returns-in-Err-clause-failures g c =
     reading_blamed w.fault c.of_reading.result (told.failures c.args.reader.now.source)
     (told.failures c.loop.reader.source) (told.failures c.advance.new.self.source)
     c.loop.invariant.failures (w.ensures.device c.loop.invariant.reads) c.of_reading.ensures
+
+pub returns-in-Ok-false-clause-within : goal.returns-in-Ok-false-clause-within
+returns-in-Ok-false-clause-within g c =
+    let w = c.in-Ok-false in
+    let none : w.field-0 ≡ false = search rules in
+    let found = rw none at w.ensures.found in
+    inl (omega (arith, ap length found.records, c.loop.invariant.count))
+
+pub returns-in-Err-clause-within : goal.returns-in-Err-clause-within
+returns-in-Err-clause-within g c =
+    inl (omega (arith, ap length c.in-Err.ensures.fault.records, c.loop.invariant.count))
+
+pub returns-clause-within : goal.returns-clause-within
+returns-clause-within g c = inr c.loop.invariant.reads
