@@ -1,8 +1,8 @@
 -- Files that are taken up to a fault.
-use Rattle.std.proofs.Common.{◌≡◌, ℕ, zero, suc, inl, inr, List, [], ◌∷◌, ◌++◌, Option}
+use Rattle.std.proofs.Common.{◌≡◌, ℕ, inl, inr, List, [], ◌∷◌, ◌++◌, Option}
 use Rattle.std.proofs.Common.{None, Some, refl, sym, ap, subst, ◌∙◌, append-nil, drop, length}
 use Rattle.std.proofs.Common.{take, Bool, false}
-use Rattle.std.specs.List.{zip}
+use Rattle.std.specs.List.{AllZip, zip}
 use Rattle.std.specs.Prelude.{IfErr, IsFalse, IsTrue, MatchOption, OnErr, OnOk, Result, Ok, Err, ⊤}
 use Rattle.flow.specs.declared.flows.Flows.{Flows}
 use Rattle.media_file.specs.StateFile.{state_text}
@@ -24,15 +24,14 @@ use Rattle.capture_engines.specs.Rescued.{Front, IsFrontOf, IsReceiverOfPart, Ma
 use Rattle.capture_engines.specs.Rescued.{TakesFilesUpTo}
 use Rattle.capture_engines.specs.Rescued.{datagrams_if, said_if}
 use Rattle.capture_engines.specs.Sent.{FirstIs}
-use Rattle.capture_engines.specs.Taking.{AnnouncesStream, AreRead, IsOpenedHolding}
+use Rattle.capture_engines.specs.Taking.{AnnouncesStream, IsOpenedHolding}
 use Rattle.capture_engines.specs.Taking.{IsReceiverOfFiles, Stands, TakesFiles}
 use Rattle.capture_engines.specs.declared.way.Way.{Way}
 use Rattle.capture_engines.specs.Taking.{said_behind}
 use Rattle.capture_engines.specs.declared.intake.Intake.{Intake}
 use Rattle.capture_engines.specs.declared.receiving.Asked.{Asked}
 use Rattle.capture_engines.specs.declared.reception.Reception.{Reception}
-use Rattle.capture_engines.proofs.InOrder.{saves_held, some_is}
-use Rattle.capture_engines.proofs.OneOf.{zip_none}
+use Rattle.capture_engines.proofs.InOrder.{At, at_place, saves_held, some_is}
 
 -- ---- facts of what went well
 
@@ -45,6 +44,12 @@ pub on_ok_each : {V E : Type 0} (r : Result V E) (P Q R T : Type 0) → (P → Q
     → OnOk r Q → OnOk r R → OnOk r T
 on_ok_each (Ok v) P Q R T then p q s = then p q s
 on_ok_each (Err e) P Q R T then p q s = tt
+
+-- and of one that came to an error
+pub if_err_both : {V E : Type 0} {P Q T : E → Type 0} (r : Result V E)
+    → ((e : E) → P e → Q e → T e) → IfErr r P → IfErr r Q → IfErr r T
+if_err_both (Ok v) then p q = tt
+if_err_both (Err e) then p q = then e p q
 
 pub counted_if : {V E X : Type 0} (r : Result V E) (o : Option X) (x : X) (Is : X → Type 0) → Is x
     → OnOk r (o ≡ Some x) → OnOk r (MatchOption o ⊥ Is)
@@ -124,33 +129,6 @@ part_refused (Err Memory) fault P of is = tt
 
 -- ---- files
 
-pub zip_parts : {S : Type 0} (k : ℕ) (xs ys : List S)
-    → zip xs ys ≡ zip (take k xs) (take k ys) ++ zip (drop k xs) (drop k ys)
-zip_parts zero xs ys = refl
-zip_parts (suc k) [] ys = refl
-zip_parts (suc k) (x ∷ xs) [] = sym (zip_none (drop k xs))
-zip_parts {S} (suc k) (x ∷ xs) (y ∷ ys) = ap (λ (l : List (S × S)). (x, y) ∷ l) (zip_parts k xs ys)
-
--- a list with its first item
-pub record Opened {S : Type 0} (Is : S → Type 0) (xs : List S) : Type 0 where
-  pub first : S
-  pub rest : List S
-  pub whole : xs ≡ first ∷ rest
-  pub is : Is first
-
-pub opened : {S : Type 0} (Is : S → Type 0) (xs : List S) → FirstIs Is xs → Opened Is xs
-opened Is [] is = absurd is
-opened Is (x ∷ xs) is = record { first = x; rest = xs; whole = refl; is = is }
-
--- so many are there before it
-pub parts_counted : {S : Type 0} (Is : S × S → Type 0) (k : ℕ) (xs ys : List S)
-    → FirstIs Is (zip (drop k xs) (drop k ys)) → length (zip (take k xs) (take k ys)) ≡ k
-parts_counted Is zero xs ys is = refl
-parts_counted Is (suc k) [] ys is = absurd is
-parts_counted {S} Is (suc k) (x ∷ xs) [] is =
-    absurd (subst (FirstIs Is) (zip_none (drop k xs)) is)
-parts_counted Is (suc k) (x ∷ xs) (y ∷ ys) is = ap suc (parts_counted Is k xs ys is)
-
 pub taken_up_to : {S A : Type 0} (o : Asked A) (ways : List (Result Flows Refusal))
     (gave : S → List ℕ) (ended : S → Type 0) (f : Fault) (start now new : List S) (k : ℕ)
     (before b a : Option (Intake A))
@@ -160,23 +138,18 @@ pub taken_up_to : {S A : Type 0} (o : Asked A) (ways : List (Result Flows Refusa
     → TakesFilesUpTo o ways gave ended f (zip start new) before a
 taken_up_to {S} o ways gave ended f start now new k before b a files front behind one =
     let Is : S × S → Type 0 = MayTake o (way_at ways k) gave ended f b a in
-    let x : Opened Is (zip (drop k now) (drop k new)) =
-    opened Is (zip (drop k now) (drop k new)) one in
+    let x : At Is start new k =
+    at_place Is start new k (subst (λ (l : List S). FirstIs Is (zip l (drop k new))) behind one) in
     let counted : length (zip (take k start) (take k now)) ≡ k =
-    ap (λ (l : List S). length (zip (take k start) l)) (sym front)
-    ∙ parts_counted Is k start new
-    (subst (λ (l : List S). FirstIs Is (zip l (drop k new))) behind one) in
+    ap (λ (l : List S). length (zip (take k start) l)) (sym front) ∙ x.counted in
     record {
       front = zip (take k start) (take k now);
-      at = x.first;
-      behind = x.rest;
-      parts = zip_parts k start new
-          ∙ ap (λ (l : List S). zip (take k start) l ++ zip (drop k start) (drop k new)) front
-          ∙ ap (λ (l : List S). zip (take k start) (take k now) ++ zip l (drop k new)) (sym behind)
-          ∙ ap (λ (l : List (S × S)). zip (take k start) (take k now) ++ l) x.whole;
+      at = x.next;
+      behind = x.behind;
+      parts = x.parts ∙ ap (λ (l : List S). zip (take k start) l ++ x.next ∷ x.behind) front;
       between = b;
       whole = files;
-      part = subst (λ (m : ℕ). MayTake o (way_at ways m) gave ended f b a x.first) (sym counted)
+      part = subst (λ (m : ℕ). MayTake o (way_at ways m) gave ended f b a x.next) (sym counted)
           x.is;
     }
 
@@ -188,7 +161,7 @@ record PartStands {S A : Type 0} (o : Asked A) (ways : List (Result Flows Refusa
     (said : Option (List ℕ)) (s : Intake A) : Type 0 where
   pub part : Option Front
   pub part_is : MatchOption part ⊤ (IsFrontOf w gave ended f at)
-  pub stands : (octets : List (List ℕ)) → AreRead (WasRead gave ended) front octets
+  pub stands : (octets : List (List ℕ)) → AllZip (WasRead gave ended) front octets
       → Stands o (Some s) (said_if (said_behind said octets) part)
       (files_datagrams ways octets ++ datagrams_if part)
 

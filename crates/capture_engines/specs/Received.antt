@@ -52,6 +52,10 @@ IsFirstWordRefusal window ssrc r = IsWordRefusal window ssrc r × IsBehindWindow
 abbrev pub AskFor : List ℕ → List ℕ → List ℕ → Type 0
 AskFor window ssrc ts = AreTimestamps window ts × ((pin : Option ℕ) × IsSourceText ssrc pin)
 
+-- the words ask for some, so they are not refused
+abbrev pub SayOpening : List ℕ → List ℕ → Type 0
+SayOpening window ssrc = (ts : List ℕ) × AskFor window ssrc ts
+
 -- ---- opening a receiver
 
 -- a receiver is opened by an SDP text: it describes a video, and the window is one

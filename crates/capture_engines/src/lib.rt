@@ -16,6 +16,7 @@ mod sender;
 mod sending;
 mod typed;
 mod way;
+mod words;
 
 pub use looping::{Looping, loop_back};
 pub use memory_link::MemoryLink;

@@ -86,6 +86,8 @@ where
         (IsRead (S.gave source.old) (S.gave source.new) (S.ended source.new)))) }
     // A refusal comes before anything is printed.
     ensures quiet { IfErr result (λ f. IfRefused f (output.new ≡ output.old)) }
+    // So memory is wanted.
+    ensures memory { IfErr result (λ f. f ≡ Fault.Memory → output.new ≡ output.old) }
     ensures failures { Accounts result (counts (S.failures source.old) (S.failures source.new)
         ∷ counts (L.DatagramSink.failures link.old) (L.DatagramSink.failures link.new)
         ∷ counts (O.failures output.old) (O.failures output.new) ∷ []) }
@@ -213,6 +215,8 @@ fn print_passed<A: Allocator, O: ByteSink>(
     ensures printed { OnOk result (Prints passed.sent passed.delivered receiver.now
         (O.took output.old) (O.took output.new)) }
     ensures unrefused { IfErr result (λ f. IfRefused f ⊥) }
+    // No memory is asked for.
+    ensures device { IfErr result (λ f. f ≡ Device) }
     ensures failures { Accounts result (counts (O.failures output.old) (O.failures output.new)
         ∷ []) }
 {

@@ -55,6 +55,8 @@ where
         (K.took sink.new) (K.failures sink.new))) }
     // A refusal comes before anything is printed.
     ensures quiet { IfErr result (λ f. IfRefused f (output.new ≡ output.old)) }
+    // So memory is wanted.
+    ensures memory { IfErr result (λ f. f ≡ Fault.Memory → output.new ≡ output.old) }
     ensures failures { Accounts result (counts (D.failures sdp.old) (D.failures sdp.new)
         ∷ counts (S.failures source.old) (S.failures source.new)
         ∷ counts (K.failures sink.old) (K.failures sink.new)

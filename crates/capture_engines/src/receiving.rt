@@ -14,7 +14,7 @@ ghost use Rattle.run_outcome.specs.Fault.{Accounts, IfRefused, counts, failures_
 ghost use Rattle.capture_engines.specs.Received.{FileOpens, IsBehindWindow, IsFirstFilesRefusal};
 ghost use Rattle.capture_engines.specs.Received.{IsFirstWordRefusal, IsFrontRefusal};
 ghost use Rattle.capture_engines.specs.Received.{IsOpeningRefusal, IsReceiveRefusal, IsTurnRefusal};
-ghost use Rattle.capture_engines.specs.Received.{IsWordRefusal, Opens, WantsOpening};
+ghost use Rattle.capture_engines.specs.Received.{IsWordRefusal, Opens, SayOpening, WantsOpening};
 ghost use Rattle.capture_engines.specs.Receiving.{SavesShown};
 ghost use Rattle.run_outcome.specs.Refusing.{OfRefusal};
 ghost use Rattle.capture_engines.specs.Sent.{FirstIs};
@@ -33,6 +33,7 @@ use crate::intake::Intake;
 use crate::rescuing::receive_files;
 use crate::seen::{Seen, note_seen};
 use crate::way::{Way, unopened};
+use crate::words::are_timestamps;
 use flow::Flows;
 use recording_reader::DatagramReader;
 use run_outcome::{Fault, MOST_TEXT, Refusal, read_source, read_text, read_timestamps};
@@ -70,6 +71,9 @@ pub fn check_words<A: Allocator + Copy>(alloc: A, wanted: Wanted<'_>) -> Result<
     ensures refusal { IfErr result (λ f. OfRefusal f
         (IsWordRefusal wanted.entry.window.now wanted.entry.ssrc.now)) }
     ensures first { IfErr result (λ f. OfRefusal f (IsBehindWindow wanted.entry.window.now)) }
+    // No memory is wanted for words that are refused.
+    ensures memory { IfErr result (λ f. f ≡ Fault.Memory
+        → SayOpening wanted.entry.window.now wanted.entry.ssrc.now) }
     ensures failures { Accounts result [] }
 {
     let _opening = read_opening(alloc, wanted)?;
@@ -119,9 +123,10 @@ where
     ensures refused { IfErr result (λ f. IfRefused f (state.new ≡ state.old)) }
     // A refusal comes before anything is printed.
     ensures quiet { IfErr result (λ f. IfRefused f (output.new ≡ output.old)) }
-    // So memory is wanted.
+    // So memory is wanted, and where the words are no refusal.
     ensures memory { IfErr result (λ f. f ≡ Fault.Memory
-        → (state.new ≡ state.old) × (output.new ≡ output.old)) }
+        → (state.new ≡ state.old) × (output.new ≡ output.old)
+        × SayOpening wanted.entry.window.now wanted.entry.ssrc.now) }
     ensures refusal { IfErr result (λ f. OfRefusal f (IsReceiveRefusal wanted.entry.window.now
         wanted.entry.ssrc.now (pair sdp.old sdp.new) (WasRead S.gave S.ended)
         (zip captures.old captures.new))) }
@@ -199,7 +204,8 @@ fn octets_of<A: Allocator>(said: &Option<Vec<u8, A>>) -> Option<&[u8]>
     }
 }
 
-/// Reads the words that a receiver is opened by: its timestamps and its source.
+/// Reads the words that a receiver is opened by: its timestamps and its source. Both are looked at
+/// before memory is wanted.
 pub(crate) fn read_opening<A: Allocator + Copy>(
     alloc: A,
     wanted: Wanted<'_>,
@@ -208,15 +214,21 @@ pub(crate) fn read_opening<A: Allocator + Copy>(
     ensures source { IfOk result (λ o. IsSourceText wanted.entry.ssrc.now o.ssrc) }
     ensures refusal { IfErr result (λ f. OfRefusal f
         (IsFirstWordRefusal wanted.entry.window.now wanted.entry.ssrc.now)) }
+    // No memory is wanted for words that are refused.
+    ensures memory { IfErr result (λ f. f ≡ Fault.Memory
+        → SayOpening wanted.entry.window.now wanted.entry.ssrc.now) }
     ensures failures { Accounts result [] }
 {
-    let Some(window) = read_timestamps(alloc, wanted.window)? else {
+    if !are_timestamps(wanted.window) {
         return Err(Fault::Refused(Refusal::ReceiveWindow));
-    };
+    }
     let Some(ssrc) = read_source(wanted.ssrc) else {
         return Err(Fault::Refused(Refusal::ReceiveSource));
     };
-    Ok(Asked { window, ssrc })
+    match read_timestamps(alloc, wanted.window)? {
+        Some(window) => Ok(Asked { window, ssrc }),
+        None => unreachable!(),
+    }
 }
 
 pub(crate) fn begin<A: Allocator + Copy>(

@@ -7,6 +7,7 @@ ghost use Rattle.std.specs.Option.{option_copied};
 ghost use Rattle.capture_engines.specs.Counted.{CountsReceived};
 ghost use Rattle.capture_engines.specs.Printed.{if_wanted, received_text, tally_text};
 ghost use Rattle.capture_engines.specs.Received.{IsFirstFilesRefusal, IsReceivingRefusal};
+ghost use Rattle.capture_engines.specs.Received.{SayOpening};
 ghost use Rattle.capture_engines.specs.Receiving.{SavesShown};
 ghost use Rattle.capture_engines.specs.Rescued.{IsReceiverOfAny, IsRescue, RescueAccounts, Rescues};
 ghost use Rattle.capture_engines.specs.Taking.{ReceivesFiles};
@@ -24,7 +25,7 @@ use crate::receiving::{Asked, Wanted, begin, read_opening, take_all};
 use crate::reception::Reception;
 use crate::seen::Seen;
 use flow::Flows;
-use path_receiver::{Receiver, Tally};
+use path_receiver::Tally;
 use run_outcome::{Fault, Line, Refusal, print, print_frames, room, save_state};
 use st_format::{ByteSink, ByteSource};
 use std::alloc::Allocator;
@@ -98,6 +99,9 @@ where
     // Else memory is wanted before anything is printed or written too.
     ensures memory { IfErr result (λ f. f ≡ Fault.Memory → IsFalse is_sound
         → (state.new ≡ state.old) × (output.new ≡ output.old)) }
+    // No memory is wanted for words that are refused.
+    ensures wanted { IfErr result (λ f. f ≡ Fault.Memory
+        → SayOpening wanted.entry.window.now wanted.entry.ssrc.now) }
     ensures refusal { IfErr result (λ f. OfRefusal f (IsReceivingRefusal wanted.entry.window.now
         wanted.entry.ssrc.now (option_copied sdp.entry) ways.now (WasRead S.gave S.ended)
         (zip files.old files.new))) }

@@ -44,6 +44,8 @@ where
         (O.took output.old) (O.took output.new)) }
     // A refusal comes before anything is printed.
     ensures quiet { IfErr result (λ f. IfRefused f (output.new ≡ output.old)) }
+    // So memory is wanted.
+    ensures memory { IfErr result (λ f. f ≡ Fault.Memory → output.new ≡ output.old) }
     ensures failures { Accounts result (counts (failures_in S.failures sdp.old)
         (failures_in S.failures sdp.new) ∷ counts (sum_by S.failures pictures.old)
         (sum_by S.failures pictures.new) ∷ counts (K.failures sink.old) (K.failures sink.new)

@@ -35,6 +35,16 @@ untouched (Err (Refused x)) If printed sink sink' output output' before last kep
 untouched (Err Device) If printed sink sink' output output' before last kept quiet took = tt
 untouched (Err Memory) If printed sink sink' output output' before last kept quiet took = tt
 
+-- and where memory was wanted
+pub unwritten : {K W : Type 0} (o : Result (Unit {0}) Fault) (If : Type 0)
+    (printed : W → List ℕ) (sink sink' : K) (output output' : W) (before last : List ℕ)
+    → IfErr o (λ f. f ≡ Memory → If → (sink' ≡ sink) × (output' ≡ output))
+    → (sink' ≡ sink → last ≡ before)
+    → IfErr o (λ f. f ≡ Memory → If → (last ≡ before) × (printed output' ≡ printed output))
+unwritten (Ok v) If printed sink sink' output output' before last wants took = tt
+unwritten (Err f) If printed sink sink' output output' before last wants took = λ memory so.
+    (took (wants memory so).0, ap printed (wants memory so).1)
+
 -- what a run that was not begun is refused by, and what it leaves
 pub opened_refused : (f : Fault) (opened : Result (Unit {0}) Fault) (R : Refusal → Type 0)
     (Left : Type 0) → opened ≡ Err f → Left

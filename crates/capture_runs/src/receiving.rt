@@ -144,6 +144,9 @@ fn take(
     ensures kept { IfErr result (λ f. IfRefused f (IsFalse is_sound → state.new ≡ state.old)) }
     ensures quiet { IfErr result (λ f. IfRefused f (IsFalse is_sound
         → output.new ≡ output.old)) }
+    // So memory is wanted.
+    ensures memory { IfErr result (λ f. f ≡ Fault.Memory → IsFalse is_sound
+        → (state.new ≡ state.old) × (output.new ≡ output.old)) }
     ensures owed { Accounts result
         (counts (sum_by replayed_failures files.old.recordings.items)
         (sum_by replayed_failures files.new.recordings.items)
@@ -236,6 +239,10 @@ impl<'a> Command for ReceiveCommand<'a> {
         old.asked.wanted.ssrc.now (said_text old.files.said) old.files.ways.items ReplayedRead
         (zip old.files.recordings.items new.files.recordings.items) r) (λ f. f ≡ Refused r)
         × (IsFalse old.is_sound → AreUntouched old.state new.state old.output new.output) };
+
+    // Before anything is printed or written, but what came before a fault, where that is saved.
+    ghost wants = { λ old new. IsFalse old.is_sound
+        → AreUntouched old.state new.state old.output new.output };
 
     ghost is_placed = { λ c. IsInPlace c.state × IsFalse c.is_input };
 

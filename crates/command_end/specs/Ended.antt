@@ -37,14 +37,15 @@ pub record TellsEnd (outcome : Result (Unit {0}) Fault) (whole : Bool) (status :
   pub wanted : status ≡ 4 → (outcome ≡ Err Memory) ⊎ (outcome ≡ Err Device)
   pub working : status ≢ 3 → failed' ≡ failed
 
--- A command came to an end from when it was new: `Does`, `IsRefused`, `Owes` and `Leaves` are what
--- it does, which refusals speak against it, which devices failed, and what it has written for good
--- where it ends by a fault, each from when it was new. At 0 all was done and written out, no device
--- failed and nothing was told; at 1 a refusal was told that speaks against it, and what it wrote is
--- written out; at 3 a device failed; at 4 the run wanted memory, or a device that it uses did.
+-- A command came to an end from when it was new: `Does`, `IsRefused`, `Owes`, `Leaves` and `Wants`
+-- are what it does, which refusals speak against it, which devices failed, what it has written for
+-- good where it ends by a fault, and what it left where it wanted memory, each from when it was new.
+-- At 0 all was done and written out, no device failed and nothing was told; at 1 a refusal was told
+-- that speaks against it, and what it wrote is written out; at 3 a device failed; at 4 the run
+-- wanted memory, or a device that it uses did.
 pub record EndsBy {C : Type 0} (IsNew : C → Type 0) (Does : C → C → Type 0)
     (IsRefused : C → C → Refusal → Type 0) (Owes : C → C → Result (Unit {0}) Fault → Type 0)
-    (Leaves : C → C → Type 0) (status : ℕ) (whole : Bool) (command : C) (told : List ℕ)
+    (Leaves Wants : C → C → Type 0) (status : ℕ) (whole : Bool) (command : C) (told : List ℕ)
     (failed : ℕ) : Type 0 where
   pub new : C
   pub is_new : IsNew new
@@ -57,6 +58,7 @@ pub record EndsBy {C : Type 0} (IsNew : C → Type 0) (Does : C → C → Type 0
   pub failure : status ≡ 3
       → Owes new command (Err Device) ⊎ (whole ≡ false) ⊎ Failed 0 failed
   pub memory : status ≡ 4 → told ≡ memory_line
-  pub wanted : status ≡ 4 → Owes new command (Err Memory) ⊎ Owes new command (Err Device)
+  pub wanted : status ≡ 4
+      → (Owes new command (Err Memory) × Wants new command) ⊎ Owes new command (Err Device)
   pub working : status ≢ 3 → failed ≡ 0
   pub left : status ≢ 0 → whole ≡ true → Leaves new command

@@ -5,6 +5,7 @@ ghost use Rattle.command_end.specs.Ended.{EndsBy, TellsDevice};
 ghost use Rattle.devices.specs.Passed.{output_failures, output_took};
 ghost use Rattle.run_outcome.specs.Refusing.{OfRefusal};
 ghost use Rattle.run_outcome.specs.declared.fault.Fault.{Fault as Cause};
+ghost use Rattle.run_outcome.specs.declared.fault.Fault.TheVariants.{Memory};
 ghost use Rattle.run_outcome.specs.declared.refusal.Refusal.{Refusal as Reason};
 ghost use Rattle.st_format.specs.Device.{Failed};
 
@@ -49,6 +50,9 @@ pub trait Command {
     /// What a run that ends by a fault has written for good: the command before it, and after.
     ghost leaves: { Self → Self → Type 0 } = { λ _ _. ⊤ };
 
+    /// What a run that wanted memory left: the command before it, and after.
+    ghost wants: { Self → Self → Type 0 } = { λ _ _. ⊤ };
+
     /// Reads and writes all that the command does.
     fn run(&mut self) -> Ran
         requires { is_new self.old }
@@ -59,7 +63,8 @@ pub trait Command {
         ensures placed { OnOk result.outcome (IsTrue result.is_whole → is_placed self.new) }
         ensures unplaced { IsErr result.outcome ⊎ IsFalse result.is_whole
             → is_unplaced self.new }
-        ensures left { OnErr result.outcome (leaves self.old self.new) };
+        ensures left { OnErr result.outcome (leaves self.old self.new) }
+        ensures wanted { IfErr result.outcome (λ f. f ≡ Memory → wants self.old self.new) };
 
     /// The devices, where a fault is explained.
     fn devices(&self) -> Devices<'_>;
@@ -88,7 +93,7 @@ pub struct Ended<C> {
 /// there.
 pub fn run_command<C: Command + Drop>(rt: &HostRuntime, is_verbose: bool, command: C) -> Ended<C>
     requires { C.is_new command }
-    ensures ends { EndsBy C.is_new C.does C.is_refused C.owes C.leaves result.status
+    ensures ends { EndsBy C.is_new C.does C.is_refused C.owes C.leaves C.wants result.status
         result.is_whole result.command (output_took result.faults)
         (output_failures result.faults) }
     // At 3 standard error was told of the device last, unless it failed itself.

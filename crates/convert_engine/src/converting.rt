@@ -60,6 +60,8 @@ where
         (IsRead (S.gave source.old) (S.gave source.new) (S.ended source.new))
         (K.took sink.old) (K.took sink.new)) }
     ensures refused { IfErr result (λ f. IfRefused f (sink.new ≡ sink.old)) }
+    // Memory is wanted before anything is written.
+    ensures memory { IfErr result (λ f. f ≡ Fault.Memory → sink.new ≡ sink.old) }
     ensures refusal { IfErr result (λ f. OfRefusal f (IsConvertRefusal asked
         (IsRead (S.gave source.old) (S.gave source.new) (S.ended source.new)))) }
     ensures failures { Accounts result (counts (S.failures source.old) (S.failures source.new)

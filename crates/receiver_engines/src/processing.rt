@@ -85,6 +85,8 @@ where
         (K.took sink.old) (K.took sink.new)) }
     ensures refused { IfErr result (λ f. IfRefused f (sink.new ≡ sink.old)) }
     ensures quiet { IfErr result (λ f. IfRefused f (output.new ≡ output.old)) }
+    // Memory is wanted before anything is printed.
+    ensures memory { IfErr result (λ f. f ≡ Fault.Memory → output.new ≡ output.old) }
     ensures refusal { IfErr result (λ f. OfRefusal f
         (IsRunRefusal (WasRead S.gave S.ended) (zip states.old states.new)
         (pair hold.old hold.new) wanted.entry)) }
@@ -151,6 +153,8 @@ where
         wanted.entry.stamp (K.took sink.old) (K.took sink.new)) }
     ensures refused { IfErr result (λ f. IfRefused f (sink.new ≡ sink.old)) }
     ensures quiet { IfErr result (λ f. IfRefused f (output.new ≡ output.old)) }
+    // Memory is wanted before anything is printed.
+    ensures memory { IfErr result (λ f. f ≡ Fault.Memory → output.new ≡ output.old) }
     // Of the words and files the refusal is the first.
     ensures refusal { IfErr result (λ f. OfRefusal f
         (IsSaidRunRefusal (WasRead S.gave S.ended) sdp.old sdp.new (zip states.old states.new)

@@ -33,6 +33,8 @@ where
     // All of the file was read, up to its end.
     ensures ended { OnOk result (S.ended state.new) }
     ensures refused { IfErr result (λ f. IfRefused f (output.new ≡ output.old)) }
+    // Memory is wanted before anything is written.
+    ensures memory { IfErr result (λ f. f ≡ Fault.Memory → output.new ≡ output.old) }
     ensures refusal { IfErr result (λ f. OfRefusal f (IsStateRefusal
         (IsRead (S.gave state.old) (S.gave state.new) (S.ended state.new)))) }
     ensures failures { Accounts result (counts (S.failures state.old) (S.failures state.new)

@@ -66,6 +66,9 @@ fn merge<'a>(
     ensures ended { OnOk result (file_ended left.new × All file_ended others.new) }
     ensures quiet { IfErr result (λ f. IfRefused f
         (AreUntouched state.old state.new output.old output.new)) }
+    // So memory is wanted.
+    ensures memory { IfErr result (λ f. f ≡ Fault.Memory
+        → AreUntouched state.old state.new output.old output.new) }
     ensures unplaced { IsUnplaced state.new }
     ensures rest { LeavesNoPart state.old → LeavesNoPart state.new }
     ensures refusal { IfErr result (λ f. OfRefusal f (IsMergeAllRefusal
@@ -100,6 +103,9 @@ impl<'a> Command for MergeCommand<'a> {
         IsMergeAllRefusal (FileRead old.left new.left) (WasRead file_gave file_ended)
         (zip old.others.items new.others.items) r
         × AreUntouched old.state new.state old.output new.output };
+
+    // Before anything is printed or written.
+    ghost wants = { λ old new. AreUntouched old.state new.state old.output new.output };
 
     ghost is_placed = { λ c. IsInPlace c.state };
 

@@ -23,7 +23,7 @@ use Rattle.recording_engines.specs.Files.{IsOpenedFile}
 use Rattle.recording_engines.specs.Files.{ReadsFileOn, ReadsToFault, begun_of, ended_by, gave_by}
 use Rattle.recording_engines.specs.Files.{IsReadByFlows, standing_of}
 use Rattle.recording_engines.specs.Joining.{IsAtNoFault, Strand}
-use Rattle.recording_engines.specs.Opened.{AllBegin, IsFirstStop, IsStopRefusal}
+use Rattle.recording_engines.specs.Opened.{AllBegin, IsFirstStop, IsStopRefusal, TellsUnopened}
 use Rattle.recording_engines.specs.Steps.{Ahead, Coming, IsFresh, Over, ReadsMore, Standing}
 use Rattle.recording_engines.specs.Steps.{Unknown, left_by, whole_by}
 use Rattle.recording_engines.specs.declared.file.ImportFile.{ImportFile}
@@ -49,8 +49,13 @@ opening_stops flows before now ended (Reading f) stops =
       λ octets read. front_strand flows f octets (of_file _ f r told (stops octets read)),
     ))
 
+pub opening_told : (flows : Option Flows) (before now : List ℕ) (ended : Type 0)
+    (f : FileOpeningFault) → StopsOpening flows before now ended f
+    → TellsUnopened flows before now ended (opening_fault f)
+opening_told flows before now ended f stops = record { reason = f; told = refl; stops = stops }
+
 -- what a file is that was opened
-pub ruleset opened_one = (opening_stops, opening_blames, new_begun)
+pub ruleset opened_one = (opening_stops, opening_told, opening_blames, new_begun)
 
 whole_over : (s : Standing) (f : ReadingFault) (r : Strand) → s.ahead ≡ Over (Some f)
     → s.entries ≡ [] → whole_by s.entries s.ahead r ≡ strand [] (Some f)

@@ -5,11 +5,15 @@ use Rattle.flow.specs.declared.flows.Flows.{Flows}
 use Rattle.recording_engines.specs.Joining.{IsAtNoFault}
 use Rattle.recording_engines.specs.Strands.{IsTakenBy, strand_in}
 use Rattle.recording_reader.specs.Kinds.{is_recording}
+use Rattle.recording_reader.specs.Opening.{StopsOpening}
+use Rattle.recording_reader.specs.declared.fault.FileOpeningFault.{FileOpeningFault}
 use Rattle.recording_reader.specs.declared.fault.ReadingFault.{ReadingFault}
+use Rattle.run_outcome.specs.declared.fault.Fault.{Fault}
 use Rattle.run_outcome.specs.declared.fault.Fault.TheVariants.{Refused}
 use Rattle.run_outcome.specs.declared.refusal.Refusal.{Refusal}
 use Rattle.run_outcome.specs.declared.refusal.Refusal.TheVariants.{ImportPlaces}
 use Rattle.run_outcome.specs.LowerFaults.{reading_fault}
+use Rattle.recording_engines.specs.Faults.{opening_fault}
 
 -- The refusals of a file that is read by these flows: that it is a recording, and there are none;
 -- its first fault, which comes before all its records.
@@ -20,6 +24,13 @@ IsStopRefusal told flows r =
     ⊎ ((f : ReadingFault) × (reading_fault f ≡ Refused r)
     × ((octets : List ℕ) → told octets
     → strand_in flows octets ≡ record { entries = []; fault = Some f }))
+
+-- This fault tells why a file that is read by these flows isn't opened, whichever it is.
+pub record TellsUnopened (flows : Option Flows) (before now : List ℕ) (ended : Type 0) (f : Fault)
+    : Type 0 where
+  pub reason : FileOpeningFault
+  pub told : f ≡ opening_fault reason
+  pub stops : StopsOpening flows before now ended reason
 
 -- a file that is read by these flows isn't refused so: it is no recording without flows, and its
 -- first record comes, or its end

@@ -18,6 +18,10 @@ IsWays None None (Some text) (Err r) = IsSdpFlowsRefusal text r
 IsWays a b said (Ok flows) = AsksFlows a b [] flows
 IsWays a b said (Err r) = ⊥
 
+-- there are such, so no word is refused
+abbrev pub SayWays : Option (List ℕ) → Option (List ℕ) → Option (List ℕ) → Type 0
+SayWays a b said = (w : Result Flows Refusal) × IsWays a b said w
+
 -- Those of each of so many files: where both paths have one place, A's for the first of two files,
 -- and B's for the second; of other numbers of files none.
 abbrev pub AreWays : Result Flows Refusal → ℕ → List (Result Flows Refusal) → Type 0

@@ -3,6 +3,7 @@ ghost use Rattle.std.specs.Prelude.{◌≡◌, ◌∷◌, [], None, Some, length
 ghost use Rattle.std.specs.Prelude.{◌≢◌, ◌⊎◌, List};
 ghost use Rattle.std.specs.List.{AllByRecursion, sum_by, zip};
 ghost use Rattle.std.specs.Option.{option_copied};
+ghost use Rattle.flow.specs.Flow.{IsOnePlace};
 ghost use Rattle.recording_counts.specs.LeftOut.{left_out_of};
 ghost use Rattle.recording_counts.specs.declared.omission.Omission.{Omission as Reason};
 ghost use Rattle.run_outcome.specs.Fault.{Accounts, IfRefused, counts};
@@ -272,6 +273,8 @@ pub fn flows_each<A: Allocator>(
 ) -> Result<Vec<Flows, A>, Fault>
     ensures tells { IfOk result (λ each. TellsPaths flows count each.items) }
     ensures refusal { IfErr result (λ f. OfRefusal f (IsPlacesRefusal flows count)) }
+    // No memory is wanted for flows that are refused.
+    ensures memory { IfErr result (λ f. f ≡ Fault.Memory → IsOnePlace flows → count ≡ 2) }
     ensures failures { Accounts result [] }
 {
     if !flows.is_one_place() {

@@ -5,6 +5,7 @@ ghost use Rattle.recording_engines.specs.Files.{AllClosed, AllOpened, IsClosed, 
 ghost use Rattle.recording_engines.specs.Files.{IsReady, IsUnread, ReadsToFault, begun_of};
 ghost use Rattle.recording_engines.specs.Files.{ended_by, failures_by, gave_by, standing_of};
 ghost use Rattle.recording_engines.specs.Opened.{AllBegin, IsFirstStop, IsStopRefusal};
+ghost use Rattle.recording_engines.specs.Opened.{TellsUnopened};
 ghost use Rattle.run_outcome.specs.Fault.{Accounts, counts};
 ghost use Rattle.run_outcome.specs.Moments.{WasRead};
 ghost use Rattle.run_outcome.specs.Refusing.{OfRefusal};
@@ -35,6 +36,9 @@ fn open_source<A: Allocator, S: ByteSource>(
     ensures opened { OnOk result.1 (IsNew flows (S.gave source) result.0) }
     ensures refusal { IfErr result.1 (λ f. OfRefusal f (IsStopRefusal (IsRead
         (S.gave source) (gave_by S.gave result.0) (ended_by S.ended result.0)) flows)) }
+    // Memory is told where the reader wanted it: of no recording without flows.
+    ensures told { IfErr result.1 (TellsUnopened flows (S.gave source)
+        (gave_by S.gave result.0) (ended_by S.ended result.0)) }
     ensures failures { Accounts result.1 (counts (S.failures source)
         (failures_by S.failures result.0) ∷ []) }
 {
@@ -63,6 +67,8 @@ fn open_file<A: Allocator, S: ByteSource + Drop>(
     ensures opened { OnOk result (IsNew flows (gave_by S.gave file.old) file.new) }
     ensures refusal { IfErr result (λ f. OfRefusal f (IsStopRefusal (IsRead
         (gave_by S.gave file.old) (gave_by S.gave file.new) (ended_by S.ended file.new)) flows)) }
+    ensures told { IfErr result (TellsUnopened flows (gave_by S.gave file.old)
+        (gave_by S.gave file.new) (ended_by S.ended file.new)) }
     ensures failures { Accounts result (counts (failures_by S.failures file.old)
         (failures_by S.failures file.new) ∷ []) }
 {

@@ -1,8 +1,8 @@
 //! By which flows recordings are taken among captures.
-ghost use Rattle.std.specs.Prelude.{◌≡◌, ◌⊎◌, [], IfErr, IfOk, Ok, map};
+ghost use Rattle.std.specs.Prelude.{◌≡◌, ◌≢◌, ◌⊎◌, [], IfErr, IfOk, Ok, map};
 ghost use Rattle.std.specs.Option.{option_copied};
 ghost use Rattle.recording_engines.specs.Imported.{IsNoFlowRefusal};
-ghost use Rattle.recording_engines.specs.Ways.{AreWaysBy, IsWays};
+ghost use Rattle.recording_engines.specs.Ways.{AreWaysBy, IsWays, SayWays};
 ghost use Rattle.run_outcome.specs.Fault.{Accounts};
 ghost use Rattle.run_outcome.specs.Refusing.{OfRefusal};
 
@@ -28,6 +28,9 @@ pub fn ways_each<A: Allocator + Copy>(
     ensures refusal { IfErr result (λ f. OfRefusal f (λ r.
         IsNoFlowRefusal (option_copied wanted.entry.a) r
         ⊎ IsNoFlowRefusal (option_copied wanted.entry.b) r)) }
+    // No memory is wanted for words that are refused.
+    ensures memory { IfErr result (λ f. f ≡ Fault.Memory → SayWays (option_copied wanted.entry.a)
+        (option_copied wanted.entry.b) (option_copied said.entry)) }
     ensures failures { Accounts result [] }
 {
     let flows = match ways_of(wanted, said)? {
@@ -62,6 +65,8 @@ fn ways_of(wanted: FlowWords<'_>, said: Option<&[u8]>) -> Result<Result<Flows, R
     ensures refusal { IfErr result (λ f. OfRefusal f (λ r.
         IsNoFlowRefusal (option_copied wanted.entry.a) r
         ⊎ IsNoFlowRefusal (option_copied wanted.entry.b) r)) }
+    // No memory is asked for.
+    ensures unwanted { IfErr result (λ f. f ≢ Fault.Memory) }
     ensures failures { Accounts result [] }
 {
     if wanted.a.is_some() || wanted.b.is_some() {

@@ -6,7 +6,7 @@ ghost use Rattle.devices.specs.Passed.{FileRead, file_ended, file_failures, file
 ghost use Rattle.devices.specs.Passed.{IsInPlace, IsUnplaced, output_failures, output_took};
 ghost use Rattle.devices.specs.Passed.{writing_failures};
 ghost use Rattle.export_engine.specs.ExportRefused.{IsExportRefusal};
-ghost use Rattle.export_engine.specs.Exported.{LeavesExport, PrintsExported};
+ghost use Rattle.export_engine.specs.Exported.{IsUntouched, LeavesExport, PrintsExported};
 ghost use Rattle.export_engine.specs.Packets.{SayFlows};
 ghost use Rattle.run_outcome.specs.Fault.{Accounts, IfRefused, counts};
 ghost use Rattle.run_outcome.specs.Refusing.{OfRefusal};
@@ -88,6 +88,12 @@ fn export(
         (file_took out.old) (file_took out.new))) }
     ensures quiet { IfErr result (λ f. IfRefused f
         (output_took output.new ≡ output_took output.old)) }
+    // Memory is wanted where the words are flows, before anything is read, written or printed.
+    ensures memory { IfErr result (λ f. f ≡ Fault.Memory
+        → SayFlows wanted.entry.a.now (option_copied wanted.entry.b)
+        × IsUntouched (file_gave capture.old) (file_gave capture.new)
+        (file_took out.old) (file_took out.new)
+        × (output_took output.new ≡ output_took output.old)) }
     ensures owed { Accounts result (counts (file_failures capture.old) (file_failures capture.new)
         ∷ counts (writing_failures out.old) (writing_failures out.new)
         ∷ counts (output_failures output.old) (output_failures output.new) ∷ []) }
@@ -115,6 +121,12 @@ impl<'a> Command for ExportCommand<'a> {
         (FileRead old.capture new.capture)) r
         × LeavesExport (Refused r) old.wanted.a.now (option_copied old.wanted.b)
         (file_gave old.capture) (file_gave new.capture) (file_ended new.capture)
+        (file_took old.out) (file_took new.out)
+        × (output_took new.output ≡ output_took old.output) };
+
+    // Where the words are flows, before anything is read, written or printed.
+    ghost wants = { λ old new. SayFlows old.wanted.a.now (option_copied old.wanted.b)
+        × IsUntouched (file_gave old.capture) (file_gave new.capture)
         (file_took old.out) (file_took new.out)
         × (output_took new.output ≡ output_took old.output) };
 

@@ -1,5 +1,5 @@
 //! `import` over the devices of this machine.
-ghost use Rattle.std.specs.Prelude.{◌≡◌, ◌∷◌, ⊤, [], All, IfErr, IfOk, IsFalse};
+ghost use Rattle.std.specs.Prelude.{◌≡◌, ◌⊎◌, ◌∷◌, ⊤, [], All, IfErr, IfOk, IsFalse};
 ghost use Rattle.std.specs.Prelude.{OnOk, Some, length, sum_by};
 ghost use Rattle.std.specs.List.{AllByRecursion, zip};
 ghost use Rattle.std.specs.Option.{option_copied};
@@ -9,12 +9,14 @@ ghost use Rattle.devices.specs.Passed.{IsInPlace, IsUnplaced, output_failures, o
 ghost use Rattle.devices.specs.Passed.{writing_failures};
 ghost use Rattle.recording_engines.specs.Files.{AllClosed, ended_by, failures_by, gave_by};
 ghost use Rattle.recording_engines.specs.Imported.{Imports, IsImportRefusal};
+ghost use Rattle.recording_engines.specs.Progress.{IsDeviceOrFile};
 ghost use Rattle.recording_engines.specs.declared.importing.ImportCounts.{ImportCounts as Sums};
 ghost use Rattle.recording_runs.specs.Files.{AreNew};
 ghost use Rattle.run_outcome.specs.Fault.{Accounts, IfRefused, counts};
 ghost use Rattle.run_outcome.specs.Moments.{WasRead};
 ghost use Rattle.run_outcome.specs.Refusing.{OfRefusal};
-ghost use Rattle.run_outcome.specs.Text.{GivesText};
+ghost use Rattle.run_outcome.specs.Text.{GivesFew, GivesText};
+ghost use Rattle.run_outcome.specs.declared.fault.Fault.TheVariants.{Memory};
 ghost use Rattle.run_outcome.specs.declared.refusal.Writer.TheVariants.{Import};
 
 use command_end::{Command, Devices, Hints, Ran, find_output};
@@ -163,6 +165,12 @@ fn import<'a>(
         (file_took out.old) (file_took out.new)))) }
     ensures quiet { IfErr result (λ f. IfRefused f
         (output_took output.new ≡ output_took output.old)) }
+    // Memory is wanted before anything is printed, for a text that isn't too long; and, unless a
+    // file's reader says so, before anything is written.
+    ensures memory { IfErr result (λ f. f ≡ Fault.Memory
+        → (output_took output.new ≡ output_took output.old)
+        × GivesFew 65535 (file_gave sdp.old) (file_gave sdp.new)
+        × ((file_took out.new ≡ file_took out.old) ⊎ IsDeviceOrFile files.new f)) }
     ensures owed { Accounts result (counts (file_failures sdp.old) (file_failures sdp.new)
         ∷ counts (sum_by (failures_by file_failures) files.old)
         (sum_by (failures_by file_failures) files.new)
@@ -199,6 +207,12 @@ impl<'a> Command for ImportCommand<'a> {
         (WasRead (gave_by file_gave) (ended_by file_ended)) (zip old.files.items new.files.items)
         (file_took old.out) (file_took new.out)) r
         × (output_took new.output ≡ output_took old.output) };
+
+    // Before anything is printed, for a text that isn't too long; and, unless a file's reader says
+    // so, before anything is written.
+    ghost wants = { λ old new. (output_took new.output ≡ output_took old.output)
+        × GivesFew 65535 (file_gave old.sdp) (file_gave new.sdp)
+        × ((file_took new.out ≡ file_took old.out) ⊎ IsDeviceOrFile new.files.items Memory) };
 
     ghost is_placed = { λ c. IsInPlace c.out × IsFalse c.is_input };
 

@@ -91,6 +91,10 @@ fn export<'a>(
         (file_took out.old) (file_took out.new))) }
     ensures quiet { IfErr result (λ f. IfRefused f
         (output_took output.new ≡ output_took output.old)) }
+    // Memory is wanted where the words are flows, before anything is printed.
+    ensures memory { IfErr result (λ f. f ≡ Fault.Memory
+        → SayFlows wanted.entry.flows.a.now (option_copied wanted.entry.flows.b)
+        × (output_took output.new ≡ output_took output.old)) }
     ensures owed { Accounts result (counts (file_failures ahead.old) (file_failures ahead.new)
         ∷ counts (file_failures capture.old) (file_failures capture.new)
         ∷ counts (writing_failures out.old) (writing_failures out.new)
@@ -127,6 +131,10 @@ impl<'a> Command for PacedCommand<'a> {
         (file_gave old.ahead) (file_gave new.ahead) (file_ended new.ahead)
         (file_gave old.capture) (file_gave new.capture) (file_ended new.capture)
         (file_took old.out) (file_took new.out)
+        × (output_took new.output ≡ output_took old.output) };
+
+    // Where the words are flows, before anything is printed.
+    ghost wants = { λ old new. SayFlows old.wanted.flows.a.now (option_copied old.wanted.flows.b)
         × (output_took new.output ≡ output_took old.output) };
 
     ghost is_placed = { λ c. IsInPlace c.out × IsFalse c.is_input };

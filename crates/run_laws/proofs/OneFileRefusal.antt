@@ -1,7 +1,7 @@
 -- Of a file that is received, taken as it is, one refusal is told; of an SDP text's fault it may be
 -- one or the other.
 use Rattle.std.proofs.Common.{◌≡◌, ◌∙◌, ℕ, ◌<◌, ◌≤◌, ◌⊎◌, inl, inr, Bool, true, false, List, []}
-use Rattle.std.proofs.Common.{◌++◌, Option, None, Some, Result, Ok, Err, cond, length}
+use Rattle.std.proofs.Common.{◌++◌, Option, Some, Result, Ok, Err, cond, length}
 use Rattle.std.proofs.Common.{length-append, refl, sym, ap, subst, arith}
 use Rattle.std.proofs.lemmas.Bool.{cases_lt}
 use Rattle.std.specs.Prelude.{IsSome}
@@ -10,7 +10,8 @@ use Rattle.media_file.specs.Fronts.{front_at}
 use Rattle.media_file.specs.Reading.{entries_in, fault_at}
 use Rattle.media_file.specs.Records.{Entry}
 use Rattle.media_file.specs.declared.fault.FileFault.{FileFault}
-use Rattle.media_file.specs.declared.fault.FileFault.TheVariants.{BadName, TooManyRecords, Truncated}
+use Rattle.media_file.specs.declared.fault.FileFault.TheVariants.{BadName, TooManyRecords}
+use Rattle.media_file.specs.declared.fault.FileFault.TheVariants.{Truncated}
 use Rattle.media_file.proofs.Cuts.{entries_front}
 use Rattle.pcap_file.specs.PcapReading.{Recorded}
 use Rattle.pcap_file.specs.Runs.{fault_in, most_packet, opened_at}
@@ -35,7 +36,7 @@ use Rattle.capture_engines.specs.declared.way.Way.{Way}
 use Rattle.capture_engines.specs.declared.way.Way.TheVariants as way
 use Rattle.capture_engines.proofs.Untaken.{front_stop, long_front, short_front}
 use Rattle.run_laws.proofs.OneTextRefusal.{One, front_none, front_of, none_said, one_front}
-use Rattle.run_laws.proofs.WholeFiles.{not_both, stops_not, text_is}
+use Rattle.run_laws.proofs.WholeFiles.{no_flows, not_both, stops_not, text_is}
 
 -- ---- a capture's fault
 
@@ -172,12 +173,6 @@ text_opens window w told octets there is =
     subst (λ (t : List ℕ). Opens window t) (sym (text_is w octets at.0 at.1)) at.2
 
 -- ---- a file that is taken as a capture
-
-abbrev none_flows : Option Flows
-none_flows = None
-
-no_flows : IsSome none_flows → ⊥
-no_flows is = cc
 
 -- it is no recording that is taken by flows
 no_recording : (w : Way) (octets : List ℕ) → IsCaptureBy w octets → is_recording octets ≡ true
@@ -480,3 +475,45 @@ file_not window w U told octets r there whole opens (inr (inl (none, is))) =
     (text_refused window w told octets r there is)
 file_not window w U told octets r there whole opens (inr (inr (unopened, stops, few))) =
     stops_not w told octets r there (whole octets there) stops
+
+-- ---- a file whose front has no fault
+
+module _ (w : Way) (octets text : List ℕ) (has : HasFileText w octets text) where
+  no_capture_front : (f : FileFault) → IsCaptureBy w octets → OfFront octets f → ⊥
+  no_capture_front f capture wrong =
+      let there = text_there has in
+      front_twice octets f there.0 wrong there.1
+    where
+      text_there : HasFileText w octets text → HasFrontBy false octets
+      text_there (inl is) = absurd (no_recording w octets capture is.0 is.1)
+      text_there (inr (rest, kind, is)) = ((text, rest), is)
+
+  no_recording_front : (f : RecordingFault) → is_recording octets ≡ true
+      → opened_at octets ≡ Err f → ⊥
+  no_recording_front f kind wrong = by has
+    where
+      by : HasFileText w octets text → ⊥
+      by (inl (is, some, none, (x, there))) =
+          let both : Err f ≡ Ok x = sym wrong ∙ there in
+          absurd cc
+      by (inr (rest, is, there)) = not_both (is_recording octets) kind is
+
+-- nor is it untaken
+no_untaken_front : (w : Way) (told : List ℕ → Type 0) (octets text : List ℕ) (r : Refusal)
+    → told octets → HasFileText w octets text → IsUntakenRefusal w told r → ⊥
+no_untaken_front way.Capture told octets text r there has is = is
+no_untaken_front (way.Flows flows) told octets text r there has is = is
+no_untaken_front (way.Refused e) told octets text r there has is =
+    untext e told octets there (is.1 octets there) text has
+
+pub no_front : (w : Way) (told : List ℕ → Type 0) (octets text : List ℕ) (r : Refusal)
+    → told octets → HasFileText w octets text → StopsFront w told r → ⊥
+no_front w told octets text (why.Capture f) there has (inl is) =
+    no_capture_front w octets text has f (is.1 octets there) (is.0 octets there)
+no_front w told octets text r there has (inl is) = absurd is.0
+no_front w told octets text (why.Recording f) there has (inr (inl is)) =
+    let at = is.1 octets there in
+    no_recording_front w octets text has f at.0 at.1
+no_front w told octets text r there has (inr (inl is)) = absurd is
+no_front w told octets text r there has (inr (inr is)) =
+    no_untaken_front w told octets text r there has is

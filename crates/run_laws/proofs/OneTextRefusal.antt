@@ -11,7 +11,7 @@ use Rattle.sdp_format.specs.Sections.{video_sections}
 use Rattle.sdp_format.specs.declared.place.Located.{Located}
 use Rattle.capture_engines.specs.Received.{IsFrontRefusal, IsOpeningRefusal, IsWindowFault}
 use Rattle.capture_engines.specs.Received.{Opens}
-use Rattle.run_outcome.specs.TextRefusals.{IsSdp}
+use Rattle.run_outcome.specs.TextRefusals.{IsDescriptionRefusal, IsSdp}
 use Rattle.run_laws.specs.Told.{AreOfOneFault}
 use Rattle.run_laws.proofs.NoTextFault.{no_text_fault, of_one_fault, one_text_fault}
 use Rattle.run_laws.proofs.WholeFiles.{window_not}
@@ -19,12 +19,31 @@ use Rattle.run_laws.proofs.WholeFiles.{window_not}
 abbrev pub One : Refusal → Refusal → Type 0
 One r q = (r ≡ q) ⊎ AreOfOneFault r q
 
--- ---- opening by a text
-
 -- of the text
 abbrev OfText : List ℕ → Refusal → Type 0
 OfText text r =
     (at : Located) × (r ≡ why.Sdp at) × IsTextFault (video_sections (lines text)) at.fault
+
+-- ---- what it says
+
+description_of : (text : List ℕ) (r : Refusal) → IsDescriptionRefusal text r → OfText text r
+description_of text (why.Sdp at) is = (at, refl, is)
+description_of text r is = absurd is
+
+pub one_described : (text : List ℕ) (r q : Refusal) → IsDescriptionRefusal text r
+    → IsDescriptionRefusal text q → One r q
+one_described text r q is other =
+    let a = description_of text r is in
+    let b = description_of text q other in
+    inr (of_one_fault r q a.0 b.0 a.1 b.1 (one_text_fault text a.0.fault b.0.fault a.2 b.2))
+
+-- where it describes a video it isn't refused
+pub described_none : (text : List ℕ) (r : Refusal) → IsSdp text → IsDescriptionRefusal text r → ⊥
+described_none text r said is =
+    let a = description_of text r is in
+    no_text_fault text said.0 a.0.fault said.1 a.2
+
+-- ---- opening a receiver
 
 -- which it is: of the text; of the window
 opening_of : (window text : List ℕ) (r : Refusal) → IsOpeningRefusal window text r

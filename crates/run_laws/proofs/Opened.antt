@@ -2,7 +2,6 @@
 use Rattle.std.proofs.Common.{◌≡◌, ℕ, ◌^◌, ◌<◌, List, [], ◌∷◌, Option, None, Some, Result, Ok}
 use Rattle.std.proofs.Common.{codes, length, get_or, refl, sym, ap, ◌∙◌, subst, arith}
 use Rattle.std.specs.List.{AllByRecursion}
-use Rattle.std.specs.Str.Parse.{digits_value}
 use Rattle.std.proofs.lemmas.Option.{some_pair_parts}
 use Rattle.std.proofs.lemmas.Str.Parse.{digit_at}
 use Rattle.st_format.specs.declared.format.Format.{Format}
@@ -18,22 +17,19 @@ use Rattle.media_file.specs.StateFile.{SsrcFits}
 use Rattle.run_outcome.specs.Sources.{IsSourceText}
 use Rattle.run_outcome.specs.Timestamps.{AreTimestamps, IsNumberOf}
 use Rattle.capture_engines.specs.Taking.{AnnouncesStream}
+use Rattle.script_engines.proofs.LinesOnce.{one_number}
 
 -- ---- numbers
-
-pub one_number : (a b : List ℕ) (m n : ℕ) → a ≡ b → IsNumberOf a m → IsNumberOf b n → m ≡ n
-one_number a b m n same p q =
-    p.value ∙ ap (λ (text : List ℕ). digits_value 10 text) same ∙ sym q.value
 
 number_fits : (text : List ℕ) (n : ℕ) → IsNumberOf text n → n < 2 ^ 32
 number_fits text n is = subst (λ (k : ℕ). k < 2 ^ 32) (sym is.value) is.is.fits
 
 -- ---- timestamps
 
-abbrev Part : Type 0
+abbrev pub Part : Type 0
 Part = Option (List ℕ × List ℕ)
 
-none_some : (r : Part) (a b : List ℕ) → r ≡ None → r ≡ Some (a, b) → ⊥
+pub none_some : (r : Part) (a b : List ℕ) → r ≡ None → r ≡ Some (a, b) → ⊥
 none_some None a b none some = absurd cc
 none_some (Some p) a b none some = absurd cc
 
@@ -95,6 +91,13 @@ one_description : (text : List ℕ) (d e : Description) → IsDescribed (video_s
 one_description text d e p q =
     same_said d e (sym ((text_said text d).1 p) ∙ (text_said text e).1 q)
 
+pub one_payload_type : (text : List ℕ) (o q : Opening) → AnnouncesStream text o
+    → AnnouncesStream text q → o.payload_type ≡ q.payload_type
+one_payload_type text o q oa qa =
+    let said : oa.description ≡ qa.description =
+    one_description text oa.description qa.description oa.described qa.described in
+    oa.payload_type ∙ ap (λ (d : Description). d.leg.payload_type) said ∙ sym qa.payload_type
+
 -- ---- an opening
 
 abbrev opening_by : Format → ℕ → Option ℕ → List ℕ → Opening
@@ -110,9 +113,7 @@ one_opening window source text o q ow qw os qs oa qa =
     let format : o.format ≡ q.format =
     same_format o.format q.format
     (oa.format ∙ ap (λ (d : Description). d.leg.format) said ∙ sym qa.format) in
-    let type : o.payload_type ≡ q.payload_type =
-    oa.payload_type ∙ ap (λ (d : Description). d.leg.payload_type) said
-    ∙ sym qa.payload_type in
+    let type : o.payload_type ≡ q.payload_type = one_payload_type text o q oa qa in
     ap (λ (x : Format). opening_by x o.payload_type o.ssrc o.window) format
     ∙ ap (λ (x : ℕ). opening_by q.format x o.ssrc o.window) type
     ∙ ap (λ (x : Option ℕ). opening_by q.format q.payload_type x o.window)

@@ -1,7 +1,7 @@
 //! The engines of captures, each with its status.
 ghost use Rattle.std.specs.Prelude.{◌≡◌, ◌≢◌, ◌+◌, ◌++◌, ◌≤◌, ◌<◌, ◌⊎◌, ◌∷◌, [], length, sum_by};
 ghost use Rattle.std.specs.Prelude.{Option};
-ghost use Rattle.std.specs.Io.KnownBytes.{Appends, IsAtEnd};
+ghost use Rattle.std.specs.Io.KnownBytes.{IsAtEnd};
 ghost use Rattle.std.specs.List.{zip};
 ghost use Rattle.run_outcome.specs.Moments.{WasRead, pair};
 ghost use Rattle.st_format.specs.Device.{Failed};
@@ -12,7 +12,7 @@ ghost use Rattle.run_outcome.specs.States.{SavesPart};
 ghost use Rattle.capture_engines.specs.Sent.{IsSendRefusal};
 ghost use Rattle.capture_engines.specs.Sending.{SendsAll};
 ghost use Rattle.run_outcome.specs.Telling.{device_line, memory_line};
-ghost use Rattle.capture_engines.specs.Received.{IsReceiveRefusal};
+ghost use Rattle.capture_engines.specs.Received.{IsReceiveRefusal, SayOpening};
 ghost use Rattle.capture_engines.specs.Receiving.{SavesShown};
 ghost use Rattle.capture_engines.specs.Taking.{IsReceiverOfRun, Receives};
 ghost use Rattle.capture_engines.specs.Migrating.{LeavesAt, LeavesOff, PrintsMigrated, passed};
@@ -79,6 +79,7 @@ where
     ensures silent { result ≡ 0 → faults.new ≡ faults.old }
     ensures blamed { result ≡ 3 → Failed (F.failures faults.old) (F.failures faults.new)
         ⊎ (F.took faults.new ≡ F.took faults.old ++ device_line) }
+    ensures wanted { result ≡ 4 → output.new ≡ output.old }
     ensures memory { result ≡ 4 → F.took faults.new ≡ F.took faults.old ++ memory_line }
 {
     let outcome = send(alloc, wanted, sdp, pictures, sink, output);
@@ -95,7 +96,7 @@ where
 ///
 /// The status is 0; or 1 where a word, the SDP, the opening or a capture is refused, 3 where a
 /// device failed, and 4 where the allocator refused memory, which `faults` is told by one line.
-/// Nothing is printed or written to `state` where the status is 1.
+/// Nothing is printed or written to `state` where the status is 1 or 4.
 pub fn run_receive<A, S, K, O, F>(
     alloc: A,
     wanted: Wanted<'_>,
@@ -142,6 +143,9 @@ where
     ensures silent { result ≡ 0 → faults.new ≡ faults.old }
     ensures blamed { result ≡ 3 → Failed (F.failures faults.old) (F.failures faults.new)
         ⊎ (F.took faults.new ≡ F.took faults.old ++ device_line) }
+    // Memory is wanted before anything is printed or written, and where the words are no refusal.
+    ensures wanted { result ≡ 4 → (state.new ≡ state.old) × (output.new ≡ output.old)
+        × SayOpening wanted.entry.window.now wanted.entry.ssrc.now }
     ensures memory { result ≡ 4 → F.took faults.new ≡ F.took faults.old ++ memory_line }
 {
     let outcome = receive(alloc, wanted, sdp, captures, state, output);
@@ -206,6 +210,7 @@ where
     ensures silent { result ≡ 0 → faults.new ≡ faults.old }
     ensures blamed { result ≡ 3 → Failed (F.failures faults.old) (F.failures faults.new)
         ⊎ (F.took faults.new ≡ F.took faults.old ++ device_line) }
+    ensures wanted { result ≡ 4 → output.new ≡ output.old }
     ensures memory { result ≡ 4 → F.took faults.new ≡ F.took faults.old ++ memory_line }
 {
     let outcome = migrate(alloc, sdp, source, sink, output);
@@ -267,6 +272,7 @@ where
     ensures silent { result ≡ 0 → faults.new ≡ faults.old }
     ensures blamed { result ≡ 3 → Failed (F.failures faults.old) (F.failures faults.new)
         ⊎ (F.took faults.new ≡ F.took faults.old ++ device_line) }
+    ensures wanted { result ≡ 4 → output.new ≡ output.old }
     ensures memory { result ≡ 4 → F.took faults.new ≡ F.took faults.old ++ memory_line }
 {
     let outcome = loop_back(alloc, wanted, picture, link, output);

@@ -113,6 +113,7 @@ where
     ensures silent { result ≡ 0 → faults.new ≡ faults.old }
     ensures blamed { result ≡ 3 → Failed (F.failures faults.old) (F.failures faults.new)
         ⊎ (F.took faults.new ≡ F.took faults.old ++ device_line) }
+    ensures wanted { result ≡ 4 → sink.new ≡ sink.old }
     ensures memory { result ≡ 4 → F.took faults.new ≡ F.took faults.old ++ memory_line }
 {
     let outcome = convert(alloc, asked, source, sink);

@@ -28,7 +28,7 @@ use std::alloc::Allocator;
 ///
 /// The status is 0; or 1 where a file is refused or the two are opened unlike (`merge 1`), 3 where
 /// a device failed, and 4 where the allocator refused memory. `faults` is told of it by one line.
-/// Nothing is printed or written to `state` where the status is 1.
+/// Nothing is printed or written to `state` where the status is 1 or 4.
 pub fn run_merge<A, L, R, K, O, F>(
     alloc: A,
     left: &mut L,
@@ -79,6 +79,8 @@ where
     ensures silent { result ≡ 0 → faults.new ≡ faults.old }
     ensures blamed { result ≡ 3 → Failed (F.failures faults.old) (F.failures faults.new)
         ⊎ (F.took faults.new ≡ F.took faults.old ++ device_line) }
+    // Memory is wanted before anything is printed or written.
+    ensures wanted { result ≡ 4 → (state.new ≡ state.old) × (output.new ≡ output.old) }
     ensures memory { result ≡ 4 → F.took faults.new ≡ F.took faults.old ++ memory_line }
 {
     let outcome = merge(alloc, left, right, state, output);
@@ -120,6 +122,7 @@ where
     ensures silent { result ≡ 0 → faults.new ≡ faults.old }
     ensures blamed { result ≡ 3 → Failed (F.failures faults.old) (F.failures faults.new)
         ⊎ (F.took faults.new ≡ F.took faults.old ++ device_line) }
+    ensures wanted { result ≡ 4 → output.new ≡ output.old }
     ensures memory { result ≡ 4 → F.took faults.new ≡ F.took faults.old ++ memory_line }
 {
     let outcome = report(alloc, state, output);
@@ -185,6 +188,7 @@ where
     ensures silent { result ≡ 0 → faults.new ≡ faults.old }
     ensures blamed { result ≡ 3 → Failed (F.failures faults.old) (F.failures faults.new)
         ⊎ (F.took faults.new ≡ F.took faults.old ++ device_line) }
+    ensures wanted { result ≡ 4 → output.new ≡ output.old }
     ensures memory { result ≡ 4 → F.took faults.new ≡ F.took faults.old ++ memory_line }
 {
     let outcome = process(alloc, wanted, states, hold, sink, output);

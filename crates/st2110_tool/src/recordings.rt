@@ -1,21 +1,23 @@
 //! The engines of recordings, each with its status.
-ghost use Rattle.std.specs.Prelude.{◌≡◌, ◌≢◌, ◌⊎◌, ◌∷◌, ◌++◌, [], false, IfErr, None, OnOk, length};
-ghost use Rattle.std.specs.Prelude.{List, sum_by};
+ghost use Rattle.std.specs.Prelude.{◌≡◌, ◌≢◌, ◌⊎◌, ◌∷◌, ◌++◌, [], false, IfErr, None, OnOk};
+ghost use Rattle.std.specs.Prelude.{sum_by};
 ghost use Rattle.std.specs.List.{zip};
 ghost use Rattle.std.specs.Option.{option_copied};
 ghost use Rattle.export_engine.specs.ExportRefused.{IsExportRefusal};
-ghost use Rattle.export_engine.specs.Exported.{LeavesExport, PrintsExported};
+ghost use Rattle.export_engine.specs.Exported.{IsUntouched, LeavesExport, PrintsExported};
+ghost use Rattle.export_engine.specs.Packets.{SayFlows};
 ghost use Rattle.inspect_engine.specs.Told.{IsInspectRefusal, Tells};
 ghost use Rattle.paced_export.specs.PacedExported.{LeavesPaced, PrintsPaced};
 ghost use Rattle.paced_export.specs.PacedRefused.{IsPacedRefusal};
 ghost use Rattle.recording_engines.specs.Files.{AllClosed, ended_by, failures_by, gave_by};
 ghost use Rattle.recording_engines.specs.Imported.{Imports, IsImportRefusal};
+ghost use Rattle.recording_engines.specs.Progress.{IsDeviceOrFile};
 ghost use Rattle.recording_engines.specs.declared.importing.ImportCounts.{ImportCounts as Sums};
 ghost use Rattle.run_outcome.specs.Fault.{Accounts, IfRefused, StatusBlames, counts};
 ghost use Rattle.run_outcome.specs.Moments.{WasRead};
 ghost use Rattle.run_outcome.specs.Refusing.{OfRefusal, TellsRefusal};
 ghost use Rattle.run_outcome.specs.Telling.{device_line, memory_line};
-ghost use Rattle.run_outcome.specs.Text.{GivesText};
+ghost use Rattle.run_outcome.specs.Text.{GivesFew, GivesText};
 ghost use Rattle.run_outcome.specs.declared.fault.Fault.{Fault as Wrong};
 ghost use Rattle.st_format.specs.Device.{Failed};
 ghost use Rattle.st_format.specs.History.{IsRead};
@@ -80,6 +82,11 @@ where
     ensures silent { result ≡ 0 → faults.new ≡ faults.old }
     ensures blamed { result ≡ 3 → Failed (F.failures faults.old) (F.failures faults.new)
         ⊎ (F.took faults.new ≡ F.took faults.old ++ device_line) }
+    // Memory is wanted before anything is printed, for a text that isn't too long; and, unless a
+    // file's reader says so, before anything is written.
+    ensures wanted { result ≡ 4 → (output.new ≡ output.old)
+        × GivesFew 65535 (D.gave sdp.old) (D.gave sdp.new)
+        × ((capture.new ≡ capture.old) ⊎ IsDeviceOrFile files.new Fault.Memory) }
     ensures memory { result ≡ 4 → F.took faults.new ≡ F.took faults.old ++ memory_line }
 {
     let outcome = import_all(alloc, wanted, sdp, files, capture, output);
@@ -114,6 +121,9 @@ where
         (WasRead (gave_by S.gave) (ended_by S.ended)) (zip files.old files.new)
         (K.took capture.old) (K.took capture.new))) }
     ensures quiet { IfErr result (λ f. IfRefused f (output.new ≡ output.old)) }
+    ensures memory { IfErr result (λ f. f ≡ Fault.Memory → (output.new ≡ output.old)
+        × GivesFew 65535 (D.gave sdp.old) (D.gave sdp.new)
+        × ((capture.new ≡ capture.old) ⊎ IsDeviceOrFile files.new f)) }
     ensures failures { Accounts result (counts (D.failures sdp.old) (D.failures sdp.new)
         ∷ counts (sum_by (failures_by S.failures) files.old)
         (sum_by (failures_by S.failures) files.new)
@@ -169,6 +179,10 @@ where
     ensures silent { result ≡ 0 → faults.new ≡ faults.old }
     ensures blamed { result ≡ 3 → Failed (F.failures faults.old) (F.failures faults.new)
         ⊎ (F.took faults.new ≡ F.took faults.old ++ device_line) }
+    // Memory is wanted where the words are flows, before anything is read, written or printed.
+    ensures wanted { result ≡ 4 → SayFlows wanted.entry.a.now (option_copied wanted.entry.b)
+        × IsUntouched (S.gave capture.old) (S.gave capture.new) (K.took sink.old) (K.took sink.new)
+        × (output.new ≡ output.old) }
     ensures memory { result ≡ 4 → F.took faults.new ≡ F.took faults.old ++ memory_line }
 {
     let outcome = export(alloc, wanted, capture, sink, output);
@@ -226,6 +240,10 @@ where
     ensures silent { result ≡ 0 → faults.new ≡ faults.old }
     ensures blamed { result ≡ 3 → Failed (F.failures faults.old) (F.failures faults.new)
         ⊎ (F.took faults.new ≡ F.took faults.old ++ device_line) }
+    // Memory is wanted where the words are flows, before anything is printed.
+    ensures wanted { result ≡ 4
+        → SayFlows wanted.entry.flows.a.now (option_copied wanted.entry.flows.b)
+        × (output.new ≡ output.old) }
     ensures memory { result ≡ 4 → F.took faults.new ≡ F.took faults.old ++ memory_line }
 {
     let outcome = export_paced(alloc, wanted, ahead, capture, sink, output);

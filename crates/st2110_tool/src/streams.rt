@@ -196,6 +196,7 @@ where
     ensures silent { result ≡ 0 → faults.new ≡ faults.old }
     ensures blamed { result ≡ 3 → Failed (F.failures faults.old) (F.failures faults.new)
         ⊎ (F.took faults.new ≡ F.took faults.old ++ device_line) }
+    ensures wanted { result ≡ 4 → output.new ≡ output.old }
     ensures memory { result ≡ 4 → F.took faults.new ≡ F.took faults.old ++ memory_line }
 {
     let outcome = send_stream(alloc, wanted, by_sdp, sdp, stream, sink, output);

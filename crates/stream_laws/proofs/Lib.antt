@@ -9,3 +9,4 @@ pub mod PlainByTimes
 pub mod Leaving
 pub mod FollowedText
 pub mod NoFollowRefusals
+pub mod OneFollowRefusal

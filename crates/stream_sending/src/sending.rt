@@ -58,6 +58,8 @@ where
     ensures ended { OnOk result (S.ended stream.new) }
     // A refusal comes before anything is printed.
     ensures quiet { IfErr result (λ f. IfRefused f (output.new ≡ output.old)) }
+    // So memory is wanted.
+    ensures memory { IfErr result (λ f. f ≡ Fault.Memory → output.new ≡ output.old) }
     ensures failures { Accounts result (counts (failures_in S.failures sdp.old)
         (failures_in S.failures sdp.new) ∷ counts (S.failures stream.old)
         (S.failures stream.new) ∷ counts (K.failures sink.old) (K.failures sink.new)

@@ -1,7 +1,7 @@
 use Rattle.std.proofs.Common.{◌≡◌, ℕ, ◌++◌, ◌∙◌, Err, ap, refl, subst, sym, take}
 use Rattle.std.proofs.lemmas.Result.{err_from_is_err_and}
 use Rattle.run_outcome.proofs.Printed.{on_ok}
-use Rattle.run_outcome.proofs.Refusals.{if_none_refused, none_refused}
+use Rattle.run_outcome.proofs.Refusals.{device_alone, if_none_refused, none_refused}
 use Rattle.run_outcome.specs.Fault.{counts}
 use Rattle.packet_plan.specs.Plan.{IsFullPlan}
 use Rattle.path_receiver.specs.Frames.{State}
@@ -125,3 +125,6 @@ returns-clause-failures g c =
 pub returns-clause-quiet : goal.returns-clause-quiet
 returns-clause-quiet g c =
     never_refused _ c.print_passed.result c.print_passed.ensures.unrefused
+
+pub returns-clause-memory : goal.returns-clause-memory
+returns-clause-memory g c = device_alone c.print_passed.result _ c.print_passed.ensures.device

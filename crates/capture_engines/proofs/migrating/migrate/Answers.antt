@@ -4,6 +4,7 @@ use Rattle.run_outcome.specs.Line.{line_text}
 use Rattle.run_outcome.specs.Text.{GivesText}
 use Rattle.run_outcome.specs.declared.line.Line.TheVariants.{Records}
 use Rattle.run_outcome.proofs.Printed.{on_ok}
+use Rattle.run_outcome.proofs.Refusals.{device_alone}
 use Rattle.capture_engines.specs.Migrating.{Passed, PrintsMigrated, passed}
 use Rattle.capture_engines.proofs.Sendings.{on_any}
 use Rattle.capture_engines.proofs.Leaving.{moved_left, printed_left, untouched}
@@ -72,3 +73,6 @@ returns-clause-migrated g c =
 
 pub returns-clause-described : goal.returns-clause-described
 returns-clause-described g c = on_any c.print.result _ c.in_ok-said.ensures.says
+
+pub returns-clause-memory : goal.returns-clause-memory
+returns-clause-memory g c = device_alone c.print.result _ c.print.ensures.device

@@ -6,6 +6,7 @@ use Rattle.run_outcome.proofs.Printed.{on_ok}
 use Rattle.run_outcome.proofs.Refusals.{if_err_map, of_refusal_map}
 use Rattle.capture_engines.proofs.Accounting.{accounts_front}
 use Rattle.capture_engines.proofs.FirstRefused.{of_both}
+use Rattle.capture_engines.proofs.Rescues.{if_err_both}
 use Rattle.capture_engines.proofs.Said.{long_refused, said_part, said_receives}
 use Rattle.capture_engines.proofs.Said.{said_refused}
 use Rattle.capture_engines.proofs.receiving.receive.Goals as goal
@@ -75,5 +76,18 @@ returns-clause-part g c =
 
 pub returns-clause-memory : goal.returns-clause-memory
 returns-clause-memory g c =
-    if_err_map c.receive_files.result (λ f is memory. is memory refl)
-    c.receive_files.ensures.memory
+    if_err_both c.receive_files.result
+    (λ f is says memory. ((is memory refl).0, (is memory refl).1, says memory))
+    c.receive_files.ensures.memory c.receive_files.ensures.wanted
+
+pub returns-in_err-check_words-clause-memory : goal.returns-in_err-check_words-clause-memory
+returns-in_err-check_words-clause-memory g c =
+    let p = err_from_is_err_and c.from_residual.result c.from_residual.ensures.1 in
+    rw (p.1, p.2) (λ memory. (refl, refl, c.in_err-check_words.ensures.memory memory))
+
+pub returns-in_err-said-clause-memory : goal.returns-in_err-said-clause-memory
+returns-in_err-said-clause-memory g c =
+    let p = err_from_is_err_and c.from_residual-in_err-said.result
+    c.from_residual-in_err-said.ensures.1 in
+    let asked = c.in_ok-check_words.ensures in
+    rw (p.1) (λ memory. (refl, refl, (asked.window.0, (asked.window.1, asked.source))))

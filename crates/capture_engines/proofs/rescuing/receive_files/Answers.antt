@@ -199,3 +199,48 @@ returns-in-Part-clause-memory g c =
 
 pub returns-clause-memory : goal.returns-clause-memory
 returns-clause-memory g c = λ memory unsound. (refl, refl)
+
+pub returns-in_err-opening-clause-wanted : goal.returns-in_err-opening-clause-wanted
+returns-in_err-opening-clause-wanted g c =
+    let p = err_from_is_err_and c.from_residual.result c.from_residual.ensures.1 in
+    rw (p.1, p.2) c.in_err-opening.ensures.memory
+
+pub returns-in_err-begun-clause-wanted : goal.returns-in_err-begun-clause-wanted
+returns-in_err-begun-clause-wanted g c =
+    let p = err_from_is_err_and c.from_residual-in_err-begun.result
+    c.from_residual-in_err-begun.ensures.1 in
+    rw (p.1) (λ memory. (
+      c.in_ok-opening.opening.window.items,
+      (c.in_ok-opening.ensures.window, (_, c.in_ok-opening.ensures.source)),
+    ))
+
+pub returns-in_err-intake-clause-wanted : goal.returns-in_err-intake-clause-wanted
+returns-in_err-intake-clause-wanted g c =
+    let p = err_from_is_err_and c.from_residual-in_err-intake.result
+    c.from_residual-in_err-intake.ensures.1 in
+    rw (p.1) (λ memory. (
+      c.in_ok-opening.opening.window.items,
+      (c.in_ok-opening.ensures.window, (_, c.in_ok-opening.ensures.source)),
+    ))
+
+pub returns-in-Whole-clause-wanted : goal.returns-in-Whole-clause-wanted
+returns-in-Whole-clause-wanted g c =
+    if_err_map c.put_out.result (λ f is memory. (
+      c.in_ok-opening.opening.window.items,
+      (c.in_ok-opening.ensures.window, (_, c.in_ok-opening.ensures.source)),
+    ))
+    c.put_out.ensures.device
+
+pub returns-in-Part-clause-wanted : goal.returns-in-Part-clause-wanted
+returns-in-Part-clause-wanted g c =
+    if_err_map c.put_part.result (λ f is memory. (
+      c.in_ok-opening.opening.window.items,
+      (c.in_ok-opening.ensures.window, (_, c.in_ok-opening.ensures.source)),
+    ))
+    c.put_part.ensures.refused
+
+pub returns-clause-wanted : goal.returns-clause-wanted
+returns-clause-wanted g c = λ memory. (
+  c.in_ok-opening.opening.window.items,
+  (c.in_ok-opening.ensures.window, (_, c.in_ok-opening.ensures.source)),
+)

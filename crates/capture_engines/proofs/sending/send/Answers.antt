@@ -1,7 +1,7 @@
 use Rattle.std.proofs.Common.{List, inr, subst, sym, ℕ}
 use Rattle.std.proofs.lemmas.Result.{err_from_is_err_and}
 use Rattle.run_outcome.proofs.Printed.{on_ok}
-use Rattle.run_outcome.proofs.Refusals.{of_refusal_map}
+use Rattle.run_outcome.proofs.Refusals.{device_alone, of_refusal_map}
 use Rattle.run_outcome.proofs.SaidTexts.{text_says}
 use Rattle.run_outcome.specs.TextRefusals.{SaysText}
 use Rattle.capture_engines.proofs.sending.send.Goals as goal
@@ -30,3 +30,6 @@ returns-in_err-sent-clause-refusal g c =
     c.from_residual-in_err-sent.ensures.1 in
     rw (p.1, p.2) (of_refusal_map c.in_err-sent.field-0.0
     (λ r is. inr (c.in_ok-said.ensures.few, says, is)) c.in_err-sent.ensures.refusal)
+
+pub returns-clause-memory : goal.returns-clause-memory
+returns-clause-memory g c = device_alone c.print.result _ c.print.ensures.device

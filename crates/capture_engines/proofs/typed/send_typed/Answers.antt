@@ -2,7 +2,7 @@ use Rattle.std.proofs.Common.{◌∙◌, List, inr, subst, sym, ℕ}
 use Rattle.std.proofs.lemmas.Result.{err_from_is_err_and}
 use Rattle.std.specs.List.{zip}
 use Rattle.run_outcome.specs.Moments.{WasRead}
-use Rattle.run_outcome.proofs.Refusals.{of_refusal_map}
+use Rattle.run_outcome.proofs.Refusals.{device_alone, of_refusal_map}
 use Rattle.run_outcome.proofs.SaidTexts.{text_says}
 use Rattle.capture_engines.specs.Sent.{IsPicturesRefusal}
 use Rattle.run_outcome.proofs.Printed.{on_ok}
@@ -49,3 +49,6 @@ returns-in_err-sent-clause-refusal g c =
           c.in_ok-said.ensures.says,
       subst (λ (n : ℕ). IsPicturesRefusal n told pictures r) c.in_ok-typed.ensures.size is,
     )) c.in_err-sent.ensures.refusal)
+
+pub returns-clause-memory : goal.returns-clause-memory
+returns-clause-memory g c = device_alone c.print.result _ c.print.ensures.device

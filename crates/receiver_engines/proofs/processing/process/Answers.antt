@@ -3,6 +3,7 @@ use Rattle.run_outcome.specs.Moments.{WasRead, pair}
 use Rattle.std.specs.List.{zip}
 use Rattle.run_outcome.proofs.Printed.{on_ok}
 use Rattle.run_outcome.proofs.Printed.{whenever}
+use Rattle.run_outcome.proofs.Refusals.{device_alone}
 use Rattle.receiver_engines.proofs.Parts.{sends_all}
 use Rattle.receiver_engines.specs.Processing.{PrintsSent, SendsFiles}
 use Rattle.receiver_engines.proofs.processing.process.Goals as goal
@@ -32,3 +33,6 @@ pub returns-clause-part : goal.returns-clause-part
 returns-clause-part g c =
     let sends = c.in_ok-sent.ensures.sent.sends in
     whenever c.print.result _ (sends_all [] c.in_ok-sent.ensures.sent.job _ _ _ _ _ _ sends.takes)
+
+pub returns-clause-memory : goal.returns-clause-memory
+returns-clause-memory g c = device_alone c.print.result _ c.print.ensures.device

@@ -3,7 +3,7 @@ use Rattle.std.proofs.lemmas.Result.{err_from_is_err_and}
 use Rattle.run_outcome.specs.Moments.{WasRead, pair}
 use Rattle.std.specs.List.{zip}
 use Rattle.run_outcome.proofs.Printed.{on_ok}
-use Rattle.run_outcome.proofs.Refusals.{of_refusal_map}
+use Rattle.run_outcome.proofs.Refusals.{device_alone, of_refusal_map}
 use Rattle.run_outcome.proofs.SaidTexts.{text_says}
 use Rattle.run_outcome.specs.TextRefusals.{SaysText}
 use Rattle.key_mix.specs.declared.Job.TheVariants.{Key}
@@ -97,3 +97,6 @@ returns-in_err-sent-clause-refusal g c =
         is,
       ),
     )) c.in_err-sent.ensures.refusal)
+
+pub returns-clause-memory : goal.returns-clause-memory
+returns-clause-memory g c = device_alone c.print.result _ c.print.ensures.device

@@ -5,6 +5,7 @@ use Rattle.capture_engines.specs.Sent.{IsSendRefusal}
 use Rattle.run_outcome.specs.Fault.{Failures, counts, failures_in}
 use Rattle.run_outcome.proofs.Ended.{blamed, on_done, on_refused}
 use Rattle.run_outcome.proofs.Refusals.{outcome_told}
+use Rattle.st2110_tool.proofs.Unfinished.{on_memory}
 use Rattle.st2110_tool.proofs.captures.run_send.Goals as goal
 
 pub returns-clause-failures : goal.returns-clause-failures
@@ -42,3 +43,8 @@ pub returns-clause-quiet : goal.returns-clause-quiet
 returns-clause-quiet g c =
     let run = c.send-outcome in
     λ is. on_refused run.result _ (c.end.ensures.refused is) run.ensures.quiet
+
+pub returns-clause-wanted : goal.returns-clause-wanted
+returns-clause-wanted g c =
+    let run = c.send-outcome in
+    λ is. on_memory _ run.result (c.end.ensures.wanted is) run.ensures.memory

@@ -4,7 +4,7 @@ use Rattle.run_outcome.specs.Fault.{Failures, counts}
 use Rattle.run_outcome.proofs.Ended.{blamed, on_done, on_refused}
 use Rattle.run_outcome.proofs.Refusals.{outcome_told}
 use Rattle.st_format.specs.History.{IsRead}
-use Rattle.st2110_tool.proofs.Unfinished.{unfinished}
+use Rattle.st2110_tool.proofs.Unfinished.{on_memory, unfinished}
 use Rattle.st2110_tool.proofs.pictures.run_convert.Goals as goal
 
 pub returns-clause-failures : goal.returns-clause-failures
@@ -43,3 +43,8 @@ pub returns-clause-part : goal.returns-clause-part
 returns-clause-part g c =
     let run = c.convert-outcome in
     λ not. unfinished run.result _ c.end.result c.end.ensures.finished not run.ensures.part
+
+pub returns-clause-wanted : goal.returns-clause-wanted
+returns-clause-wanted g c =
+    let run = c.convert-outcome in
+    λ is. on_memory _ run.result (c.end.ensures.wanted is) run.ensures.memory

@@ -1,14 +1,17 @@
-use Rattle.std.proofs.Common.{List, [], ◌∷◌}
+use Rattle.std.proofs.Common.{◌≡◌, ◌⊎◌, List, [], ◌∷◌}
 use Rattle.std.specs.List.{sum_by, zip}
 use Rattle.run_outcome.specs.Fault.{Failures, counts}
 use Rattle.std.specs.Option.{option_copied}
 use Rattle.recording_engines.specs.Files.{ended_by, failures_by, gave_by}
 use Rattle.recording_engines.specs.Imported.{IsImportRefusal}
+use Rattle.recording_engines.specs.Progress.{IsDeviceOrFile}
 use Rattle.run_outcome.specs.Moments.{WasRead}
-use Rattle.run_outcome.specs.Text.{GivesText}
+use Rattle.run_outcome.specs.declared.fault.Fault.{Fault}
+use Rattle.run_outcome.specs.Text.{GivesFew, GivesText}
 use Rattle.run_outcome.proofs.Ended.{blamed, on_done, on_refused}
 use Rattle.run_outcome.proofs.Refusals.{outcome_told}
 use Rattle.st_format.specs.History.{IsRead}
+use Rattle.st2110_tool.proofs.Unfinished.{on_memory}
 use Rattle.st2110_tool.proofs.recordings.run_import.Goals as goal
 
 pub returns-clause-failures : goal.returns-clause-failures
@@ -49,3 +52,13 @@ returns-clause-told g c =
     (sink.took c.args.capture.now) (sink.took run.new.capture) in
     λ one. outcome_told Is run.result (g.F.ByteSink.took c.args.faults.now)
     (g.F.ByteSink.took c.end.new.faults) (c.end.ensures.told one) run.ensures.refusal
+
+pub returns-clause-wanted : goal.returns-clause-wanted
+returns-clause-wanted g c =
+    let run = c.import_all-outcome in
+    let sdp = g.D.ByteSource in
+    let Holds : Fault → Type 0 =
+    λ f. (run.new.output ≡ c.args.output.now)
+    × GivesFew 65535 (sdp.gave c.args.sdp.now) (sdp.gave run.new.sdp)
+    × ((run.new.capture ≡ c.args.capture.now) ⊎ IsDeviceOrFile run.new.files f) in
+    λ is. on_memory Holds run.result (c.end.ensures.wanted is) run.ensures.memory

@@ -5,6 +5,7 @@ use Rattle.run_outcome.proofs.Ended.{blamed, on_done, on_refused}
 use Rattle.run_outcome.proofs.Refusals.{outcome_told}
 use Rattle.st_format.specs.History.{IsRead}
 use Rattle.stream_sending.specs.Sent.{IsSentStreamRefusal}
+use Rattle.st2110_tool.proofs.Unfinished.{on_memory}
 use Rattle.st2110_tool.proofs.streams.run_send_stream.Goals as goal
 
 pub returns-clause-failures : goal.returns-clause-failures
@@ -47,3 +48,8 @@ returns-clause-told g c =
     (file.ended run.new.stream)) in
     λ one. outcome_told Is run.result (g.F.ByteSink.took c.args.faults.now)
     (g.F.ByteSink.took c.end.new.faults) (c.end.ensures.told one) run.ensures.refusal
+
+pub returns-clause-wanted : goal.returns-clause-wanted
+returns-clause-wanted g c =
+    let run = c.send_stream-outcome in
+    λ is. on_memory _ run.result (c.end.ensures.wanted is) run.ensures.memory

@@ -1,8 +1,8 @@
-use Rattle.std.proofs.Common.{List, inl, inr, subst, sym, ℕ, ◌∙◌}
+use Rattle.std.proofs.Common.{List, inr, subst, sym, ℕ, ◌∙◌}
 use Rattle.std.proofs.lemmas.Result.{err_from_is_err_and}
 use Rattle.st_format.specs.History.{IsRead}
 use Rattle.run_outcome.proofs.Printed.{on_ok}
-use Rattle.run_outcome.proofs.Refusals.{of_refusal_map}
+use Rattle.run_outcome.proofs.Refusals.{device_alone, of_refusal_map}
 use Rattle.run_outcome.proofs.SaidTexts.{text_says}
 use Rattle.run_outcome.specs.TextRefusals.{IsCaptureText, SaysText}
 use Rattle.capture_engines.proofs.Sendings.{on_any}
@@ -53,3 +53,6 @@ returns-in_err-sent-clause-refusal g c =
 
 pub returns-clause-ended : goal.returns-clause-ended
 returns-clause-ended g c = on_any c.print.result _ c.in_ok-sent.ensures.ended
+
+pub returns-clause-memory : goal.returns-clause-memory
+returns-clause-memory g c = device_alone c.print.result _ c.print.ensures.device

@@ -37,3 +37,6 @@ returns-clause-refusal c =
     (rw c.as_mut_slice.ensures.value at c.merge-outcome.ensures.refusal) in
     refused_both _ _ c.merge-outcome.result said
     (rw (sym c.settle.ensures.took) at c.merge-outcome.ensures.quiet)
+
+pub returns-clause-wanted : goal.returns-clause-wanted
+returns-clause-wanted c = rw (sym c.settle.ensures.took) at c.merge-outcome.ensures.memory

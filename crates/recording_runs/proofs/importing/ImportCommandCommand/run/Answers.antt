@@ -14,6 +14,7 @@ use Rattle.run_outcome.specs.Moments.{WasRead}
 use Rattle.run_outcome.specs.Refusing.{OfRefusal}
 use Rattle.run_outcome.specs.Text.{GivesText}
 use Rattle.run_outcome.specs.declared.refusal.Writer.TheVariants.{Import}
+use Rattle.recording_runs.proofs.Left.{wanted_by}
 use Rattle.recording_runs.proofs.importing.ImportCommandCommand.run.Goals as goal
 
 pub returns-clause-done : goal.returns-clause-done
@@ -55,3 +56,14 @@ returns-clause-refusal c =
     (WasRead (gave_by file_gave) (ended_by file_ended)) (zip items ss)
     (file_took c.args.self.now.out) (file_took c.settle.new.self))))) (sym back) settled in
     refused_both _ _ c.import-outcome.result said c.import-outcome.ensures.quiet
+
+pub returns-clause-wanted : goal.returns-clause-wanted
+returns-clause-wanted c =
+    let items = c.args.self.now.files.items in
+    let same = ap length c.as_mut_slice.ensures.value in
+    rw (
+      vec_back c.args.self.now.files.len items c.import-outcome.new.files
+          (sym c.as_mut_slice.ensures.len ∙ same) (c.import-outcome.ensures.len ∙ same),
+      c.settle.ensures.took,
+    )
+    (wanted_by c.import-outcome.result _ c.import-outcome.ensures.memory)
