@@ -258,7 +258,7 @@ cd "$room" || exit 125
 
 # The parts. Each is run by itself, in a folder of its own, which `room` then names.
 parts='text examples trace-forms trace-windows rehearse sdp limits send receive receive-first receive-refusals receive-lost
-    merge wholes report process picture convert forms loop migrate import follow inspect inspect-streams inspect-cut export
+    merge wholes report process picture convert forms loop migrate import packets follow inspect inspect-streams inspect-cut export
     kinds words devices outputs progress verbose faults hostile wrong-bodies launcher install'
 tally=$room/tally
 for part in ${2:-$parts}; do

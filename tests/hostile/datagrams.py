@@ -1,7 +1,7 @@
 """Hostile datagrams: mostly sound, but each field now and then at a bound or beside it, and octets
 turned, cut off, put in and taken out. A receiver takes 64 of them by one script of `trace`, which
 then asks for each cell; and by `receive` of a capture, which counts the refusals and writes the
-receiver's file."""
+receiver's file, also of wide frames."""
 import collections
 import itertools
 import re
@@ -10,11 +10,15 @@ import file_reading
 import receivers
 import sdp_reading
 from draws import big, longs, words
-from formats import TIMESTAMPS, any_format
+from formats import DEPTHS, SAMPLINGS, TIMESTAMPS, Format, any_format
 from programs import Trial
 
 # How many datagrams a receiver is given.
 ROUND = 64
+# How many columns a wide frame has, whose rows are some blocks of 64 pgroups, and some more; and
+# how many of these there are in a round.
+WIDE = 840
+WIDE_ROUNDS = 4
 # How many segments there are, each as often as it stands here: four are refused.
 SEGMENTS = (4, 3, 3, 3, 3, 2, 2, 2, 2, 1, 1, 1, 1, 1, 1, 1)
 
@@ -48,11 +52,12 @@ def segment_header(draws, format, goes_on):
 
 def segments(draws, format):
     """The headers of one to four segments, and their octets: mostly the same ones, so that values
-    agree."""
+    agree, in wide frames over many pgroups."""
     count = draws.pick(SEGMENTS)
     heads = [segment_header(draws, format, place + 1 < count) for place in range(count)]
-    length = min(sum(length for _, length in heads), 4096)
-    data = bytes(draws.one_of(16, 256, 0x5A) for _ in range(length))
+    length = min(sum(length for _, length in heads), 16384)
+    odds = 16 if format.width < WIDE else draws.pick((16, 256, 4096))
+    data = bytes(draws.one_of(odds, 256, 0x5A) for _ in range(length))
     return b"".join(head for head, _ in heads) + data
 
 
@@ -150,8 +155,23 @@ def receive_trial(opening, window, datagrams):
     files = {"capture": capture_of(opening, datagrams)}
     state = receivers.state_of(receiver)
     trial = Trial(command + ["capture"], b"", 0, state, told, collections.Counter(), files)
-    trial.view = lambda answer: answer._replace(faults=re.sub(rb"(?m)^  .*\n", b"", answer.faults))
+    trial.view = without_losses
     return trial
+
+
+def wide_trial(draws):
+    """Datagrams of wide rows, given to `receive`."""
+    format = Format(draws.pick(SAMPLINGS), draws.pick(DEPTHS), WIDE, 2, (60, 1))
+    opening, odds = receivers.Opening(format, draws.below(128), None), draws.odds
+    draws.odds = 64
+    datagrams = make_datagrams(draws, opening, (900,), draws.below(24) + 1)
+    draws.odds = odds
+    return receive_trial(opening, (900,), datagrams)
+
+
+def without_losses(answer):
+    """An answer without what `receive` adds of lost and refused datagrams."""
+    return answer._replace(faults=re.sub(rb"(?m)^  .*\n", b"", answer.faults))
 
 
 def shorten(lines, wanted, output):
@@ -170,3 +190,5 @@ def trials(draws, count):
         datagrams = make_datagrams(draws, opening, window, min(left, ROUND))
         yield trace_trial(opening, window, datagrams)
         yield receive_trial(opening, window, datagrams)
+        for _ in range(WIDE_ROUNDS):
+            yield wide_trial(draws)

@@ -5,7 +5,7 @@ import collections
 
 import formats
 import receivers
-from draws import big, words
+from draws import big, longs, words
 
 Record = collections.namedtuple("Record", "path moment octets")
 
@@ -56,6 +56,12 @@ def read_block(octets):
     format = formats.Format(formats.SAMPLINGS[sampling], depth, width, height, rate)
     refuse(formats.fault_of(format) or not formats.is_lowest(*rate), "6 BadField")
     return format
+
+
+def block_octets(format):
+    """The block of a format."""
+    octets = bytes((formats.SAMPLINGS.index(format.sampling), format.depth))
+    return octets + words(format.width, format.height) + longs(*format.rate)
 
 
 def read_front(octets, versions):

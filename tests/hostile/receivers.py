@@ -205,12 +205,18 @@ def pgroup_state(cells, depth):
     return (b"\2" + mask.to_bytes(2, "big") if mask else b"\1") + octets
 
 
-def state_of(receiver):
-    """The file of a receiver (docs/FORMATS.md, "A receiver's file")."""
-    format, payload_type, ssrc = receiver.opening
+def state_front(opening, count):
+    """The front of a receiver's file of so many timestamps."""
+    format, payload_type, ssrc = opening
     block = SAMPLINGS.index(format.sampling), format.depth, format.width, format.height
     octets = b"S20RCV01" + struct.pack(">BBHHII", *block, *format.rate)
-    octets += struct.pack(">BBIB", payload_type, ssrc is not None, ssrc or 0, len(receiver.frames))
+    return octets + struct.pack(">BBIB", payload_type, ssrc is not None, ssrc or 0, count)
+
+
+def state_of(receiver):
+    """The file of a receiver (docs/FORMATS.md, "A receiver's file")."""
+    format = receiver.opening.format
+    octets = state_front(receiver.opening, len(receiver.frames))
     size = format.pgroup[2]
     for timestamp, cells in receiver.frames.items():
         octets += struct.pack(">I", timestamp)

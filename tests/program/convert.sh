@@ -173,3 +173,77 @@ run convert c.pic no-folder/no.pic
 says 'convert: no folder' 3 '' 'st2110: device'
 run convert c.pic /dev/full
 says 'convert: a full file' 3 '' 'st2110: device'
+
+# Heads of pixmaps of each depth: white space and comments say nothing, and stand in a number too. What is read so is written
+# with the plain head. Samples are 1 to 12, with an octet above them where there are two. Rows HIGH|HEAD|OTHER HEAD.
+while IFS='|' read -r high head other; do
+    samples=
+    for sample in 01 02 03 04 05 06 07 08 09 0A 0B 0C; do samples="$samples $high$sample"; done
+    form want.ppm "$head" "$samples"
+    form other.ppm "$other" "$samples"
+    converts "a pixmap of $head" again.ppm want.ppm want.ppm again.ppm
+    converts "a pixmap of $other" again.ppm want.ppm other.ppm again.ppm
+done <<'END'
+|P6\n4 1\n255\n|P6 4 1 255 
+02|P6\n4 1\n1023\n|P6\n# by hand\n4\t1\n1023\n
+0E|P6\n4 1\n4095\n|P6#a comment\r\n 4 \n\n 1 #one\n#two\n 4095\n
+FF|P6\n4 1\n65535\n|P6\n0000004 01\n65#in a number\r535#behind it\n\t
+END
+# Faults of pixmaps and of streams, the first of each: FAULT|FORM|HEAD|DIGITS.
+while IFS='|' read -r fault kind head digits; do
+    form bad.dat "$head" "$digits"
+    run convert --from "$kind" bad.dat no.pic
+    says "convert $kind: $head" 1 '' "st2110: form $fault"
+done <<'END'
+7 Truncated|ppm|P|
+3 BadMagic|ppm|P5 4 1 255 |
+4 BadHeader|ppm|P64 1 255 |
+4 BadHeader|ppm|P6#\n4 1 255 |
+4 BadHeader|ppm|P6\0134 1 255 |
+7 Truncated|ppm|P6 4 1 #255 |
+4 BadHeader|ppm|P6 4x1 255 |
+4 BadHeader|ppm|P6 123456 1 255 |
+7 Truncated|ppm|P6 4 1 255|
+5 UnsupportedForm|ppm|P6 4 1 254 |
+6 BadFormat|ppm|P6 3 1 255 |
+8 ValueTooLarge|ppm|P6 4 1 1023 |03FF04000000000000000000000000000000000000000000
+7 Truncated|y4m|YUV4MPEG|
+3 BadMagic|y4m|YUV4MPEG3 W4|
+7 Truncated|y4m|YUV4MPEG2 W4 H1 F25:1 C422|
+4 BadHeader|y4m|YUV4MPEG2 H1 F25:1 C422\n|
+4 BadHeader|y4m|YUV4MPEG2 W4 H1 F25 C422\n|
+5 UnsupportedForm|y4m|YUV4MPEG2 W4 H1 F25:1 It C422\n|
+5 UnsupportedForm|y4m|YUV4MPEG2 W4 H1 F25:1 Ip A1:1\n|
+5 UnsupportedForm|y4m|YUV4MPEG2 W4 H1 F25:1 C420jpeg\n|
+6 BadFormat|y4m|YUV4MPEG2 W4 H1 F0:0 C422\n|
+7 Truncated|y4m|YUV4MPEG2 W4 H1 F25:1 C422\nFRAM|
+4 BadHeader|y4m|YUV4MPEG2 W4 H1 F25:1 C422\nFRAMES|
+8 ValueTooLarge|y4m|YUV4MPEG2 W2 H1 F25:1 C422p10\nFRAME\n|FF03000400000000
+END
+# Files cut at each octet, of which nothing is written; so of a receiver's file and of a picture that is held.
+# cut_at_each NAME FILE WORDS..: whether each part of a file is refused, as the file cut.dat.
+cut_at_each() {
+    name=$1
+    whole_file=$2
+    shift 2
+    size=$(wc -c <"$whole_file")
+    length=0
+    wrong=
+    while [ "$length" -lt "$size" ]; do
+        head -c "$length" "$whole_file" >cut.dat
+        run "$@"
+        [ "$status" = 1 ] || wrong="$wrong $length: status $status;"
+        length=$((length + 1))
+    done
+    if [ -z "$wrong" ] && [ ! -e no.pic ]; then
+        pass "convert: cut at each octet: $name"
+    else
+        fail "convert: cut at each octet: $name" "$wrong"
+    fi
+}
+form want.ppm 'P6\n4 1\n255\n' '010203 040506 070809 0A0B0C'
+cut_at_each 'a picture' c.pic convert --from picture cut.dat no.pic
+cut_at_each 'a stream' c.y4m convert --from y4m cut.dat no.pic
+cut_at_each 'a pixmap' want.ppm convert --from ppm cut.dat no.pic
+cut_at_each "a receiver's file" g.rcv picture --ts 900 --out no.pic cut.dat
+cut_at_each 'a picture that is held' p.pic picture --ts 900 --hold cut.dat --out no.pic g.rcv

@@ -151,3 +151,44 @@ alike 'export --paced: the input stays' same.cap paced.cap
 run export --a 239.1.1.1:5004 --out no-export.pcap "$recordings/two-cards.pcapng"
 says 'export: no capture' 1 '' 'st2110: capture 3 BadName'
 none 'export: nothing is written after a refusal' no-export.pcap
+
+# Records by hand, and the moment of each: 1700000000.123456789 seconds over IPv4, and seven nanoseconds over IPv6 to a group on
+# the sender's link. The checksums of IPv4 and UDP are sums of RFC 1071: of IPv6 those of 2001, db8, 1; ff02, 1, 203, 405; b, 11;
+# 138c, 138c, b; 6162 and 6300, which is 21e66, that of ones' complements 1e68, and what is sent e197.
+octets "5332304341503032 0000 00 17979CFE3D85CD15 0003 616263" >abc.cap
+run export --a 192.0.2.2:5006 --out abc.pcap abc.cap
+says 'export: a record of IPv4' 0 'exported 1 left out 0' ''
+holds 'export: a record of IPv4: the file' abc.pcap 'A1B23C4D 0002 0004 00000000 00000000 00040000 00000001
+    6553F100 075BCD15 0000002D 0000002D 000000000000 000000000000 0800
+    4500001F 00004000 4011B6CA C0000201 C0000202 138E138E 000B9055 616263'
+octets "5332304341503032 0000 00 0000000000000007 0003 616263" >abc.cap
+run export --a '[ff02::1:203:405]:5004' --out abc.pcap abc.cap
+says 'export: a record of IPv6' 0 'exported 1 left out 0' ''
+holds 'export: a record of IPv6: the file' abc.pcap 'A1B23C4D 0002 0004 00000000 00000000 00040000 00000001
+    00000000 00000007 00000041 00000041 333302030405 000000000000 86DD
+    60000000 000B1140 20010DB8000000000000000000000001 FF020000000000000000000102030405 138C138C 000BE197 616263'
+# Two paths, of which A's record has two octets at 1.000000001 seconds, and B's none: a packet of 58 octets behind A's of 60.
+octets '5332304341503032 0000 00 000000003B9ACA01 0002 0102 01 0000000000000000 0000' >two.cap
+first_packet='A1B23C4D 0002 0004 00000000 00000000 00040000 00000001
+    00000001 00000001 0000002C 0000002C 01005E010101 000000000000 0800
+    4500001E 00004000 401188CB C0000201 EF010101 138C138C 000A25BC 0102'
+run export --a 239.1.1.1:5004 --out two.pcap two.cap
+says 'export: a record by hand' 0 'exported 1 left out 1' ''
+holds 'export: a record by hand: the file' two.pcap "$first_packet"
+run export --a 239.1.1.1:5004 --b 239.1.1.2:5004 --out two.pcap two.cap
+says 'export: two records by hand' 0 'exported 2 left out 0' ''
+[ "$(wc -c <two.pcap)" = $((24 + 60 + 58)) ] || fail 'export: two records by hand' "$(wc -c <two.pcap) octets"
+head -c 84 two.pcap >front.pcap
+holds 'export: two records by hand: the first' front.pcap "$first_packet"
+# The Ethernet address that a frame is for, by the address of IPv4 (RFC 1112, 6.4).
+while read -r address ethernet; do
+    run export --a "$address:5004" --out to.pcap two.cap
+    tail -c +41 to.pcap | head -c 6 >to.address
+    holds "export: the frame to $address" to.address "$ethernet"
+done <<'END'
+239.129.2.3 01005E010203
+224.127.255.254 01005E7FFFFE
+223.1.2.3 000000000000
+240.1.2.3 000000000000
+192.0.2.2 000000000000
+END

@@ -405,6 +405,37 @@ head -c "$one_picture" sent.y4m >want.y4m
 alike 'follow: pictures as they come, the first' first.y4m want.y4m
 tail -c +$((one_picture + 1)) sent.y4m >want.y4m
 alike 'follow: pictures as they come, the others' rest.y4m want.y4m
+# Nor does one wait that is whole behind one that isn't: where packet 3, of the first picture, comes behind all of the second,
+# both go then, and what comes next is written only when both were read.
+record() {
+    tail -c +$((front + 35 * $1 + 1)) sent-a.cap | head -c 35
+}
+two_pictures=$((2 * one_picture - stream_head))
+mkfifo go
+{
+    head -c "$front" sent-a.cap
+    for k in 0 1 2 4 5 6 7 3; do record $k; done
+    read -r _ <go
+    for k in 8 9 10 11; do record $k; done
+} | {
+    "$program" follow --eager --out - - 2>err
+    echo $? >status
+} | {
+    timeout 20 head -c "$two_pictures" >first.y4m
+    echo >go
+    cat >rest.y4m
+}
+rm go
+: >out
+status=$(cat status)
+says 'follow: two pictures at once' 0 '' 'frame 900 present 16 missing 0 contested 0 late 0
+frame 2400 present 16 missing 0 contested 0 late 0
+frame 3900 present 16 missing 0 contested 0 late 0
+frames 3 kept 12 late 0 far 0 refused 0'
+head -c "$two_pictures" sent.y4m >want.y4m
+alike 'follow: two pictures at once, before a pause' first.y4m want.y4m
+tail -c +$((two_pictures + 1)) sent.y4m >want.y4m
+alike 'follow: two pictures at once, behind it' rest.y4m want.y4m
 # Each picture as a file of its own is the one that was sent; and so of forty, each three times the same.
 mkdir filed
 follows 'what was sent, as files' "$frames" --pictures filed lossy-a.cap lossy-b.cap
@@ -440,3 +471,302 @@ if cmp -s followed.y4m sent.y4m; then
 else
     pass 'follow: what was sent, by A alone, the file'
 fi
+
+# Rows of F1's pictures by hand. rows PATH ROW..: the records of rows, each TIMESTAMP.ROW.VALUE in decimal digits, whose packets
+# are numbered from 1 on; other PATH DIGITS..: those of datagrams by their digits.
+rows() {
+    by=$1
+    number=0
+    shift
+    for row; do
+        number=$((number + 1))
+        value=$(printf '%02X' "${row##*.}")
+        row=${row%.*}
+        printf '%s 0000000000000000 001C 8060%04X %08X 00000001 0000 0008 %04X 0000 ' "$by" $number "${row%.*}" "${row#*.}"
+        printf '%s%s%s%s%s%s%s%s ' "$value" "$value" "$value" "$value" "$value" "$value" "$value" "$value"
+    done
+}
+other() {
+    by=$1
+    shift
+    for digits; do
+        printf '%s 0000000000000000 %04X %s ' "$by" $((${#digits} / 2)) "$digits"
+    done
+}
+# told NAME WORDS ROWS_A ROWS_B OUTPUT: whether follow tells this of a capture of rows by A, which has the text, and one by B.
+told() {
+    name=$1
+    words=$2
+    # shellcheck disable=SC2086
+    octets "5332304341503032 $q_length $q_digits $(rows 00 $3)" >first.cap
+    # shellcheck disable=SC2086
+    octets "5332304341503032 0000 $(rows 01 $4)" >second.cap
+    output=$5
+    # shellcheck disable=SC2086
+    follows "by hand: $name" "$output" $words first.cap second.cap
+}
+# Timestamps go round behind the first. A lost a row of the first picture and all of the third, B the other row of the first,
+# one of the second, and one of the last; one of the third never came. Side by side one frame at a time is enough.
+by_a='4294966296.0.16 500.0.16 500.1.16 3500.0.16 3500.1.16'
+by_b='4294966296.1.16 500.0.16 2000.0.16 3500.1.16'
+told 'two paths' '--window 1' "$by_a" "$by_b" 'frame 4294966296 present 16 missing 0 contested 0 late 0
+frame 500 present 16 missing 0 contested 0 late 0
+frame 2000 present 8 missing 8 contested 0 late 0
+frame 3500 present 16 missing 0 contested 0 late 0
+frames 4 kept 9 late 0 far 0 refused 0'
+told 'paths that differ' '' '900.0.16 900.1.16' '900.0.17 900.1.16' 'frame 900 present 8 missing 0 contested 8 late 0
+frames 1 kept 4 late 0 far 0 refused 0'
+# Upper rows, and behind three of them their lower rows: three frames hold them, of two the first leaves when the third comes,
+# and of one each when the next comes.
+behind='900.0.16 2400.0.16 3900.0.16 900.1.16 2400.1.16 3900.1.16'
+told 'three frames' '--window 3' "$behind" '' 'frame 900 present 16 missing 0 contested 0 late 0
+frame 2400 present 16 missing 0 contested 0 late 0
+frame 3900 present 16 missing 0 contested 0 late 0
+frames 3 kept 6 late 0 far 0 refused 0'
+told 'one late' '--window 2' "$behind" '' 'frame 900 present 8 missing 8 contested 0 late 0
+frame 2400 present 16 missing 0 contested 0 late 1
+frame 3900 present 16 missing 0 contested 0 late 0
+frames 3 kept 5 late 1 far 0 refused 0
+late wants window 3'
+told 'two late' '--window 1' "$behind" '' 'frame 900 present 8 missing 8 contested 0 late 0
+frame 2400 present 8 missing 8 contested 0 late 0
+frame 3900 present 16 missing 0 contested 0 late 2
+frames 3 kept 4 late 2 far 0 refused 0
+late wants window 3'
+# A frame leaves once it is whole: what the other path has of it comes late, and no window would hold it. Then a second picture
+# and a third that are whole before the first is: all leave in the turn in which the first becomes so, and rows of any that come
+# again are late. And a whole picture behind one that is due leaves with it.
+told early --eager '900.0.16 900.1.16 2400.0.16 2400.1.16' '900.0.16 2400.1.16' \
+    'frame 900 present 16 missing 0 contested 0 late 0
+frame 2400 present 16 missing 0 contested 0 late 1
+frames 2 kept 4 late 2 far 0 refused 0'
+told 'early together' --eager \
+    '900.0.16 2400.0.16 2400.1.16 3900.1.16 3900.0.16 900.1.16 3900.0.17 900.0.16 5400.0.16' '' \
+    'frame 900 present 16 missing 0 contested 0 late 0
+frame 2400 present 16 missing 0 contested 0 late 0
+frame 3900 present 16 missing 0 contested 0 late 0
+frame 5400 present 8 missing 8 contested 0 late 2
+frames 4 kept 7 late 2 far 0 refused 0'
+told 'early behind' '--eager --window 2' '900.0.16 2400.0.16 2400.1.16 3900.0.16 2400.0.17 3900.1.16' '' \
+    'frame 900 present 8 missing 8 contested 0 late 0
+frame 2400 present 16 missing 0 contested 0 late 0
+frame 3900 present 16 missing 0 contested 0 late 1
+frames 3 kept 5 late 1 far 0 refused 0'
+# Just ten seconds ahead, and one tick more.
+told strays '--window 2' '900.0.16 900901.0.16 900.1.16 900900.0.16' '' 'frame 900 present 16 missing 0 contested 0 late 0
+frame 900900 present 8 missing 8 contested 0 late 0
+frames 2 kept 3 late 0 far 1 refused 0'
+# A sender that begins anew far ahead: what is too far ahead is lost until it lasts for more than ten seconds. And far behind.
+told 'anew ahead' '' '900.0.16 2000000.0.16 2900000.0.16 2900001.0.16 2900001.1.16 900.1.16' '' \
+    'frame 900 present 8 missing 8 contested 0 late 0
+anew 2900001
+frame 900 present 8 missing 8 contested 0 late 0
+frame 2900001 present 8 missing 8 contested 0 late 0
+frames 3 kept 3 late 0 far 3 refused 0'
+told 'anew behind' '--window 1' '2000000.0.16 100000.0.16 1000001.0.16 1000001.1.16' '' \
+    'frame 2000000 present 8 missing 8 contested 0 late 2
+anew 1000001
+frame 1000001 present 8 missing 8 contested 0 late 0
+frames 2 kept 2 late 2 far 0 refused 0
+late wants window 2'
+told nothing --eager '' '' 'frames 0 kept 0 late 0 far 0 refused 0'
+# Upper rows of 17 pictures, and the lower one of the first: no window holds them. All but as many as the window has have left.
+seventeen=
+stamp=1000
+while [ $stamp -le 25000 ]; do
+    seventeen="$seventeen $stamp.0.16"
+    stamp=$((stamp + 1500))
+done
+for window in 16 5 1; do
+    lines=
+    stamp=1000
+    while [ $stamp -le 25000 ]; do
+        late=0
+        [ $stamp != $((1000 + 1500 * (17 - window))) ] || late=1
+        lines="${lines}frame $stamp present 8 missing 8 contested 0 late $late
+"
+        stamp=$((stamp + 1500))
+    done
+    told "more than sixteen, window $window" "--window $window" "$seventeen 1000.1.16" '' "${lines}frames 17 kept 17 late 1 far 0 refused 0
+late wants more than window 16"
+done
+# What is of no stream, between the upper rows of two pictures: a sender's report (RFC 3550, 6.4.1) up to its RTP timestamp, which
+# read as RTP has payload type 72 and for its timestamp 2^31 - 1; payload type 97 and source 2, 20,000 seconds later; and nothing.
+# It steers nothing: both pictures are whole with one frame in at a time. Where any source is taken, source 2 is of the stream: A
+# comes to it behind all of B, it is too far ahead, and the upper row of the second picture comes last.
+far_row='6B49D584 00000001 0000 0008 0000 0000 1010101010101010'
+octets "5332304341503032 0000 $(rows 00 900.0.16)
+    $(other 00 80C800067FFFFFFF000000010000000200000003 "$(printf '80610001%s' "$far_row" | tr -d ' ')" \
+        "$(printf '80600001%s' "$far_row" | sed 's/00000001/00000002/' | tr -d ' ')" '') $(rows 00 2400.0.16)" >others-a.cap
+octets "5332304341503032 0000 $(rows 01 900.1.16 2400.1.16)" >others-b.cap
+both='frame 900 present 16 missing 0 contested 0 late 0
+frame 2400 present 16 missing 0 contested 0 late 0'
+follows 'what is of no stream' "$both
+frames 2 kept 4 late 0 far 0 refused 4" --sdp q.sdp --window 1 --ssrc 1 others-a.cap others-b.cap
+follows 'what is of no stream, any source' "$both
+frames 2 kept 4 late 0 far 1 refused 3" --sdp q.sdp --window 1 others-a.cap others-b.cap
+# A recording of both paths, with a packet of TCP in it, and a capture, in either order; the text is given, or the capture's.
+packet_head='0000000000000005 00000038 00000038 45000038 00004000 40110000 C0000201 C0000202 138C'
+octets "A1B2C3D4 0002 0004 00000000 00000000 00040000 00000065
+    $packet_head 138C 0024 0000 8060 0001 00000384 00000001 0000 0008 0000 0000 1010101010101010
+    $packet_head 138E 0024 0000 8060 0002 00000384 00000001 0000 0008 0001 0000 1010101010101010
+    0000000000000005 00000014 00000014 45000014 00004000 40060000 C0000201 C0000202
+    $packet_head 138E 0024 0000 8060 0003 00000960 00000001 0000 0008 0000 0000 1010101010101010" >both.pcap
+octets "5332304341503032 $q_length $q_digits $(rows 00 2400.1.16 3900.1.16)" >beside.cap
+beside="$both
+frame 3900 present 8 missing 8 contested 0 late 0
+frames 3 kept 5 late 0 far 0 refused 0"
+follows 'a recording beside a capture' "$beside" --sdp q.sdp --a 5004 --b 5006 --window 1 both.pcap beside.cap
+follows 'a recording behind a capture' "$beside" --a 5004 --b 5006 --window 1 beside.cap both.pcap
+# Three files: the oldest first, of one timestamp those of the first file, each file in its own order, though its last row is
+# older than the one before. With one frame in, the row of 500 that A has behind that of 2000 is late.
+octets "5332304341503032 $q_length $q_digits $(rows 00 4294966296.0.16 4294966296.1.16 2000.0.16 500.0.16)" >first.cap
+octets "5332304341503032 0000 $(rows 01 4294966296.1.17 500.1.16 2000.1.16)" >second.cap
+octets "5332304341503032 0000 $(rows 00 500.1.16 3500.0.16)" >third.cap
+three='frame 4294966296 present 8 missing 0 contested 8 late 0
+frame 500 present 8 missing 8 contested 0 late 0'
+follows 'three files' "$three
+frame 2000 present 16 missing 0 contested 0 late 1
+frame 3500 present 8 missing 8 contested 0 late 0
+frames 4 kept 8 late 1 far 0 refused 0
+late wants window 2" --window 1 first.cap second.cap third.cap
+# The last one cut within its second record: that is wanted once its first went, as the row of 2000 comes.
+head -c -1 third.cap >cut.cap
+run follow --window 1 first.cap second.cap cut.cap
+says 'follow: by hand: three files, of which one is cut' 1 'frame 4294966296 present 8 missing 0 contested 8 late 0' \
+    'st2110: capture 5 Truncated'
+# A record that is cut ends a run behind what was told before it, wherever its file stands.
+octets "5332304341503032 $q_length $q_digits $(rows 00 900.0.16 900.1.16 2400.0.16 2400.1.16)" >whole.cap
+octets "5332304341503032 $q_length $q_digits $(rows 01 900.0.16 2400.0.16 2400.1.16)" | head -c -1 >part.cap
+for order in 'whole.cap part.cap' 'part.cap whole.cap'; do
+    # shellcheck disable=SC2086
+    run follow --window 1 $order
+    says "follow: by hand: cut behind what was told: $order" 1 'frame 900 present 16 missing 0 contested 0 late 0' \
+        'st2110: capture 5 Truncated'
+done
+# Refusals of files in their order: of what stands before the records, file by file; then the first file's text; then the
+# records. Each file has all faults of those behind it, as far as they can be in one.
+sound_digits=$(printf 'm=audio 5004 RTP/AVP 97\n' | od -An -v -tx1 | tr -d ' \n')
+octets '5332304341513032 0000' >nameless.cap
+octets '53323043' >short.cap
+octets '5332304341503033' >version.cap
+octets '5332304341503032 0000' >silent.cap
+octets '5332304341503032 0000 02 0000000000000000 0000' >pathless.cap
+octets "5332304341503032 0018 $sound_digits 02 0000000000000000 0000" >sound.cap
+octets "$sound_digits" >sound.sdp
+octets 'A1B2C3D4 0002' >cut.pcap
+while IFS='|' read -r fault words; do
+    # shellcheck disable=SC2086
+    refuses_follow "by hand: $words" "$fault" $words
+done <<'FAULTS'
+sdp 2 NoVideo|--sdp sound.sdp nameless.cap nameless.cap
+capture 3 BadName|nameless.cap short.cap
+capture 5 Truncated|short.cap nameless.cap
+capture 4 BadVersion|pathless.cap version.cap
+recording 2 Truncated|--a 5004 --sdp q.sdp sound.cap cut.pcap
+receive 4 NoSdp|pathless.cap pathless.cap
+sdp 2 NoVideo|sound.cap pathless.cap
+capture 6 BadField|--sdp q.sdp sound.cap silent.cap
+capture 6 BadField|--sdp q.sdp silent.cap pathless.cap
+receive 4 NoSdp|--ssrc 1 silent.cap silent.cap
+receive 4 NoSdp|--a 5004 both.pcap sound.cap
+FAULTS
+
+# An hour's stream by proxy: 100,000 small pictures by two lossy paths, across the wraps of timestamps, packet numbers and
+# extended numbers; no row is lost by both. It wants python3, as the kit's rt does. Each picture leaves whole and in order: of a
+# file by each path with one frame in, and of one file in which B comes two pictures behind A with three. The memory in which
+# four pictures are followed is enough.
+cat >hour.py <<'END_OF_HOUR'
+import pathlib
+import struct
+
+TEXT = pathlib.Path("q.sdp").read_bytes()
+FRONT = b"S20CAP02" + struct.pack(">H", len(TEXT)) + TEXT
+PICTURES, SKEW = 100000, 2
+
+
+def stamp(place):
+    """1,500 ticks for each picture, from a minute before the wrap on."""
+    return (4289567296 + 1500 * place) % 2**32
+
+
+def value(place, row):
+    """The value of each octet of a row: 16 to 235."""
+    return 16 + (place + 7 * row) % 220
+
+
+def is_lost(path, place, row):
+    """A loses every fifth picture and half of every third, of which B loses the other half."""
+    if path == 0:
+        return place % 5 == 1 or (place % 3 == 0 and row == 0)
+    return place % 5 != 1 and place % 3 == 0 and row == 1
+
+
+def record(path, place, row):
+    """Numbers go round behind a thousand pictures, and their low half every 32,768 pictures."""
+    number = (4294965296 + 2 * place + row) % 2**32
+    head = struct.pack(">BQHHHII", path, 0, 28, 0x8060, number % 65536, stamp(place), 1)
+    return head + struct.pack(">HHHH", number >> 16, 8, row, 0) + bytes([value(place, row)]) * 8
+
+
+def records(path, place, count):
+    if not 0 <= place < count:
+        return []
+    return [record(path, place, row) for row in (0, 1) if not is_lost(path, place, row)]
+
+
+def write(name, count):
+    """The captures of so many pictures, and what is told and made of them."""
+    sides = [[it for place in range(count) for it in records(path, place, count)] for path in (0, 1)]
+    skewed = [
+        it for place in range(count + SKEW)
+        for it in records(0, place, count) + records(1, place - SKEW, count)
+    ]
+    for path, side in zip("ab", sides):
+        pathlib.Path(f"{name}-{path}.cap").write_bytes(FRONT + b"".join(side))
+    pathlib.Path(f"{name}-skewed.cap").write_bytes(FRONT + b"".join(skewed))
+    lines = [f"frame {stamp(place)} present 16 missing 0 contested 0 late 0" for place in range(count)]
+    lines.append(f"frames {count} kept {len(skewed)} late 0 far 0 refused 0")
+    pathlib.Path(f"{name}.told").write_text("".join(line + "\n" for line in lines))
+    pictures = [b"YUV4MPEG2 W4 H2 F60:1 Ip A1:1 C422\n"]
+    for place in range(count):
+        upper, lower = bytes([value(place, 0)]), bytes([value(place, 1)])
+        pictures.append(b"FRAME\n" + upper * 4 + lower * 4 + (upper * 2 + lower * 2) * 2)
+    pathlib.Path(f"{name}.y4m").write_bytes(b"".join(pictures))
+
+
+write("hour", PICTURES)
+write("four", 4)
+END_OF_HOUR
+if command -v python3 >python3.path && python3 hour.py 2>hour.err; then
+    for words in '--window 1 %-a.cap %-b.cap' '--window 3 %-skewed.cap'; do
+        limit=1000
+        status=9
+        while [ "$status" != 0 ] && [ "$limit" -lt 32000 ]; do
+            limit=$((limit + 64))
+            turn "$words" % four
+            # shellcheck disable=SC2086
+            status=$( (ulimit -v "$limit"; "$program" follow --out pictures.y4m $turned >out 2>err </dev/null; echo $?) 2>/dev/null)
+        done
+        alike "follow: four pictures: $words" out four.told
+        turn "$words" % hour
+        # shellcheck disable=SC2086
+        (ulimit -v $((limit + 128)); exec "$program" follow --out pictures.y4m $turned >out 2>err </dev/null)
+        status=$?
+        if [ "$status" = 0 ]; then
+            pass "follow: an hour: $words: in $limit KiB"
+        else
+            fail "follow: an hour: $words: in $limit KiB" "status $status: $(head -c 200 err)"
+        fi
+        cmp -s out hour.told || fail "follow: an hour: $words" "$(diff out hour.told | head -n 4)"
+        cmp -s pictures.y4m hour.y4m || fail "follow: an hour: $words: the pictures" "$(cmp pictures.y4m hour.y4m 2>&1)"
+        rm -f pictures.y4m
+    done
+else
+    fail 'follow: an hour' "python3: $(cat hour.err 2>&1)"
+fi
+rm -f hour-a.cap hour-b.cap hour-skewed.cap hour.told hour.y4m
+# The folder of pictures is a file.
+: >plain
+run follow --sdp "$recordings/late.sdp" --pictures plain "$recordings/late-a.pcap"
+says 'follow: pictures into a file' 3 '' 'st2110: device'

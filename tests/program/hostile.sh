@@ -18,7 +18,7 @@ told() {
         is_told
     ' hostile.said
 }
-for kind in datagrams files texts scripts pcap pcapng; do
+for kind in datagrams files texts scripts pcap pcapng jobs sends reports cuts lines engines streams states; do
     if grep -q -x "$kind: [0-9]* answered alike" hostile.said; then
         pass "hostile $kind"
     else

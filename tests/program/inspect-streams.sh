@@ -245,3 +245,160 @@ run inspect --sdp "$cards.sdp" "$cards.sdp"
 says 'inspect a stream: no capture' 1 '' 'st2110: capture 3 BadName'
 run inspect --sdp "$cards.sdp" "$recordings/loopback.pcap.gz"
 says 'inspect a stream: packed' 1 '' 'st2110: capture 3 BadName'
+
+# By hand: packets of a stream, each PATH MOMENT NUMBER TIMESTAMP MARKER, whose octets are 0, of source 7; with the high half of
+# the number in the payload header, or 0 where HIGH is 0.
+packets() {
+    high=$1
+    shift
+    while [ $# -gt 0 ]; do
+        kind=$((32864 + 128 * $5))
+        printf '%s %016X 001C %04X%04X %08X 00000007 %04X 0008 0000 0000 0000000000000000 ' \
+            "$1" "$2" $kind $(($3 % 65536)) "$4" $((high * ($3 / 65536)))
+        shift 5
+    done
+}
+# Three timestamps. By A 65535 and 65538 don't come, and 65536 comes twice; by B 65536 doesn't, and 65537 comes behind 65538.
+# Behind them a datagram of payload type 97, one of RTCP and one of five octets. It is told the same whether or not the sender
+# says the high halves of its packet numbers.
+sent='00 1000 65534 900 0 01 1500 65534 900 0 01 1600 65535 900 0 00 1700 65536 900 0 00 1800 65536 900 0
+    01 1900 65538 2400 0 00 2000 65537 900 1 01 2050 65537 900 1 01 3000 65539 3900 0 00 3400 65539 3900 0'
+others='00 0000000000000FA0 001C 80610005 00000030 00000007 0000 0008 0000 0000 0000000000000000
+    00 0000000000001004 0004 80C80000 01 0000000000001068 0005 0102030405'
+for high in 1 0; do
+    # shellcheck disable=SC2086
+    octets "5332304341503032 $q_length $q_digits $(packets $high $sent) $others" >hand.cap
+    run inspect hand.cap
+    says "inspect a stream: by hand, high halves $high" 0 'stream of payload type 96 and source 7
+  path    datagrams       lowest      highest         lost     repeated         late
+  A               5        65534        65539            2            1            0
+  B               5        65534        65539            1            0            1
+  by A 2 never came, 1 came more than once, 0 came late
+  by B 1 never came, 0 came more than once, 1 came late
+  A alone would lose 2, B alone 1, both together 0
+stream of payload type 97 and source 7
+  path    datagrams       lowest      highest         lost     repeated         late
+  A               1            5            5            0            0            0
+  B               0            -            -            0            0            0
+  nothing came by B
+  A alone would lose 0, B alone 1, both together 0
+timestamps of payload type 96
+       source    timestamp         by A         by B       marker        ticks skew of B in nanoseconds
+            7          900            4            3          yes            - 500
+            7         2400            0            1           no         1500 -
+            7         3900            1            1           no         1500 -400
+skew of B in nanoseconds: least -400, middle -400, greatest 500, of 2 timestamps
+refused 1 ShortHeader 1
+refused 5 WrongPayloadType 1
+RTCP 1
+window 900,2400,3900' ''
+    run inspect --json hand.cap
+    says "inspect --json: a stream by hand, high halves $high" 0 '{"kind":"path","payload_type":96,"ssrc":7,"path":"A","datagrams":5,"lowest":65534,"highest":65539,"lost":2,"repeated":1,"late":0}
+{"kind":"path","payload_type":96,"ssrc":7,"path":"B","datagrams":5,"lowest":65534,"highest":65539,"lost":1,"repeated":0,"late":1}
+{"kind":"together","payload_type":96,"ssrc":7,"both":3,"lost_by_a":2,"lost_by_b":1,"lost_by_both":0}
+{"kind":"path","payload_type":97,"ssrc":7,"path":"A","datagrams":1,"lowest":5,"highest":5,"lost":0,"repeated":0,"late":0}
+{"kind":"path","payload_type":97,"ssrc":7,"path":"B","datagrams":0,"lowest":null,"highest":null,"lost":0,"repeated":0,"late":0}
+{"kind":"together","payload_type":97,"ssrc":7,"both":0,"lost_by_a":0,"lost_by_b":1,"lost_by_both":0}
+{"kind":"timestamp","payload_type":96,"ssrc":7,"timestamp":900,"a":4,"b":3,"marker":true,"ticks":null,"skew":500}
+{"kind":"timestamp","payload_type":96,"ssrc":7,"timestamp":2400,"a":0,"b":1,"marker":false,"ticks":1500,"skew":null}
+{"kind":"timestamp","payload_type":96,"ssrc":7,"timestamp":3900,"a":1,"b":1,"marker":false,"ticks":1500,"skew":-400}
+{"kind":"skew","timestamps":2,"least":-400,"middle":-400,"greatest":500}
+{"kind":"refused","number":1,"name":"ShortHeader","datagrams":1}
+{"kind":"refused","number":5,"name":"WrongPayloadType","datagrams":1}
+{"kind":"rtcp","datagrams":1}
+{"kind":"window","timestamps":[900,2400,3900]}' ''
+done
+# The paths one after the other, a capture each: B's numbers are those of A, however far A has come meanwhile. By A 65534 and
+# 200000 came, by B 65534; its second record is cut. Nothing is known of moments.
+octets "5332304341503032 0000 $(packets 1 00 0 65534 900 0 00 0 200000 2400 0)" >by-a.cap
+octets "5332304341503032 0000 $(packets 1 01 0 65534 900 0 01 0 200000 2400 0)" | head -c 79 >by-b.cap
+run inspect --json --sdp q.sdp by-a.cap by-b.cap
+says 'inspect --json: paths one after the other' 1 '{"kind":"path","payload_type":96,"ssrc":7,"path":"A","datagrams":2,"lowest":65534,"highest":200000,"lost":134465,"repeated":0,"late":0}
+{"kind":"path","payload_type":96,"ssrc":7,"path":"B","datagrams":1,"lowest":65534,"highest":65534,"lost":0,"repeated":0,"late":0}
+{"kind":"together","payload_type":96,"ssrc":7,"both":1,"lost_by_a":134465,"lost_by_b":134466,"lost_by_both":134465}
+{"kind":"timestamp","payload_type":96,"ssrc":7,"timestamp":900,"a":1,"b":1,"marker":false,"ticks":null,"skew":null}
+{"kind":"timestamp","payload_type":96,"ssrc":7,"timestamp":2400,"a":1,"b":0,"marker":false,"ticks":1500,"skew":null}
+{"kind":"skew","timestamps":0,"least":null,"middle":null,"greatest":null}
+{"kind":"window","timestamps":[900,2400]}' 'st2110: capture 5 Truncated'
+run inspect by-a.cap by-b.cap
+says 'inspect a stream: captures without a text' 1 '' 'st2110: receive 4 NoSdp'
+# Two senders by A: source 7 leaves the high halves 0, source 8 says that its packets are 65535 and 200000.
+octets "5332304341503032 $q_length $q_digits $(packets 0 00 0 65535 900 0 00 0 65536 900 0)
+    $(packets 1 00 0 65535 900 0 00 0 200000 900 0 | sed 's/00000007/00000008/g')" >senders.cap
+run inspect --json senders.cap
+says 'inspect --json: two senders' 0 '{"kind":"path","payload_type":96,"ssrc":7,"path":"A","datagrams":2,"lowest":65535,"highest":65536,"lost":0,"repeated":0,"late":0}
+{"kind":"path","payload_type":96,"ssrc":7,"path":"B","datagrams":0,"lowest":null,"highest":null,"lost":0,"repeated":0,"late":0}
+{"kind":"together","payload_type":96,"ssrc":7,"both":0,"lost_by_a":0,"lost_by_b":2,"lost_by_both":0}
+{"kind":"path","payload_type":96,"ssrc":8,"path":"A","datagrams":2,"lowest":65535,"highest":200000,"lost":134464,"repeated":0,"late":0}
+{"kind":"path","payload_type":96,"ssrc":8,"path":"B","datagrams":0,"lowest":null,"highest":null,"lost":0,"repeated":0,"late":0}
+{"kind":"together","payload_type":96,"ssrc":8,"both":0,"lost_by_a":134464,"lost_by_b":134466,"lost_by_both":134464}
+{"kind":"timestamp","payload_type":96,"ssrc":7,"timestamp":900,"a":2,"b":0,"marker":false,"ticks":null,"skew":null}
+{"kind":"timestamp","payload_type":96,"ssrc":8,"timestamp":900,"a":2,"b":0,"marker":false,"ticks":null,"skew":null}
+{"kind":"skew","timestamps":0,"least":null,"middle":null,"greatest":null}
+{"kind":"window","timestamps":[900]}' ''
+# 65571 numbers from 65530 on, across two wraps of their low half, of which A lost 4, B 3, and both 65536; 131080 comes twice
+# by A, and by B 131090 behind 131091. By B the lowest one is 65531, and 2 of those above it never came. Of timestamp 900, which
+# more packets have than a round of 16 bits, are 65540 numbers: 3 didn't come by A, 2 not by B. Its first one is 65530, which
+# didn't come by B; 131066 has the same low half, and comes by both. B comes 250 nanoseconds behind A. It wants python3, as the
+# kit's rt does.
+cat >rounds.py <<'END_OF_ROUNDS'
+import pathlib
+import struct
+
+TEXT = pathlib.Path("q.sdp").read_bytes()
+LOST = ({65535, 65536, 100000, 131071}, {65530, 65536, 131072})
+
+
+def record(path, number, high):
+    kind = 0x8060 | 0x80 * (number in (131069, 131100))
+    stamp = 900 if number <= 131069 else 2400
+    moment = 1000 * number + 250 * path
+    head = struct.pack(">BQHHHII", path, moment, 28, kind, number % 65536, stamp, 7)
+    return head + struct.pack(">HHHH", high * (number >> 16), 8, 0, 0) + bytes(8)
+
+
+for high in (0, 1):
+    records = []
+    for number in range(65530, 131101):
+        if number not in LOST[0]:
+            records += [record(0, number, high)] * (1 + (number == 131080))
+        if number not in LOST[1] and number != 131090:
+            records.append(record(1, number, high))
+        if number == 131091:
+            records.append(record(1, 131090, high))
+    front = b"S20CAP02" + struct.pack(">H", len(TEXT)) + TEXT
+    pathlib.Path(f"rounds-{high}.cap").write_bytes(front + b"".join(records))
+END_OF_ROUNDS
+if command -v python3 >python3.path && python3 rounds.py 2>rounds.err; then
+    for high in 0 1; do
+        run inspect --json rounds-$high.cap
+        says "inspect --json: two rounds of packet numbers, high halves $high" 0 '{"kind":"path","payload_type":96,"ssrc":7,"path":"A","datagrams":65568,"lowest":65530,"highest":131100,"lost":4,"repeated":1,"late":0}
+{"kind":"path","payload_type":96,"ssrc":7,"path":"B","datagrams":65568,"lowest":65531,"highest":131100,"lost":2,"repeated":0,"late":1}
+{"kind":"together","payload_type":96,"ssrc":7,"both":65565,"lost_by_a":4,"lost_by_b":3,"lost_by_both":1}
+{"kind":"timestamp","payload_type":96,"ssrc":7,"timestamp":900,"a":65537,"b":65538,"marker":true,"ticks":null,"skew":null}
+{"kind":"timestamp","payload_type":96,"ssrc":7,"timestamp":2400,"a":31,"b":30,"marker":true,"ticks":1500,"skew":250}
+{"kind":"skew","timestamps":1,"least":250,"middle":250,"greatest":250}
+{"kind":"window","timestamps":[900,2400]}' ''
+    done
+    rm -f rounds-0.cap rounds-1.cap
+else
+    fail 'inspect --json: two rounds of packet numbers' "python3: $(cat rounds.err 2>&1)"
+fi
+# Recordings by their flows: three datagrams that are too short for a header, among a packet of TCP and a datagram of another
+# flow; and a second one that is cut within its first packet.
+octets 'A1B2C3D4 0002 0004 00000000 00000000 00040000 00000065
+    0000000000000005 0000001F 0000001F 4500001F 00004000 40110000 C0000201 C0000202 138C138E 000B0000 070809
+    0000000000000005 00000014 00000014 45000014 00004000 40060000 C0000201 C0000202
+    0000000000000006 0000001D 0000001D 4500001D 00004000 40110000 C0000201 C0000202 138C138C 00090000 06
+    0000000100000007 0000001C 0000001C 4500001C 00004000 40110000 C0000201 C0000202 138C1390 00080000
+    0000000100000007 0000001E 0000001E 4500001E 00004000 40110000 C0000201 C0000202 138C138E 000A0000 0405' >short.pcap
+head -c 70 short.pcap >cut.pcap
+short='{"kind":"skew","timestamps":0,"least":null,"middle":null,"greatest":null}
+{"kind":"refused","number":1,"name":"ShortHeader","datagrams":3}
+{"kind":"nothing","payload_type":96}'
+run inspect --json --sdp q.sdp --a 5004 --b 5006 short.pcap
+untold
+says 'inspect --json: a recording of no stream' 0 "$short" ''
+run inspect --json --sdp q.sdp --a 5004 --b 5006 short.pcap cut.pcap
+untold
+says 'inspect --json: a second recording cut short' 1 "$short" 'st2110: recording 2 Truncated'

@@ -13,6 +13,10 @@ holds 'merge-two-halves: into its own file, the receiver' g.rcv "$opened 00 0000
 run receive --state g.rcv --sdp q.sdp --window 900 old.cap
 octets 5332304341503031 "$record_a" "$d1" "$record_b" "80E00001000003840000000100000008000000008020801180128013" >differ.cap
 run receive --state differ.rcv --sdp q.sdp --window 900 differ.cap
+holds contested-state-file differ.rcv "$opened 00 00000000 01 00000384 02 0002 80008011 01 80128013 00 00"
+octets 5332304341503031 "$record_a" "80E00001000003840000000100000008000000008020801180128013" "$record_b" "$d1" >otherwise.cap
+run receive --state otherwise.rcv --sdp q.sdp --window 900 otherwise.cap
+alike 'contested-state-file: in the other order' otherwise.rcv differ.rcv
 run merge --state h.rcv g.rcv differ.rcv
 says 'a contested sample stays so' 0 'frame 900 present 7 missing 8 contested 1' ''
 
@@ -181,3 +185,11 @@ frame 900 present 16 missing 0 contested 0
 end' ''
 run process --job gain:4096 --ts 900 --fill 16,128,128 --base 900 --out gained.cap merged.rcv
 says 'the README: processed' 0 'sent 1' ''
+
+# packed-marks: a pgroup of twelve samples, of which one is contested, Y of column 1. Its bit stands in the mask, its value is 0.
+marked='5332305243563031 010A000400010000003C00000001 60 00 00000000 01 00000384'
+octets "$marked 01 800408020010200800408020010200" >marked.rcv
+octets "$marked 01 800408020010600800408020010200" >differing.rcv
+run merge --state both.rcv marked.rcv differing.rcv
+says 'merge: packed-marks' 0 'frame 900 present 11 missing 0 contested 1' ''
+holds 'merge: packed-marks, the file' both.rcv "$marked 02 0010 800408020000200800408020010200"

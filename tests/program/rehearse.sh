@@ -22,6 +22,45 @@ send
 send
 send" "$nothing"
 
+# eight-receivers: a chain of merges takes what arrived before them through all, and one against its order takes nothing.
+turn "$two" 'receivers 2' 'receivers 8'
+chain='send\nsend\narrive 7 B 0'
+back=
+wanted=
+for receiver in 0 1 2 3 4 5 6; do
+    chain="$chain\nmerge $((6 - receiver)) $((7 - receiver))"
+    back="$back\nmerge $receiver $((receiver + 1))"
+    present=12
+    [ $receiver -lt 6 ] || present=16
+    wanted="${wanted}receiver $receiver
+frame 0 present $present missing $((16 - present)) contested 0
+"
+done
+shows rehearse eight-receivers "$turned\n$chain\narrive 7 A 1$back" "${wanted}receiver 7
+frame 0 present 16 missing 0 contested 0"
+
+# sixteen-timestamps: of sixteen pictures every other one's second datagram arrives; sixteen slides hand them out.
+window=0
+shown="picture $u$l"
+events=
+slides=
+wanted=
+left='receiver 0'
+k=0
+while [ $k -lt 16 ]; do
+    [ $k = 0 ] || window=$window,$((1500 * k))
+    [ $k = 0 ] || shown="$shown\npicture $u$l"
+    events="$events\nsend\nsend\narrive 0 A $((2 * k + k % 2))"
+    slides="$slides\nslide 0 $((1500 * k + 24000))"
+    present=$((12 - 8 * (k % 2)))
+    wanted="${wanted}out 0 $((1500 * k)) present $present missing $((16 - present)) contested 0
+"
+    left="$left
+frame $((1500 * k + 24000)) present 0 missing 16 contested 0"
+    k=$((k + 1))
+done
+shows rehearse sixteen-timestamps "$format\nstamp 96 0 0 1\nmax 40\nwindow $window\nreceivers 1\n$shown$events$slides" "$wanted$left"
+
 # CR before LF, empty lines, no LF at the end, leading zeros, digits of either case.
 feed rehearse 'format RGB 8 2 1 25/1\r\n\n\nstamp 007 4294967295 4294967295 0\r\nmax 26\nwindow 4294967295,5
 receivers 01\npicture aBcDeF012345\n\nsend\narrive 00 B 0\nslide 0 3604'

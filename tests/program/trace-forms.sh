@@ -150,3 +150,49 @@ END
 prints trace 'outside the window' <<END
 outside\n$blank|$open\nA 80E00001000003850000000100000008000000008010801180128013\n
 END
+
+# packed-octets: the octets of a pgroup, and its samples in the order in which they are sent. Rows DEPTH|SAMPLING|OCTETS|SAMPLES.
+while IFS='|' read -r depth sampling digits samples; do
+    pixels=2
+    places='0.1 0.0 0.2 1.0'
+    if [ "$sampling" = YCbCr-4:4:4 ]; then
+        pixels=4
+        places='0.1 0.0 0.2 1.1 1.0 1.2 2.1 2.0 2.2 3.1 3.0 3.2'
+    fi
+    length=$(printf '%04X' $((${#digits} / 2)))
+    script="format $sampling $depth $pixels 1 60/1\nopen 96 any 900\nA 80E0000100000384000000010000${length}00000000$digits"
+    output='kept 1'
+    set -- $samples
+    count=$#
+    for place in $places; do
+        script="$script\ncell 900 0 ${place%.*} ${place#*.}"
+        output="$output
+value $1"
+        shift
+    done
+    shows trace "packed-octets: $sampling of $depth bits" "$script" "$output
+frame 900 present $count missing 0 contested 0"
+done <<'END'
+10|YCbCr-4:2:2|80040803AC|512 64 512 940
+12|YCbCr-4:2:2|800100800EB0|2048 256 2048 3760
+16|YCbCr-4:2:2|800010008000EB00|32768 4096 32768 60160
+10|YCbCr-4:4:4|800408020010200800408020010200|512 64 512 512 64 512 512 64 512 512 64 512
+END
+# cut-datagrams: a datagram cut at each octet, within the header of RTP (12), the payload's (8) and the row (8).
+script=$open
+output=
+length=0
+while [ $length -lt 28 ]; do
+    part=$(printf '%s' "$d1" | cut -c "1-$((2 * length))")
+    [ $length != 0 ] || part=-
+    script="$script\nA $part"
+    case $length in
+        ? | 1[01]) refusal='1 ShortHeader' ;;
+        1*) refusal='7 ShortPayloadHeader' ;;
+        *) refusal='14 ShortData' ;;
+    esac
+    output="${output}refused $refusal
+"
+    length=$((length + 1))
+done
+shows trace 'cut-datagrams' "$script" "$output$blank"

@@ -104,12 +104,14 @@ sdp_places '' "$camera" <<END
 4 BadMediaLine|5004 RTP|65536 RTP|6, 'm=video 65536 RTP/AVP 112'|m=video PORT RTP/AVP PT, PORT to 65535 and PT to 127
 5 NoRtpmap|a=rtpmap:112|a=rtpmap:113|6, 'm=video 5004 RTP/AVP 112'|a=rtpmap:PT for the payload type of the line m=video
 6 NotRaw90000|raw/90000|raw/48000|8, 'a=rtpmap:112 raw/48000'|raw/90000 in a=rtpmap:PT
+6 NotRaw90000| raw/90000\n|  raw/1 \r\n|8, 'a=rtpmap:112  raw/1 '|raw/90000 in a=rtpmap:PT
 7 NoFmtp|a=fmtp:112|a=fmtp:113|6, 'm=video 5004 RTP/AVP 112'|a=fmtp:PT for the payload type of the line m=video
 8 BadParameter|width=1920|width=|9, 'width='|$bad_item
 8 BadParameter|width=1920|width=1920; =1|9, '=1'|$bad_item
 8 BadParameter|60000/1001|60000 / 1001|9, 'exactframerate=60000 / 1001'|$bad_item
 8 BadParameter|BT709|BT 709|9, 'colorimetry=BT 709'|$bad_item
 8 BadParameter|TCS=SDR|RANGE=full|9, 'RANGE=full'|$bad_item
+8 BadParameter|TCS=SDR|\theight = \t|9, 'height ='|$bad_item
 9 DoubleParameter|TCS=SDR|TP=SDR|9, 'TP=2110TPN'|in a=fmtp:PT each name once
 10 MissingParameter|PM=2110GPM; ||${fmtp_front}1920; height=1080; ex..'|PM in a=fmtp:PT
 10 MissingParameter|depth=10; TCS=SDR; |TCS; |${fmtp_front}1920; height=1080; ex..'|depth in a=fmtp:PT
@@ -125,12 +127,36 @@ sdp_places '' "$camera" <<END
 END
 sdp_places "$session$first" "$second" <<'END'
 6 NotRaw90000|raw/90000|raw/48000|13, 'a=rtpmap:112 raw/48000'|raw/90000 in a=rtpmap:PT
+7 NoFmtp|a=fmtp:112|a=fmtp:113|11, 'm=video 5006 RTP/AVP 112'|a=fmtp:PT for the payload type of the line m=video
+9 DoubleParameter|TCS=SDR|TP=SDR|14, 'TP=2110TPN'|in a=fmtp:PT each name once
 11 UnsupportedSampling|sampling=YCbCr-4:2:2|sampling=KEY|14, 'sampling=KEY'|sampling=YCbCr-4:2:2, YCbCr-4:4:4 or RGB
 17 LegsDiffer|width=1920|width=1280|11, 'm=video 5006 RTP/AVP 112'|two sections with one payload type, format, range and colorimetry
 END
 sdp_places "$camera" "$second" <<'END'
 3 TooManyLegs|5006|5008|16, 'm=video 5008 RTP/AVP 112'|at most two sections m=video
 END
+# Short texts, and an item that has no value behind one of so many octets: it is shown while no more than 4096 octets
+# stand before it, and else its line.
+media_form='m=video PORT RTP/AVP PT, PORT to 65535 and PT to 127'
+nine='m=video 1 RTP/AVP 9\na=rtpmap:9 raw/90000\na=fmtp:9 '
+places sdp <<END
+sdp 4 BadMediaLine|1, 'm=video x'|$media_form|m=video x
+sdp 4 BadMediaLine|1, 'm=video x'|$media_form|m=video x\r
+sdp 4 BadMediaLine|4, 'm=video x\r'|$media_form|\r\n\n\rv\nm=video x\r\r\nm=audio\n
+sdp 5 NoRtpmap|1, 'm=video 1 RTP/AVP 9'|a=rtpmap:PT for the payload type of the line m=video|m=video 1 RTP/AVP 9\nm=video 2\n
+sdp 6 NotRaw90000|3, 'a=rtpmap:09 x'|raw/90000 in a=rtpmap:PT|m=video 1 RTP/AVP 9\na=rtpmap:8 x\na=rtpmap:09 x\na=rtpmap:9 y
+sdp 8 BadParameter|3, 'RANGE'|$bad_item|$nine; ;RANGE\n
+sdp 9 DoubleParameter|3, 'a=2'|in a=fmtp:PT each name once|${nine}a=1;b;;\ta=2
+sdp 10 MissingParameter|3, 'a=fmtp:9 '|sampling, width, height, exactframerate, depth, colorimetry, PM and SSN in a=fmtp:PT|$nine\n\n
+END
+far_item() {
+    { printf '%b' "$nine"; zeros "$1"; printf ';width'; } >in
+    "$program" sdp -v <in >out 2>err
+    status=$?
+    adds "sdp: an item behind $1 octets" 1 '' 'sdp 8 BadParameter' "$here 3, '$2'; wanted $bad_item"
+}
+far_item 4095 width
+far_item 4096 "a=fmtp:9 $(zeros 51).."
 printf '%b' "$session" >in
 "$program" -v sdp <in >out 2>err
 status=$?

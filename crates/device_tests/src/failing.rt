@@ -4,7 +4,6 @@ use std::alloc::{Allocator, Global};
 use std::cell::Cell;
 use std::fs::{self, File, Files, Metadata, OpenFile, OpenOptions, Permissions};
 use std::io::{self, ErrorKind, Read, Seek, SeekFrom, Write};
-use std::path::PathBuf;
 use std::rc::Rc;
 
 /// How many calls go on before one fails; at 0 none does.

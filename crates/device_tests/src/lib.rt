@@ -1,10 +1,7 @@
-//! What no text of the program shows of the devices of this machine: files of which one call
-//! fails, files in a directory, and how far a reading is. Tests, with values that are worked out
-//! by hand.
+//! What no text of the program shows of the devices of this machine: files of which one call fails,
+//! and how far a reading is. Tests, with values that are worked out by hand.
 #![tactic(auto)]
 
-#[cfg(test)]
-mod directories;
 #[cfg(test)]
 mod failing;
 #[cfg(test)]

@@ -1,6 +1,6 @@
 //! *loopback* and *loop-limits* over a link in memory, which also repeats, reorders and fails.
 use crate::checks::met;
-use crate::running::MEMORY;
+use crate::text_runs::{DEVICE, MEMORY};
 use refusing::Refusing;
 use st_format::memory::{MemorySink, MemorySource};
 use st2110_tool::{Looping, MemoryLink, run_loop};
@@ -20,15 +20,6 @@ struct Way {
     limit: u64,
     /// Which datagram comes in each turn.
     comes: &'static [Option<usize>],
-}
-
-/// How a run ended, and what it wrote.
-#[derive(Drop)]
-struct Ran {
-    status: u8,
-    turns: usize,
-    printed: MemorySink,
-    told: MemorySink,
 }
 
 /// Ways, each with how many turns are taken and what is printed.
@@ -114,22 +105,20 @@ fn link(global: Global, way: Way, fails_in: u64) -> Result<MemoryLink, AllocErro
     Ok(MemoryLink::new(slots, comes, fails_in))
 }
 
-/// A sink of seven octets a call that never fails.
-fn sink(global: Global) -> Result<MemorySink, AllocError> {
-    Ok(MemorySink::new(Vec::with_capacity(global, 128)?, 7, 0))
-}
+/// A run's status, how many turns were taken, and its sinks of what it printed and of faults.
+type Ran = (u8, usize, MemorySink, MemorySink);
 
 /// A run over a link in memory, of which a call fails, counted from 1; 0 means that none does.
 fn run<A: Allocator + Copy>(
     global: Global,
     alloc: A,
-    picture: &[u8],
     way: Way,
     fails_in: u64,
 ) -> Result<Ran, AllocError> {
-    let mut picture = MemorySource::new(Vec::from_slice(global, picture)?, 7, 0);
+    let mut picture = MemorySource::new(Vec::from_slice(global, PICTURE)?, 7, 0);
     let mut link = link(global, way, fails_in)?;
-    let (mut printed, mut told) = (sink(global)?, sink(global)?);
+    let mut printed = MemorySink::new(Vec::with_capacity(global, 128)?, 7, 0);
+    let mut told = MemorySink::new(Vec::with_capacity(global, 128)?, 7, 0);
     let looping = Looping {
         max_octets: way.max_octets,
         limit: way.limit,
@@ -142,44 +131,17 @@ fn run<A: Allocator + Copy>(
         &mut printed,
         &mut told,
     );
-    Ok(Ran {
-        status,
-        turns: link.turns(),
-        printed,
-        told,
-    })
+    Ok((status, link.turns(), printed, told))
 }
 
-/// A run ended well, in so many turns, and printed this.
+/// Whether a run ended well, in so many turns, and printed this.
 fn is_done(ran: &Ran, turns: usize, text: &[u8]) -> bool {
-    ran.status == 0
-        && ran.turns == turns
-        && ran.told.held().is_empty()
-        && ran.printed.held() == text
+    ran.0 == 0 && ran.1 == turns && ran.3.held().is_empty() && ran.2.held() == text
 }
 
-/// The same of a run of this way.
-fn prints(global: Global, way: Way, turns: usize, text: &[u8]) -> Result<bool, AllocError> {
-    let ran = run(global, global, PICTURE, way, 0)?;
-    Ok(is_done(&ran, turns, text))
-}
-
-/// One packet of up to 1,400 octets, which comes.
-const ONE: Way = Way {
-    max_octets: 1400,
-    limit: 1,
-    comes: &[Some(0)],
-};
-
-/// Whether a picture's file of one such packet comes back, and nothing is told of a fault.
-pub fn is_looped(global: Global, picture: &[u8]) -> Result<bool, AllocError> {
-    let ran = run(global, global, picture, ONE, 0)?;
-    Ok(ran.status == 0 && ran.turns == 1 && ran.told.held().is_empty())
-}
-
-/// A run ended by this status and line, and printed nothing.
+/// Whether a run ended by this status and line, and printed nothing.
 fn stops(ran: &Ran, status: u8, line: &[u8]) -> bool {
-    ran.status == status && ran.printed.held().is_empty() && ran.told.held() == line
+    ran.0 == status && ran.2.held().is_empty() && ran.3.held() == line
 }
 
 /// *loopback*: `loop` over a link in memory.
@@ -189,7 +151,7 @@ struct Loopback;
 impl Wanting for Loopback {
     fn answer(&self, global: Global, refusing: &Refusing<Global>) -> Result<Option<bool>, Fail> {
         let (way, turns, text) = WAYS[0];
-        let ran = run(global, refusing, PICTURE, way, 0)?;
+        let ran = run(global, refusing, way, 0)?;
         Ok(if stops(&ran, 4, MEMORY) {
             None
         } else {
@@ -200,17 +162,13 @@ impl Wanting for Loopback {
 
 #[test]
 fn links(rt: HostRuntime) -> Result<(), Fail> {
-    for (way, turns, text) in &WAYS {
-        met(&rt, prints(rt.alloc(), *way, *turns, *text)?);
+    for (way, turns, text) in WAYS {
+        let ran = run(rt.alloc(), rt.alloc(), way, 0)?;
+        met(&rt, is_done(&ran, turns, text));
     }
-    Ok(())
-}
-
-#[test]
-fn failing_links(rt: HostRuntime) -> Result<(), Fail> {
     for fails_in in 1..5u64 {
-        let ran = run(rt.alloc(), rt.alloc(), PICTURE, WAYS[0].0, fails_in)?;
-        met(&rt, stops(&ran, 3, b"st2110: device\n"));
+        let ran = run(rt.alloc(), rt.alloc(), WAYS[0].0, fails_in)?;
+        met(&rt, stops(&ran, 3, DEVICE));
     }
     Ok(())
 }

@@ -1,48 +1,36 @@
 //! `follow` with each growth refused in turn: nothing is then told or shown; and then the same run
 //! with memory.
 use crate::checks::met;
-use crate::recordings::is_told as recordings_are_told;
-use crate::streams::{Example, TWO_PATHS, is_told};
+use crate::running::{NONE, run_of};
+use crate::streams::{RECORDED, Stream, TWO_PATHS};
 use refusing::Refusing;
-use std::alloc::Global;
+use std::alloc::{AllocError, Global};
 use std::test::Fail;
-use test_kit::wanting::{Wanting, grows, growths};
-
-/// What is followed.
-#[derive(Clone, Copy)]
-enum Stream {
-    /// Two captures, by the text of the first.
-    Captures(Example),
-    /// A recording beside a capture, by a text that is given.
-    Recordings,
-}
+use test_kit::wanting::{Wanting, grows};
 
 impl Wanting for Stream {
     fn answer(&self, global: Global, refusing: &Refusing<Global>) -> Result<Option<bool>, Fail> {
-        Ok(match self {
-            Stream::Captures(example) => is_told(global, refusing, example)?,
-            Stream::Recordings => recordings_are_told(global, refusing)?,
-        })
+        match run_of(global, refusing, self, NONE) {
+            Ok(run) => Ok(run.answered(self.told)),
+            // (the list of the files had no memory)
+            Err(AllocError) => Ok(None),
+        }
     }
 }
 
-/// How many growths the stream of `TWO_PATHS` takes, by one frame at most, where each that is
-/// refused is told.
-pub fn growths_of_two_paths(alloc: Global) -> Result<Option<u64>, Fail> {
-    growths(alloc, &Stream::Captures(TWO_PATHS))
-}
+/// Of 16 frames, each has marks and octets.
+const SIXTEEN: Stream = Stream {
+    frames: 16,
+    ..TWO_PATHS
+};
 
 /// For the list of the files, for two texts or datagrams, for the follower's lists of frames, for
 /// marks and octets of a frame that is in and of the one that leaves, and for a record or a packet
-/// of each file. Of 16 frames, each has marks and octets.
+/// of each file.
 #[test]
 fn of_follow(rt: HostRuntime) -> Result<(), Fail> {
-    let sixteen = Example {
-        frames: 16,
-        ..TWO_PATHS
-    };
-    met(&rt, grows(rt.alloc(), &Stream::Captures(TWO_PATHS), 11)?);
-    met(&rt, grows(rt.alloc(), &Stream::Captures(sixteen), 41)?);
-    met(&rt, grows(rt.alloc(), &Stream::Recordings, 11)?);
+    for (stream, least) in [(TWO_PATHS, 11), (SIXTEEN, 41), (RECORDED, 11)] {
+        met(&rt, grows(rt.alloc(), &stream, least)?);
+    }
     Ok(())
 }

@@ -1,43 +1,56 @@
-//! What `follow` prints of small streams, line by line: of captures of the two paths, of one in
-//! which both are, early and not, late, too far ahead, and begun anew.
-use crate::checks::{met, none_fails};
-use crate::running::{Input, asked, run_on, source};
-use crate::sources::{SDP, Sent, capture, datagram, put_front, put_record};
-use st_format::Path;
-use std::alloc::{AllocError, Allocator, Global};
-use std::io::Write;
-use std::test::Fail;
+//! Streams that are followed, octet by octet: what a capture of each path has, and a recording
+//! beside a capture.
 
-/// Rows by A and by B, each in a capture of its own, and what is printed of them: by so many frames
-/// at most, early or not.
+/// What a sender says of its video: 4 pixels in each of 2 rows, by payload type 96.
+pub const SDP: &[u8] = b"m=video 5004 RTP/AVP 96\na=rtpmap:96 raw/90000\n\
+    a=fmtp:96 sampling=YCbCr-4:2:2; width=4; height=2; exactframerate=60; depth=8; \
+    colorimetry=BT709; PM=2110GPM; SSN=ST2110-20:2017\n";
+
+/// Two files, the first of them a recording or a capture, by a text that is given or by that of the
+/// first; and what is printed of them by so many frames at most.
 #[derive(Clone, Copy)]
-pub struct Example {
+pub struct Stream {
     pub frames: usize,
-    pub is_eager: bool,
-    pub a: &'static [Sent],
-    pub b: &'static [Sent],
+    pub sdp: Option<&'static [u8]>,
+    pub first: &'static [u8],
+    pub second: &'static [u8],
     pub told: &'static [u8],
 }
+
+/// Rows of 8 octets by A: the upper one of timestamp 4294966296, and both of 500 and of 3500.
+const BY_A: &[u8] = b"S20CAP02\x00\xafm=video 5004 RTP/AVP 96\na=rtpmap:96 raw/90000\n\
+    a=fmtp:96 sampling=YCbCr-4:2:2; width=4; height=2; exactframerate=60; depth=8; \
+    colorimetry=BT709; PM=2110GPM; SSN=ST2110-20:2017\n\
+    \x00\x00\x00\x00\x00\x00\x00\x00\x00\x00\x1c\x80\x60\x00\x01\xff\xff\xfc\x18\
+    \x00\x00\x00\x01\x00\x00\x00\x08\x00\x00\x00\x00\x10\x10\x10\x10\x10\x10\x10\x10\
+    \x00\x00\x00\x00\x00\x00\x00\x00\x00\x00\x1c\x80\x60\x00\x02\x00\x00\x01\xf4\
+    \x00\x00\x00\x01\x00\x00\x00\x08\x00\x00\x00\x00\x10\x10\x10\x10\x10\x10\x10\x10\
+    \x00\x00\x00\x00\x00\x00\x00\x00\x00\x00\x1c\x80\x60\x00\x03\x00\x00\x01\xf4\
+    \x00\x00\x00\x01\x00\x00\x00\x08\x00\x01\x00\x00\x10\x10\x10\x10\x10\x10\x10\x10\
+    \x00\x00\x00\x00\x00\x00\x00\x00\x00\x00\x1c\x80\x60\x00\x04\x00\x00\x0d\xac\
+    \x00\x00\x00\x01\x00\x00\x00\x08\x00\x00\x00\x00\x10\x10\x10\x10\x10\x10\x10\x10\
+    \x00\x00\x00\x00\x00\x00\x00\x00\x00\x00\x1c\x80\x60\x00\x05\x00\x00\x0d\xac\
+    \x00\x00\x00\x01\x00\x00\x00\x08\x00\x01\x00\x00\x10\x10\x10\x10\x10\x10\x10\x10";
+
+/// By B the lower one of 4294966296, the upper ones of 500 and 2000, and the lower one of 3500.
+const BY_B: &[u8] = b"S20CAP02\x00\x00\
+    \x01\x00\x00\x00\x00\x00\x00\x00\x00\x00\x1c\x80\x60\x00\x01\xff\xff\xfc\x18\
+    \x00\x00\x00\x01\x00\x00\x00\x08\x00\x01\x00\x00\x10\x10\x10\x10\x10\x10\x10\x10\
+    \x01\x00\x00\x00\x00\x00\x00\x00\x00\x00\x1c\x80\x60\x00\x02\x00\x00\x01\xf4\
+    \x00\x00\x00\x01\x00\x00\x00\x08\x00\x00\x00\x00\x10\x10\x10\x10\x10\x10\x10\x10\
+    \x01\x00\x00\x00\x00\x00\x00\x00\x00\x00\x1c\x80\x60\x00\x03\x00\x00\x07\xd0\
+    \x00\x00\x00\x01\x00\x00\x00\x08\x00\x00\x00\x00\x10\x10\x10\x10\x10\x10\x10\x10\
+    \x01\x00\x00\x00\x00\x00\x00\x00\x00\x00\x1c\x80\x60\x00\x04\x00\x00\x0d\xac\
+    \x00\x00\x00\x01\x00\x00\x00\x08\x00\x01\x00\x00\x10\x10\x10\x10\x10\x10\x10\x10";
 
 /// Timestamps go round behind the first. A lost a row of the first picture and all of the third, B
 /// the other row of the first, one of the second, and one of the last; one of the third never came.
 /// Side by side one frame at a time is enough.
-pub const TWO_PATHS: Example = Example {
+pub const TWO_PATHS: Stream = Stream {
     frames: 1,
-    is_eager: false,
-    a: &[
-        Sent(4_294_966_296, 0, 16),
-        Sent(500, 0, 16),
-        Sent(500, 1, 16),
-        Sent(3_500, 0, 16),
-        Sent(3_500, 1, 16),
-    ],
-    b: &[
-        Sent(4_294_966_296, 1, 16),
-        Sent(500, 0, 16),
-        Sent(2_000, 0, 16),
-        Sent(3_500, 1, 16),
-    ],
+    sdp: None,
+    first: BY_A,
+    second: BY_B,
     told: b"\
 frame 4294966296 present 16 missing 0 contested 0 late 0
 frame 500 present 16 missing 0 contested 0 late 0
@@ -47,280 +60,43 @@ frames 4 kept 9 late 0 far 0 refused 0
 ",
 };
 
-/// The paths differ in each sample of the upper row.
-const DIFFERENT: Example = Example {
-    frames: 8,
-    is_eager: false,
-    a: &[Sent(900, 0, 16), Sent(900, 1, 16)],
-    b: &[Sent(900, 0, 17), Sent(900, 1, 16)],
-    told: b"\
-frame 900 present 8 missing 0 contested 8 late 0
-frames 1 kept 4 late 0 far 0 refused 0
-",
-};
+/// A recording of pcap in microseconds, of raw IP: of timestamp 900 the upper row to port 5004 and
+/// the lower one to 5006, a packet of TCP, and the upper row of 2400 to port 5006.
+const RECORDING: &[u8] = b"\
+    \xa1\xb2\xc3\xd4\x00\x02\x00\x04\x00\x00\x00\x00\
+    \x00\x00\x00\x00\x00\x04\x00\x00\x00\x00\x00\x65\
+    \x00\x00\x00\x00\x00\x00\x00\x05\x00\x00\x00\x38\x00\x00\x00\x38\
+    \x45\x00\x00\x38\x00\x00\x40\x00\x40\x11\x00\x00\xc0\x00\x02\x01\xc0\x00\x02\x02\
+    \x13\x8c\x13\x8c\x00\x24\x00\x00\x80\x60\x00\x01\x00\x00\x03\x84\x00\x00\x00\x01\
+    \x00\x00\x00\x08\x00\x00\x00\x00\x10\x10\x10\x10\x10\x10\x10\x10\
+    \x00\x00\x00\x00\x00\x00\x00\x05\x00\x00\x00\x38\x00\x00\x00\x38\
+    \x45\x00\x00\x38\x00\x00\x40\x00\x40\x11\x00\x00\xc0\x00\x02\x01\xc0\x00\x02\x02\
+    \x13\x8c\x13\x8e\x00\x24\x00\x00\x80\x60\x00\x02\x00\x00\x03\x84\x00\x00\x00\x01\
+    \x00\x00\x00\x08\x00\x01\x00\x00\x10\x10\x10\x10\x10\x10\x10\x10\
+    \x00\x00\x00\x00\x00\x00\x00\x05\x00\x00\x00\x14\x00\x00\x00\x14\
+    \x45\x00\x00\x14\x00\x00\x40\x00\x40\x06\x00\x00\xc0\x00\x02\x01\xc0\x00\x02\x02\
+    \x00\x00\x00\x00\x00\x00\x00\x05\x00\x00\x00\x38\x00\x00\x00\x38\
+    \x45\x00\x00\x38\x00\x00\x40\x00\x40\x11\x00\x00\xc0\x00\x02\x01\xc0\x00\x02\x02\
+    \x13\x8c\x13\x8e\x00\x24\x00\x00\x80\x60\x00\x03\x00\x00\x09\x60\x00\x00\x00\x01\
+    \x00\x00\x00\x08\x00\x00\x00\x00\x10\x10\x10\x10\x10\x10\x10\x10";
 
-/// Upper rows, and behind three of them their lower rows.
-const BEHIND: [Sent; 6] = [
-    Sent(900, 0, 16),
-    Sent(2_400, 0, 16),
-    Sent(3_900, 0, 16),
-    Sent(900, 1, 16),
-    Sent(2_400, 1, 16),
-    Sent(3_900, 1, 16),
-];
+/// The lower rows of 2400 and 3900, by A.
+const CAPTURED: &[u8] = b"S20CAP02\x00\x00\
+    \x00\x00\x00\x00\x00\x00\x00\x00\x00\x00\x1c\x80\x60\x00\x01\x00\x00\x09\x60\
+    \x00\x00\x00\x01\x00\x00\x00\x08\x00\x01\x00\x00\x10\x10\x10\x10\x10\x10\x10\x10\
+    \x00\x00\x00\x00\x00\x00\x00\x00\x00\x00\x1c\x80\x60\x00\x02\x00\x00\x0f\x3c\
+    \x00\x00\x00\x01\x00\x00\x00\x08\x00\x01\x00\x00\x10\x10\x10\x10\x10\x10\x10\x10";
 
-/// Three frames hold them.
-const HELD: Example = Example {
-    frames: 3,
-    is_eager: false,
-    a: &BEHIND,
-    b: &[],
+/// A recording and a capture behind it, by a text that is given.
+pub const RECORDED: Stream = Stream {
+    frames: 1,
+    sdp: Some(SDP),
+    first: RECORDING,
+    second: CAPTURED,
     told: b"\
 frame 900 present 16 missing 0 contested 0 late 0
 frame 2400 present 16 missing 0 contested 0 late 0
-frame 3900 present 16 missing 0 contested 0 late 0
-frames 3 kept 6 late 0 far 0 refused 0
+frame 3900 present 8 missing 8 contested 0 late 0
+frames 3 kept 5 late 0 far 0 refused 0
 ",
 };
-
-/// With two the first one leaves when the third comes.
-const ONE_LATE: Example = Example {
-    frames: 2,
-    is_eager: false,
-    a: &BEHIND,
-    b: &[],
-    told: b"\
-frame 900 present 8 missing 8 contested 0 late 0
-frame 2400 present 16 missing 0 contested 0 late 1
-frame 3900 present 16 missing 0 contested 0 late 0
-frames 3 kept 5 late 1 far 0 refused 0
-late wants window 3
-",
-};
-
-/// With one each leaves when the next comes.
-const TWO_LATE: Example = Example {
-    frames: 1,
-    is_eager: false,
-    a: &BEHIND,
-    b: &[],
-    told: b"\
-frame 900 present 8 missing 8 contested 0 late 0
-frame 2400 present 8 missing 8 contested 0 late 0
-frame 3900 present 16 missing 0 contested 0 late 2
-frames 3 kept 4 late 2 far 0 refused 0
-late wants window 3
-",
-};
-
-/// A frame leaves once it is whole: what the other path has of it comes late, and no window would
-/// hold it. Late ones behind the last frame are in the totals.
-const EARLY: Example = Example {
-    frames: 8,
-    is_eager: true,
-    a: &[
-        Sent(900, 0, 16),
-        Sent(900, 1, 16),
-        Sent(2_400, 0, 16),
-        Sent(2_400, 1, 16),
-    ],
-    b: &[Sent(900, 0, 16), Sent(2_400, 1, 16)],
-    told: b"\
-frame 900 present 16 missing 0 contested 0 late 0
-frame 2400 present 16 missing 0 contested 0 late 1
-frames 2 kept 4 late 2 far 0 refused 0
-",
-};
-
-/// The second picture is whole before the first is. Each leaves in a turn of its own, so that the
-/// first row, when it comes again, is late, and the second picture's is not yet.
-const EARLY_IN_TURN: Example = Example {
-    frames: 8,
-    is_eager: true,
-    a: &[
-        Sent(900, 0, 16),
-        Sent(2_400, 0, 16),
-        Sent(2_400, 1, 16),
-        Sent(900, 1, 16),
-        Sent(2_400, 0, 17),
-        Sent(900, 0, 16),
-    ],
-    b: &[],
-    told: b"\
-frame 900 present 16 missing 0 contested 0 late 0
-frame 2400 present 8 missing 0 contested 8 late 0
-frames 2 kept 5 late 1 far 0 refused 0
-",
-};
-
-/// Just ten seconds ahead, and one tick more.
-const STRAYS: Example = Example {
-    frames: 2,
-    is_eager: false,
-    a: &[
-        Sent(900, 0, 16),
-        Sent(900_901, 0, 16),
-        Sent(900, 1, 16),
-        Sent(900_900, 0, 16),
-    ],
-    b: &[],
-    told: b"\
-frame 900 present 16 missing 0 contested 0 late 0
-frame 900900 present 8 missing 8 contested 0 late 0
-frames 2 kept 3 late 0 far 1 refused 0
-",
-};
-
-/// A sender that begins anew far ahead: what is too far ahead is lost until it lasts for more than
-/// ten seconds.
-const ANEW_AHEAD: Example = Example {
-    frames: 8,
-    is_eager: false,
-    a: &[
-        Sent(900, 0, 16),
-        Sent(2_000_000, 0, 16),
-        Sent(2_900_000, 0, 16),
-        Sent(2_900_001, 0, 16),
-        Sent(2_900_001, 1, 16),
-        Sent(900, 1, 16),
-    ],
-    b: &[],
-    told: b"\
-frame 900 present 8 missing 8 contested 0 late 0
-anew 2900001
-frame 900 present 8 missing 8 contested 0 late 0
-frame 2900001 present 8 missing 8 contested 0 late 0
-frames 3 kept 3 late 0 far 3 refused 0
-",
-};
-
-/// And one that begins anew far behind: so with what comes late.
-const ANEW_BACK: Example = Example {
-    frames: 1,
-    is_eager: false,
-    a: &[
-        Sent(2_000_000, 0, 16),
-        Sent(100_000, 0, 16),
-        Sent(1_000_001, 0, 16),
-        Sent(1_000_001, 1, 16),
-    ],
-    b: &[],
-    told: b"\
-frame 2000000 present 8 missing 8 contested 0 late 2
-anew 1000001
-frame 1000001 present 8 missing 8 contested 0 late 0
-frames 2 kept 2 late 2 far 0 refused 0
-late wants window 2
-",
-};
-
-/// Captures without a datagram.
-const NOTHING: Example = Example {
-    frames: 8,
-    is_eager: true,
-    a: &[],
-    b: &[],
-    told: b"frames 0 kept 0 late 0 far 0 refused 0\n",
-};
-
-const EXAMPLES: [Example; 11] = [
-    TWO_PATHS,
-    DIFFERENT,
-    HELD,
-    ONE_LATE,
-    TWO_LATE,
-    EARLY,
-    EARLY_IN_TURN,
-    STRAYS,
-    ANEW_AHEAD,
-    ANEW_BACK,
-    NOTHING,
-];
-
-/// Whether an example is told so, by the text of its first capture; `None` where memory is wanted.
-pub fn is_told<A: Allocator + Copy>(
-    global: Global,
-    alloc: A,
-    example: &Example,
-) -> Result<Option<bool>, AllocError> {
-    let a = capture(global, SDP, Path::A, example.a)?;
-    let b = capture(global, b"", Path::B, example.b)?;
-    let input = Input {
-        asked: asked(example.frames, example.is_eager),
-        sdp: None,
-        ways: &[],
-        first: source(global, &a, 0)?,
-        second: Some(source(global, &b, 0)?),
-    };
-    match run_on(global, alloc, input) {
-        Ok(run) => Ok(run.answered(example.told)),
-        // (the list of the files had no memory)
-        Err(AllocError) => Ok(None),
-    }
-}
-
-/// The place of the first example that is told otherwise.
-fn fails_at(alloc: Global) -> Result<Option<u64>, AllocError> {
-    let mut place = 0u64;
-    for example in &EXAMPLES {
-        if is_told(alloc, alloc, example)? != Some(true) {
-            return Ok(Some(place));
-        }
-        place = place.wrapping_add(1);
-    }
-    Ok(None)
-}
-
-#[test]
-fn line_by_line(rt: HostRuntime) -> Result<(), Fail> {
-    none_fails(&rt, fails_at(rt.alloc())?);
-    Ok(())
-}
-
-/// Upper rows of 17 pictures, and the lower one of the first.
-fn seventeen(alloc: Global) -> Result<Vec<u8>, AllocError> {
-    let mut octets = Vec::new(alloc);
-    put_front(&mut octets, b"")?;
-    for place in 0..17u32 {
-        let upper = Sent(1_000 + 1_500 * place, 0, 16);
-        put_record(&mut octets, Path::B, &datagram(upper, place))?;
-    }
-    put_record(&mut octets, Path::B, &datagram(Sent(1_000, 1, 16), 17))?;
-    Ok(octets)
-}
-
-/// What is told of them by so many frames: when the last row comes late, all but these have left.
-fn told_of_seventeen(alloc: Global, frames: u32) -> Result<Vec<u8>, Fail> {
-    let mut told = Vec::new(alloc);
-    let gone = 17u32.saturating_sub(frames);
-    for place in 0..17u32 {
-        let timestamp = 1_000 + 1_500 * place;
-        let late = u8::from(place == gone);
-        write!(
-            told,
-            "frame {timestamp} present 8 missing 8 contested 0 late {late}\n"
-        )?;
-    }
-    write!(told, "frames 17 kept 17 late 1 far 0 refused 0\n")?;
-    write!(told, "late wants more than window 16\n")?;
-    Ok(told)
-}
-
-/// No window holds 17 pictures.
-#[test]
-fn more_than_sixteen(rt: HostRuntime) -> Result<(), Fail> {
-    let octets = seventeen(rt.alloc())?;
-    for (size, frames) in [(16usize, 16u32), (5, 5), (1, 1)] {
-        let input = Input {
-            asked: asked(size, false),
-            sdp: Some(SDP),
-            ways: &[],
-            first: source(rt.alloc(), &octets, 0)?,
-            second: None,
-        };
-        let run = run_on(rt.alloc(), rt.alloc(), input)?;
-        let told = told_of_seventeen(rt.alloc(), frames)?;
-        met(&rt, run.answered(&told) == Some(true));
-    }
-    Ok(())
-}

@@ -1,11 +1,8 @@
 //! What a follower answers to each datagram of small streams, and which frame goes.
-use crate::checks::{met, none_fails};
+use crate::checks::met;
 use crate::sources::{datagram, opened};
 use following::{Followed, Follower, TEN_SECONDS};
 use frame_assembly::Frame;
-use path_receiver::Refusal;
-use rtp_header::RtpFault;
-use std::process::Abort;
 use std::test::Fail;
 use test_kit::small_format::small;
 
@@ -118,16 +115,14 @@ fn restarts(follower: &mut Follower) -> bool {
     true
 }
 
-/// The place of the first step that is answered otherwise.
-fn fails_at(follower: &mut Follower, frame: &mut Frame, steps: &[Step]) -> Option<u64> {
-    let mut place = 0u64;
+/// Whether each step is answered so.
+fn are_answered(follower: &mut Follower, frame: &mut Frame, steps: &[Step]) -> bool {
     for step in steps {
         if !is_answered(follower, frame, *step) {
-            return Some(place);
+            return false;
         }
-        place = place.wrapping_add(1);
     }
-    None
+    true
 }
 
 /// How many frames may be in, how far ahead a timestamp may be, and what is done.
@@ -144,39 +139,7 @@ fn steps(rt: HostRuntime) -> Result<(), Fail> {
     for (size, most_ahead, steps) in STREAMS {
         let mut follower = opened(rt.alloc(), format, size, most_ahead)?;
         let mut frame = Frame::new(rt.alloc(), format)?;
-        none_fails(&rt, fails_at(&mut follower, &mut frame, steps));
+        met(&rt, are_answered(&mut follower, &mut frame, steps));
     }
-    Ok(())
-}
-
-/// Places of octets, others there, and the refusal: of the payload type, and of the source.
-const REFUSED: [(usize, u8, Refusal); 2] = [
-    (1, 97, Refusal::WrongPayloadType),
-    (11, 2, Refusal::WrongSource),
-];
-
-/// Whether a datagram whose octet at a place is another is refused so, and brings no frame in.
-fn is_refused(follower: &mut Follower, place: usize, octet: u8, refusal: Refusal) -> bool {
-    let mut octets = datagram(900, 7, 0, 16);
-    octets[place % 28] = octet;
-    follower.take(&octets) == Err(refusal) && follower.window().is_empty()
-}
-
-#[test]
-fn refused(rt: HostRuntime) -> Result<(), Fail> {
-    let mut follower = Follower::open(rt.alloc(), small()?, 96, Some(1), 2, TEN_SECONDS)?;
-    for (place, octet, refusal) in REFUSED {
-        met(&rt, is_refused(&mut follower, place, octet, refusal));
-    }
-    let short = Err(Refusal::Header(RtpFault::ShortHeader));
-    met(
-        &rt,
-        follower.take(b"") == short && follower.window().is_empty(),
-    );
-    met(
-        &rt,
-        follower.take(&datagram(900, 65_543, 0, 16)) == Ok(Followed::Kept(65_543)),
-    );
-    met(&rt, follower.window() == [900].as_slice());
     Ok(())
 }

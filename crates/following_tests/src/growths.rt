@@ -5,7 +5,6 @@ use following::{FollowFault, FrameSink, MemoryFrames, TEN_SECONDS};
 use frame_assembly::Frame;
 use refusing::Refusing;
 use std::alloc::Global;
-use std::process::Abort;
 use std::test::Fail;
 use test_kit::small_format::small;
 use test_kit::wanting::{Wanting, grows};
@@ -60,23 +59,6 @@ fn refused_growths(rt: HostRuntime) -> Result<(), Fail> {
         (Held::Shown, 3),
     ] {
         met(&rt, grows(rt.alloc(), call, *least)?);
-    }
-    Ok(())
-}
-
-/// What no follower has is told before memory is asked for.
-#[test]
-fn bad_sizes(rt: HostRuntime) -> Result<(), Fail> {
-    let refusing = Refusing::new(rt.alloc(), 1);
-    for size in [0usize, 17, usize::MAX] {
-        let fault = match opened(&refusing, small()?, size, TEN_SECONDS) {
-            Ok(_) => None,
-            Err(fault) => Some(fault),
-        };
-        met(
-            &rt,
-            fault == Some(FollowFault::BadSize) && !refusing.was_met(),
-        );
     }
     Ok(())
 }

@@ -1,6 +1,5 @@
-//! What a follower does with streams: answers, frames, failing sinks, refused growths, an hour's
-//! stream, and streams without order beside a plain model of them. Tests, with values that are
-//! worked out by hand.
+//! What a follower does with streams: answers, frames, failing sinks and refused growths. Tests,
+//! with values that are worked out by hand.
 #![tactic(auto)]
 
 #[cfg(test)]
@@ -11,14 +10,6 @@ mod checks;
 mod faults;
 #[cfg(test)]
 mod growths;
-#[cfg(test)]
-mod long_stream;
-#[cfg(test)]
-mod needs;
-#[cfg(test)]
-mod plain_model;
-#[cfg(test)]
-mod random_streams;
 #[cfg(test)]
 mod sources;
 #[cfg(test)]

@@ -21,38 +21,3 @@ pub fn source(alloc: Global, octets: &[u8], fails_in: u64) -> Result<MemorySourc
     let octets = Vec::from_slice(alloc, octets)?;
     Ok(MemorySource::new(octets, 7, fails_in))
 }
-
-/// Values with an octet above them where there is one, first one first: as octets, the low one
-/// first unless `is_big`.
-pub fn spelled(
-    alloc: Global,
-    head: &[u8],
-    values: &[u8],
-    high: Option<u8>,
-    is_big: bool,
-) -> Result<Vec<u8>, AllocError> {
-    let mut text = Vec::from_slice(alloc, head)?;
-    for value in values {
-        match high {
-            None => text.push(*value)?,
-            Some(high) => {
-                text.push(if is_big { high } else { *value })?;
-                text.push(if is_big { *value } else { high })?;
-            }
-        }
-    }
-    Ok(text)
-}
-
-/// Whether samples are 1, 2, 3 and so on, each with this octet above it.
-pub fn are_counted(samples: &[u16], high: Option<u8>) -> bool {
-    let above = u16::from(high.unwrap_or(0)) * 256;
-    let mut next = 1u16;
-    for sample in samples {
-        if u32::from(*sample) != u32::from(above) + u32::from(next) {
-            return false;
-        }
-        next = next.wrapping_add(1);
-    }
-    true
-}

@@ -52,11 +52,11 @@ pub const NONE: Failing = Failing {
 };
 
 /// Cb Y Cr Y, twice.
-pub const PICTURE: &[u8] = b"S20PIC01\0\x08\0\x04\0\x01\0\0\0\x19\0\0\0\x01\
+const PICTURE: &[u8] = b"S20PIC01\0\x08\0\x04\0\x01\0\0\0\x19\0\0\0\x01\
     \x01\x02\x03\x04\x05\x06\x07\x08";
 
 /// R G B, four times.
-pub const RGB: &[u8] = b"S20PIC01\x02\x08\0\x04\0\x01\0\0\0\x19\0\0\0\x01\
+const RGB: &[u8] = b"S20PIC01\x02\x08\0\x04\0\x01\0\0\0\x19\0\0\0\x01\
     \x01\x02\x03\x04\x05\x06\x07\x08\x09\x0A\x0B\x0C";
 
 const STREAM: &[u8] = b"YUV4MPEG2 W4 H1 F25:1 Ip A1:1 C422\n\
@@ -74,7 +74,7 @@ const RECEIVER: &[u8] = b"S20RCV01\0\x08\0\x04\0\x01\0\0\0\x19\0\0\0\x01\
     \x60\0\0\0\0\0\x01\0\0\x03\x84\0\x02\0\x02\x05\0\x07\x08";
 
 /// A conversion of a file, which takes so many growths.
-pub fn converted(
+fn converted(
     input: Input,
     form: Form,
     file: &'static [u8],
@@ -91,7 +91,7 @@ pub fn converted(
 }
 
 /// The receiver's frame of a timestamp.
-pub fn shown(timestamp: u32, view: View<'static>, form: Form, text: &'static [u8]) -> Call {
+fn shown(timestamp: u32, view: View<'static>, form: Form, text: &'static [u8]) -> Call {
     Call {
         asked: Asked::Show(PictureAsked {
             timestamp,
@@ -125,7 +125,7 @@ const BLACK: &[u8] = b"YUV4MPEG2 W4 H1 F25:1 Ip A1:1 C422\n\
 const FILLED: &[u8] = b"\x02\x01\x03\x01\x05\x01\x07\x08";
 
 /// A picture that is held, and the frame filled by it.
-pub const HELD: &[u8] = b"S20PIC01\0\x08\0\x04\0\x01\0\0\0\x19\0\0\0\x01\
+const HELD: &[u8] = b"S20PIC01\0\x08\0\x04\0\x01\0\0\0\x19\0\0\0\x01\
     \x11\x12\x13\x14\x15\x16\x17\x18";
 
 const OVER_HELD: &[u8] = b"S20PIC01\0\x08\0\x04\0\x01\0\0\0\x19\0\0\0\x01\

@@ -1,13 +1,8 @@
-//! What `run_convert` and `run_picture` write and tell; with each growth refused, with each call of
-//! a device failing, and of files that are refused or cut.
+//! What `run_convert` and `run_picture` write and tell with each growth refused, and with each call of
+//! a device failing.
 use crate::checks::met;
-use crate::form_calls::{
-    Call, Failing, HELD, Input, NONE, PICTURE, RGB, Run, conversions, converted, make_call, shown,
-    views,
-};
-use form_files::Form;
+use crate::form_calls::{Call, Failing, NONE, Run, conversions, make_call, views};
 use refusing::Refusing;
-use st2110_tool::View;
 use std::alloc::Global;
 use std::test::Fail;
 use test_kit::wanting::{Wanting, grows};
@@ -89,28 +84,20 @@ fn has_failed(run: &Run, call: &Call, device: Device, nth: u64) -> bool {
     is_told && is_part && call.text.starts_with(held) && failures(run, device) == 1
 }
 
-/// How many calls of a device there are, where each that fails is told, and the next run is as if
-/// none had; `None` where it isn't so.
-fn calls_of(alloc: Global, call: &Call, device: Device) -> Result<Option<u64>, Fail> {
+/// Whether a device has this many calls, or more, and each that fails is told, and the next run is as
+/// if none had.
+fn fails_in_each(alloc: Global, call: &Call, device: Device, least: u64) -> Result<bool, Fail> {
     for nth in 1..200u64 {
         let failed = make_call(alloc, alloc, call, failing_at(device, nth))?;
         if is_whole(&failed, call) {
-            return Ok(Some(nth - 1));
+            return Ok(least < nth);
         }
         let next = make_call(alloc, alloc, call, NONE)?;
         if !has_failed(&failed, call, device, nth) || !is_whole(&next, call) {
-            return Ok(None);
+            return Ok(false);
         }
     }
-    Ok(None)
-}
-
-/// Whether a device has this many calls, or more.
-fn fails_in_each(alloc: Global, call: &Call, device: Device, least: u64) -> Result<bool, Fail> {
-    Ok(match calls_of(alloc, call, device)? {
-        Some(calls) => least <= calls,
-        None => false,
-    })
+    Ok(false)
 }
 
 /// Whether it is so of each device of these calls.
@@ -130,120 +117,5 @@ fn fail_in_each(alloc: Global, calls: &[Call]) -> Result<bool, Fail> {
 fn with_each_call_failing(rt: HostRuntime) -> Result<(), Fail> {
     met(&rt, fail_in_each(rt.alloc(), &conversions())?);
     met(&rt, fail_in_each(rt.alloc(), &views())?);
-    Ok(())
-}
-
-/// Whether a call is refused by this line before its sink is called, which would fail.
-fn is_refused(alloc: Global, call: &Call, file: u64, line: &[u8]) -> Result<bool, Fail> {
-    let failing = Failing {
-        file,
-        sink: 1,
-        ..NONE
-    };
-    let run = make_call(alloc, alloc, call, failing)?;
-    Ok(has_ended(&run, 1, line) && run.sink.held().is_empty())
-}
-
-/// The receiver's frame of 900, settled so, and in this form.
-fn settled(fill: &'static [u8], form: Form) -> Call {
-    shown(900, View::Settled(Some(fill)), form, b"")
-}
-
-/// A picture's own file, converted.
-fn picture_as(form: Form, file: &'static [u8]) -> Call {
-    converted(Input::Picture, form, file, b"", 1)
-}
-
-/// The lines that are told.
-const BAD_FILL: &[u8] = b"st2110: frame 2 BadFill\n";
-
-const NO_FRAME: &[u8] = b"st2110: frame 1 NoFrame\n";
-
-const HOLD_DIFFERS: &[u8] = b"st2110: frame 3 HoldDiffers\n";
-
-const WRONG_FORM: &[u8] = b"st2110: frame 4 WrongForm\n";
-
-const NO_SUCH_FORM: &[u8] = b"st2110: convert 1 WrongForm\n";
-
-/// Views that are refused before a file is read, by the window, and by what is held.
-fn refused_views() -> [(Call, u64, &'static [u8]); 3] {
-    let early = shown(901, View::Settled(Some(b"1,2,256")), Form::Pixmap, b"");
-    let other = Call {
-        held: Some(RGB),
-        ..settled(b"1,2,3", Form::Pixmap)
-    };
-    [
-        (settled(b"1,2", Form::Raw), 1, BAD_FILL),
-        (early, 0, NO_FRAME),
-        (other, 0, HOLD_DIFFERS),
-    ]
-}
-
-/// Calls that are refused by values and forms.
-fn refused_forms() -> [(Call, u64, &'static [u8]); 5] {
-    let marked = shown(900, View::Marked, Form::Y4m, b"");
-    [
-        (settled(b"1,2,256", Form::Pixmap), 0, BAD_FILL),
-        (settled(b"1,2,3", Form::Pixmap), 0, WRONG_FORM),
-        (marked, 0, WRONG_FORM),
-        (picture_as(Form::Y4m, RGB), 0, NO_SUCH_FORM),
-        (picture_as(Form::Pixmap, PICTURE), 0, NO_SUCH_FORM),
-    ]
-}
-
-/// The first fault in the order is told.
-#[test]
-fn refused(rt: HostRuntime) -> Result<(), Fail> {
-    for (call, file, line) in &refused_views() {
-        met(&rt, is_refused(rt.alloc(), call, *file, line)?);
-    }
-    for (call, file, line) in &refused_forms() {
-        met(&rt, is_refused(rt.alloc(), call, *file, line)?);
-    }
-    Ok(())
-}
-
-/// Whether a call is refused before its sink is called, which would fail.
-fn is_cut(alloc: Global, call: &Call) -> Result<bool, Fail> {
-    let run = make_call(alloc, alloc, call, Failing { sink: 1, ..NONE })?;
-    Ok(run.status == 1 && run.sink.held().is_empty())
-}
-
-/// Whether a call is refused where its file is cut, at each length.
-fn is_refused_cut(alloc: Global, call: &Call) -> Result<bool, Fail> {
-    let mut are_refused = true;
-    for length in 0..call.file.len() {
-        let file = &call.file[..length];
-        are_refused &= is_cut(alloc, &Call { file, ..*call })?;
-    }
-    Ok(are_refused)
-}
-
-/// Whether each of these calls is.
-fn are_refused_cut(alloc: Global, calls: &[Call]) -> Result<bool, Fail> {
-    let mut are_refused = true;
-    for call in calls {
-        are_refused &= is_refused_cut(alloc, call)?;
-    }
-    Ok(are_refused)
-}
-
-#[test]
-fn cut(rt: HostRuntime) -> Result<(), Fail> {
-    met(&rt, are_refused_cut(rt.alloc(), &conversions())?);
-    met(&rt, are_refused_cut(rt.alloc(), &views())?);
-    Ok(())
-}
-
-/// And where the picture that is held is cut.
-#[test]
-fn held_cut(rt: HostRuntime) -> Result<(), Fail> {
-    for length in 0..HELD.len() {
-        let call = Call {
-            held: Some(&HELD[..length]),
-            ..settled(b"1,2,3", Form::Raw)
-        };
-        met(&rt, is_cut(rt.alloc(), &call)?);
-    }
     Ok(())
 }

@@ -1,5 +1,5 @@
-//! Pictures in forms of other tools, read and written: texts and values that are worked out by
-//! hand, failing devices and refused growths. Tests.
+//! Pictures in forms of other tools, read and written: the words of faults, failing devices and
+//! refused growths. Tests, with texts that are worked out by hand.
 #![tactic(auto)]
 
 #[cfg(test)]
@@ -13,18 +13,6 @@ mod form_engines;
 #[cfg(test)]
 mod growths;
 #[cfg(test)]
-mod pixmaps;
-#[cfg(test)]
-mod planes;
-#[cfg(test)]
 mod reports;
 #[cfg(test)]
 mod sent_streams;
-#[cfg(test)]
-mod sinks;
-#[cfg(test)]
-mod stream_faults;
-#[cfg(test)]
-mod streams;
-#[cfg(test)]
-mod views;

@@ -1,8 +1,8 @@
-//! Sinks of what frames lack, and two sinks as one.
+//! Sinks of what frames lack, and two sinks as one, by devices that fail.
 use crate::checks::{met, sink};
 use follow_engine::PictureSink;
 use frame_assembly::Frame;
-use frame_sinks::{BothSinks, Filling, FormSink, ReportSink};
+use frame_sinks::{BothSinks, ReportSink};
 use run_outcome::Fault;
 use st_format::memory::MemorySink;
 use st_format::{Depth, Format, Sampling};
@@ -45,29 +45,7 @@ fn in_each_call(rt: HostRuntime) -> Result<(), Fail> {
     Ok(())
 }
 
-/// Two sinks are shown each frame one behind the other: where the first fails, the second has the
-/// frames before alone.
-#[test]
-fn both(rt: HostRuntime) -> Result<(), Fail> {
-    let pictures = FormSink::new(rt.alloc(), Filling::Fill, None, sink(rt.alloc())?);
-    let report = ReportSink {
-        sink: sink(rt.alloc())?,
-    };
-    let mut sinks = BothSinks {
-        first: pictures,
-        second: Some(report),
-    };
-    let shown = show_two(rt.alloc(), &mut sinks)?;
-    met(
-        &rt,
-        shown.is_ok() && sinks.first.sink.held().starts_with(b"YUV4MPEG2 W4 H2 "),
-    );
-    if let Some(report) = &sinks.second {
-        met(&rt, report.sink.held() == TWO);
-    }
-    Ok(())
-}
-
+/// Where the first of two sinks fails, the second has the frames before alone.
 #[test]
 fn first_fails(rt: HostRuntime) -> Result<(), Fail> {
     let mut sinks = BothSinks {

@@ -45,16 +45,15 @@ struct Run {
     printed: MemorySink,
 }
 
-/// A run over a stream whose read of this number fails, and a capture whose write of this number
+/// A run over the stream whose read of this number fails, and a capture whose write of this number
 /// does; none where it is 0.
 fn send_over<A: Allocator + Copy>(
     global: Global,
     alloc: A,
-    stream: &[u8],
     read: u64,
     write: u64,
 ) -> Result<Run, AllocError> {
-    let mut stream = source(global, stream, read)?;
+    let mut stream = source(global, STREAM, read)?;
     let mut written = MemorySink::new(Vec::with_capacity(global, 256)?, 7, write);
     let (mut printed, mut told) = (sink(global)?, sink(global)?);
     let status = run_send_stream(
@@ -75,12 +74,11 @@ fn send_over<A: Allocator + Copy>(
     })
 }
 
-/// A capture of these records.
-fn capture(global: Global, records: &[&[u8]]) -> Result<Vec<u8>, AllocError> {
+/// The capture of both.
+fn capture(global: Global) -> Result<Vec<u8>, AllocError> {
     let mut octets = Vec::from_slice(global, FRONT)?;
-    for record in records {
-        octets.extend_from_slice(record)?;
-    }
+    octets.extend_from_slice(FIRST)?;
+    octets.extend_from_slice(SECOND)?;
     Ok(octets)
 }
 
@@ -94,27 +92,6 @@ fn ended(run: &Run, written: &[u8], printed: &[u8]) -> bool {
     has_ended(run, 0, b"") && run.written.held() == written && run.printed.held() == printed
 }
 
-/// A head and no frame: nothing is written.
-#[test]
-fn no_picture(rt: HostRuntime) -> Result<(), Fail> {
-    let run = send_over(rt.alloc(), rt.alloc(), &STREAM[..35], 0, 0)?;
-    met(&rt, ended(&run, b"", b"sent 0\n"));
-    Ok(())
-}
-
-/// A stream that is cut in its second frame, in its header or its picture: the first is sent.
-#[test]
-fn cut(rt: HostRuntime) -> Result<(), Fail> {
-    let first = capture(rt.alloc(), &[FIRST])?;
-    for length in [58, 63, 80] {
-        let run = send_over(rt.alloc(), rt.alloc(), &STREAM[..length], 0, 0)?;
-        met(&rt, has_ended(&run, 1, b"st2110: form 7 Truncated\n"));
-        met(&rt, run.written.held() == first.as_slice());
-        met(&rt, run.printed.held().is_empty());
-    }
-    Ok(())
-}
-
 /// Whether a run failed by its device, printed nothing, and wrote a first part of this.
 fn failed(run: &Run, whole: &[u8]) -> bool {
     has_ended(run, 3, b"st2110: device\n")
@@ -125,20 +102,20 @@ fn failed(run: &Run, whole: &[u8]) -> bool {
 /// Each read, and each write, fails in turn, up to the one that isn't asked for.
 #[test]
 fn failing_devices(rt: HostRuntime) -> Result<(), Fail> {
-    let both = capture(rt.alloc(), &[FIRST, SECOND])?;
-    for nth in 1..1000 {
-        let run = send_over(rt.alloc(), rt.alloc(), STREAM, nth, 0)?;
-        if run.status == 0 {
-            break;
+    let both = capture(rt.alloc())?;
+    for (read, write) in [(1u64, 0u64), (0, 1)] {
+        for nth in 1..1000u64 {
+            let run = send_over(
+                rt.alloc(),
+                rt.alloc(),
+                nth.wrapping_mul(read),
+                nth.wrapping_mul(write),
+            )?;
+            if run.status == 0 {
+                break;
+            }
+            met(&rt, failed(&run, &both));
         }
-        met(&rt, failed(&run, &both));
-    }
-    for nth in 1..1000 {
-        let run = send_over(rt.alloc(), rt.alloc(), STREAM, 0, nth)?;
-        if run.status == 0 {
-            break;
-        }
-        met(&rt, failed(&run, &both));
     }
     Ok(())
 }
@@ -148,8 +125,8 @@ struct Sent;
 
 impl Wanting for Sent {
     fn answer(&self, global: Global, refusing: &Refusing<Global>) -> Result<Option<bool>, Fail> {
-        let both = capture(global, &[FIRST, SECOND])?;
-        let run = send_over(global, refusing, STREAM, 0, 0)?;
+        let both = capture(global)?;
+        let run = send_over(global, refusing, 0, 0)?;
         if has_ended(&run, 4, b"st2110: memory\n") {
             return Ok(None);
         }

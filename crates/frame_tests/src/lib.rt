@@ -1,5 +1,5 @@
-//! What no text of the program shows of the worked examples of docs/EXAMPLES.md, of lane kernels,
-//! pgroups, frames, pictures and receivers. Tests, with values that are worked out by hand.
+//! What no text of the program shows of frames, pictures and receivers: the words of faults, a device
+//! that fails, and refused growths. Tests, with values that are worked out by hand.
 #![tactic(auto)]
 
 #[cfg(test)]
@@ -7,29 +7,9 @@ mod checks;
 #[cfg(test)]
 mod faults;
 #[cfg(test)]
-mod groups;
-#[cfg(test)]
-mod held;
-#[cfg(test)]
-mod kernels;
-#[cfg(test)]
 mod listed;
 #[cfg(test)]
-mod packed_marks;
-#[cfg(test)]
-mod packing;
-#[cfg(test)]
 mod pictures;
-#[cfg(test)]
-mod rasters;
-#[cfg(test)]
-mod receivers;
-#[cfg(test)]
-mod rows;
-#[cfg(test)]
-mod sample_kernels;
-#[cfg(test)]
-mod settled_groups;
 #[cfg(test)]
 mod texts;
 #[cfg(test)]
@@ -38,5 +18,3 @@ mod turns;
 mod two_paths;
 #[cfg(test)]
 mod value_growths;
-#[cfg(test)]
-mod whole_groups;

@@ -1,6 +1,5 @@
 //! Two redundant paths (SMPTE ST 2022-7): receivers that are merged, windows that slide, and
-//! refusals that are kept, as tables of steps.
-ghost use Rattle.std.specs.Prelude.{◌≡◌, ◌↔◌, IsTrue};
+//! refusals that are kept, as tables of steps, without a growth.
 
 use crate::checks::met;
 use frame_assembly::{Counts, Frame};
@@ -36,8 +35,6 @@ const SECOND: Result<Taken, Refusal> = Ok(Taken::Kept(2));
 const OUTSIDE: Result<Taken, Refusal> = Ok(Taken::Outside);
 
 const SHORT: Refusal = Refusal::Header(RtpFault::ShortHeader);
-
-const VERSION: Refusal = Refusal::Header(RtpFault::BadVersion);
 
 const NONE: Counts = Counts {
     present: 0,
@@ -82,8 +79,6 @@ enum Step {
     Window(&'static [u32]),
     /// It keeps so many refusals.
     Refusals(usize),
-    /// The refusal at a place, where it keeps so many.
-    Refused(usize, Option<(Path, Refusal)>),
 }
 
 /// Two receivers of F1, payload type 96 and any source, and frames to slide out, the second of RGB.
@@ -138,7 +133,6 @@ impl<A: Allocator> Pair<A> {
             Step::Out(wanted) => self.out.counts() == *wanted,
             Step::Window(window) => self.near.window() == *window,
             Step::Refusals(count) => self.near.refusal_count() == *count,
-            Step::Refused(place, wanted) => refusal(&self.near, *place) == *wanted,
             _ => false,
         }
     }
@@ -151,15 +145,6 @@ impl<A: Allocator> Pair<A> {
             }
         }
         true
-    }
-}
-
-/// A refusal that is kept, or `None` where there are not so many.
-fn refusal<A: Allocator>(receiver: &Receiver<A>, place: usize) -> Option<(Path, Refusal)> {
-    if place < receiver.refusal_count() {
-        Some(receiver.refusal_at(place))
-    } else {
-        None
     }
 }
 
@@ -292,51 +277,5 @@ fn no_growth(rt: HostRuntime) -> Result<(), Fail> {
     ] {
         met(&rt, follows_without_growth(&refusing, steps)?);
     }
-    Ok(())
-}
-
-/// A receiver that refused nothing yet refuses an empty datagram, by A.
-const REFUSES: [Step; 3] = [
-    Step::Refused(0, None),
-    Step::Take(Path::A, b"", Err(SHORT)),
-    Step::Refused(0, Some((Path::A, SHORT))),
-];
-
-/// One more, by B; what is kept isn't among them.
-const REFUSES_MORE: [Step; 2] = [
-    Step::Take(Path::B, OTHER_VERSION, Err(VERSION)),
-    Step::Take(Path::A, UPPER, FIRST),
-];
-
-/// The last 64 are by B.
-const KEEPS: [Step; 3] = [
-    Step::Refused(0, Some((Path::B, VERSION))),
-    Step::Refused(63, Some((Path::B, VERSION))),
-    Step::Has(900, Some(HALF)),
-];
-
-/// Refuses one datagram more, and tells whether so many refusals are kept then.
-fn keeps(pair: &mut Pair, count: usize) -> bool {
-    pair.follows_all(&REFUSES_MORE) && pair.near.refusal_count() == count
-}
-
-/// Refuses 64 datagrams more, of which the last is the first that is kept in place of another.
-fn keeps_each(pair: &mut Pair) -> bool {
-    let mut is_kept = true;
-    for before in 1..65usize {
-        is_kept &= keeps(pair, (before + 1).min(64));
-    }
-    is_kept
-}
-
-/// The last 64 refusals stay, each with its path.
-fn keeps_refusals(pair: &mut Pair) -> bool {
-    pair.follows_all(&REFUSES) && keeps_each(pair) && pair.follows_all(&KEEPS)
-}
-
-#[test]
-fn last_refusals(rt: HostRuntime) -> Result<(), Fail> {
-    let mut pair = Pair::open(rt.alloc(), &[900])?;
-    met(&rt, keeps_refusals(&mut pair));
     Ok(())
 }

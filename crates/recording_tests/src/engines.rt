@@ -1,7 +1,5 @@
 //! Devices in memory for the engines of recordings, and how a run of one ended.
-use media_file::FileFault;
-use pcap_file::RecordingFault;
-use run_outcome::{Fault, Refusal};
+use run_outcome::Fault;
 use st_format::memory::{MemorySink, MemorySource};
 use std::alloc::{AllocError, Global};
 
@@ -10,39 +8,9 @@ pub fn source(global: Global, octets: &[u8]) -> Result<MemorySource, AllocError>
     Ok(MemorySource::new(Vec::from_slice(global, octets)?, 7, 0))
 }
 
-/// Sources of some files' octets, seven a call.
-pub fn sources(global: Global, files: &[&[u8]]) -> Result<Vec<MemorySource>, AllocError> {
-    let mut sources = Vec::new(global);
-    for octets in files {
-        sources.push(source(global, octets)?)?;
-    }
-    Ok(sources)
-}
-
 /// A sink that holds nothing yet.
 pub fn sink(global: Global) -> Result<MemorySink, AllocError> {
     Ok(MemorySink::new(Vec::with_capacity(global, 8192)?, 7, 0))
-}
-
-/// Whether a run ended by this fault of a capture.
-pub fn is_capture_fault(outcome: &Result<(), Fault>, fault: FileFault) -> bool {
-    match outcome {
-        Err(Fault::Refused(Refusal::Capture(told))) => *told == fault,
-        _ => false,
-    }
-}
-
-/// Whether it ended by this fault of a recording.
-pub fn is_recording_fault(outcome: &Result<(), Fault>, fault: RecordingFault) -> bool {
-    match outcome {
-        Err(Fault::Refused(Refusal::Recording(told))) => *told == fault,
-        _ => false,
-    }
-}
-
-/// Whether it ended since there is no SDP.
-pub fn lacks_sdp(outcome: &Result<(), Fault>) -> bool {
-    matches!(outcome, Err(Fault::Refused(Refusal::ReceiveNoSdp)))
 }
 
 /// How a run ended, what it wrote, and what it printed.

@@ -1,10 +1,7 @@
 //! A capture exported, against octets by hand.
-use crate::checks::met;
 use crate::engines::{Run, sink, source};
 use export_engine::{Exporting, export};
 use std::alloc::{AllocError, Allocator, Global};
-use std::process::Abort;
-use std::test::Fail;
 
 /// A capture of version 02 without a text: a record by A of two octets at 1.000000001 seconds, and
 /// one by B of none.
@@ -21,47 +18,22 @@ pub const RECORDING: &[u8] = b"\xa1\xb2\x3c\x4d\x00\x02\x00\x04\
     \x45\x00\x00\x1e\x00\x00\x40\x00\x40\x11\x88\xcb\xc0\x00\x02\x01\xef\x01\x01\x01\
     \x13\x8c\x13\x8c\x00\x0a\x25\xbc\x01\x02";
 
-/// A run of `export` by these flows.
-fn export_by<A: Allocator + Copy>(
-    global: Global,
-    alloc: A,
-    a: &[u8],
-    b: Option<&[u8]>,
-) -> Result<Run, AllocError> {
-    let mut capture = source(global, CAPTURE)?;
-    let (mut written, mut printed) = (sink(global)?, sink(global)?);
-    let wanted = Exporting { a, b };
-    let outcome = export(alloc, wanted, &mut capture, &mut written, &mut printed);
-    Ok(Run {
-        outcome,
-        written,
-        printed,
-    })
-}
-
 /// Whether path A's record alone is exported, or `None` where memory is wanted.
 pub fn is_exported<A: Allocator + Copy>(
     global: Global,
     alloc: A,
 ) -> Result<Option<bool>, AllocError> {
-    let run = export_by(global, alloc, b"239.1.1.1:5004", None)?;
+    let mut capture = source(global, CAPTURE)?;
+    let (mut written, mut printed) = (sink(global)?, sink(global)?);
+    let wanted = Exporting {
+        a: b"239.1.1.1:5004",
+        b: None,
+    };
+    let outcome = export(alloc, wanted, &mut capture, &mut written, &mut printed);
+    let run = Run {
+        outcome,
+        written,
+        printed,
+    };
     Ok(run.answered(RECORDING, b"exported 1 left out 1\n"))
-}
-
-/// Whether a run ended well, and wrote and printed what it does of both paths: the packet of path B
-/// has 58 octets, and none of data.
-fn has_both(run: &Run) -> bool {
-    let written = run.written.held();
-    matches!(run.outcome, Ok(()))
-        && written.starts_with(RECORDING)
-        && written.len() == RECORDING.len() + 58
-        && run.printed.held() == b"exported 2 left out 0\n".as_slice()
-}
-
-#[test]
-fn two_paths(rt: HostRuntime) -> Result<(), Fail> {
-    let b = b"239.1.1.2:5004".as_slice();
-    let run = export_by(rt.alloc(), rt.alloc(), b"239.1.1.1:5004", Some(b))?;
-    met(&rt, has_both(&run));
-    Ok(())
 }

@@ -1,17 +1,13 @@
-//! A recording read as a source of datagrams: cut at each octet, from a source that fails, and
-//! without memory.
+//! A recording and a capture of the same datagrams, read as sources of datagrams: from devices that
+//! fail, and without memory.
 use crate::checks::met;
 use crate::engines::source;
 use flow::{Flow, Flows};
-use media_file::FileFault;
-use pcap_file::RecordingFault;
-use recording_counts::LeftOut;
-use recording_reader::{DatagramReader, FileOpeningFault, ReadingFault, RecordView};
+use recording_reader::{DatagramReader, FileOpeningFault};
 use refusing::Refusing;
 use st_format::memory::MemorySource;
-use st_format::{DatagramSource, Path, SourceFault, Turn};
+use st_format::{DatagramSource, Path, Turn};
 use std::alloc::{AllocError, Allocator, Global};
-use std::process::Abort;
 use std::test::Fail;
 use test_kit::wanting::{Wanting, growths};
 
@@ -19,7 +15,7 @@ use test_kit::wanting::{Wanting, growths};
 /// IPv4 to port 5006, and a packet of TCP; at 0.000006 a datagram of one octet by IPv6, behind a
 /// header of options, to port 5004, and two octets behind it; and at 1.000007 one of no octets to
 /// port 5008, and one of two to port 5006.
-pub const RECORDING: &[u8] = b"\xa1\xb2\xc3\xd4\x00\x02\x00\x04\
+const RECORDING: &[u8] = b"\xa1\xb2\xc3\xd4\x00\x02\x00\x04\
     \x00\x00\x00\x00\x00\x00\x00\x00\x00\x04\x00\x00\x00\x00\x00\x65\
     \x00\x00\x00\x00\x00\x00\x00\x05\x00\x00\x00\x1f\x00\x00\x00\x1f\
     \x45\x00\x00\x1f\x00\x00\x40\x00\x40\x11\x00\x00\xc0\x00\x02\x01\xc0\x00\x02\x02\
@@ -39,15 +35,17 @@ pub const RECORDING: &[u8] = b"\xa1\xb2\xc3\xd4\x00\x02\x00\x04\
     \x45\x00\x00\x1e\x00\x00\x40\x00\x40\x11\x00\x00\xc0\x00\x02\x01\xc0\x00\x02\x02\
     \x13\x8c\x13\x8e\x00\x0a\x00\x00\x04\x05";
 
-/// The datagrams of the flows: path, moment in nanoseconds and octets.
-pub const DATAGRAMS: [(Path, u64, &[u8]); 3] = [
-    (Path::B, 5_000, &[7, 8, 9]),
-    (Path::A, 6_000, &[6]),
-    (Path::B, 1_000_007_000, &[4, 5]),
-];
+/// A capture of a text and of the same datagrams, with their moments.
+const CAPTURE: &[u8] = b"S20CAP02\x00\x03v=0\
+    \x01\x00\x00\x00\x00\x00\x00\x13\x88\x00\x03\x07\x08\x09\
+    \x00\x00\x00\x00\x00\x00\x00\x17\x70\x00\x01\x06\
+    \x01\x00\x00\x00\x00\x3b\x9a\xe5\x58\x00\x02\x04\x05";
+
+/// The datagrams of the flows: path, and octets.
+const DATAGRAMS: [(Path, &[u8]); 3] = [(Path::B, &[7, 8, 9]), (Path::A, &[6]), (Path::B, &[4, 5])];
 
 /// Path A by port 5004 and path B by port 5006, of any address.
-pub const FLOWS: Flows = Flows {
+const FLOWS: Flows = Flows {
     a: Some(Flow {
         interface: None,
         source: None,
@@ -62,209 +60,110 @@ pub const FLOWS: Flows = Flows {
     }),
 };
 
-/// How many datagrams came, and the fault behind them; `None` where another one came.
-pub type Came = Option<(usize, Option<SourceFault>)>;
-
-/// Whether a datagram is the one of this place.
-pub fn is_datagram(place: usize, path: Path, octets: &[u8]) -> bool {
-    match DATAGRAMS.get(place) {
-        Some((by, _, wanted)) => *by == path && *wanted == octets,
-        None => false,
+/// Whether a turn is the datagram of this place, whose octets stand in a buffer.
+fn is_datagram(place: usize, turn: Turn, buf: &[u8]) -> bool {
+    match (DATAGRAMS.get(place), turn) {
+        (Some((path, octets)), Turn::Datagram(by, count)) => {
+            by == *path && buf.get(..count) == Some(*octets)
+        }
+        _ => false,
     }
 }
 
-/// Whether a record is the one of this place, with its moment.
-pub fn is_record(place: usize, record: &RecordView<'_>) -> bool {
-    let moment = DATAGRAMS.get(place).map(|datagram| datagram.1);
-    moment == Some(record.moment) && is_datagram(place, record.path, record.octets)
-}
-
-/// What comes of a source of datagrams that is `DATAGRAMS` or a first part of them. The end or the
-/// fault comes twice.
-pub fn came<D: DatagramSource>(source: &mut D) -> Came {
+/// How many of the datagrams come of a source, and whether it then tells a fault, or else its end;
+/// each of these comes twice. `None` where another datagram comes.
+fn came<D: DatagramSource>(source: &mut D) -> Option<(usize, bool)> {
     let mut buf = [0u8; 65535];
     for place in 0..4usize {
         match source.next(&mut buf) {
-            Ok(Turn::Datagram(path, count)) if is_datagram(place, path, &buf[..count]) => {}
-            Ok(Turn::End) if source.next(&mut buf) == Ok(Turn::End) => return Some((place, None)),
-            Err(fault) if source.next(&mut buf) == Err(fault) => return Some((place, Some(fault))),
+            Ok(Turn::End) if source.next(&mut buf) == Ok(Turn::End) => return Some((place, false)),
+            Ok(turn) if is_datagram(place, turn, &buf) => {}
+            Err(fault) if source.next(&mut buf) == Err(fault) => return Some((place, true)),
             _ => return None,
         }
     }
     None
 }
 
-/// What comes of a source of octets as a file; the source is lent.
-fn read_lent(alloc: Global, source: &mut MemorySource) -> Result<Came, AllocError> {
-    let mut text = [0u8; 65535];
-    match DatagramReader::open(alloc, Some(FLOWS), source, &mut text) {
-        Ok(mut reader) => Ok(came(&mut reader)),
-        Err(failed) => unopened(failed.0),
-    }
-}
-
-/// What comes of a file that isn't opened; `None` where there are no flows for it.
-pub fn unopened(fault: FileOpeningFault) -> Result<Came, AllocError> {
-    let told = match fault {
-        FileOpeningFault::NoMemory => return Err(AllocError),
-        FileOpeningFault::NoFlows => return Ok(None),
-        FileOpeningFault::Reading(ReadingFault::Capture(FileFault::Device)) => SourceFault::Device,
-        FileOpeningFault::Reading(ReadingFault::Capture(fault)) => {
-            SourceFault::Content(fault.number())
-        }
-        FileOpeningFault::Reading(ReadingFault::Recording(RecordingFault::Device)) => {
-            SourceFault::Device
-        }
-        FileOpeningFault::Reading(ReadingFault::Recording(fault)) => {
-            SourceFault::Content(fault.number())
-        }
-    };
-    Ok(Some((0, Some(told))))
-}
-
-/// What comes of octets as a file in pieces of five, where a call of the source fails: it fails
-/// once at most.
-fn read(alloc: Global, octets: &[u8], fails_in: u64) -> Result<Came, AllocError> {
+/// What comes of octets as a file in pieces of five, where a call of the source fails: a device
+/// fails once at most.
+fn read(alloc: Global, octets: &[u8], fails_in: u64) -> Result<Option<(usize, bool)>, AllocError> {
     let mut source = MemorySource::new(Vec::from_slice(alloc, octets)?, 5, fails_in);
-    let came = read_lent(alloc, &mut source)?;
+    let mut text = [0u8; 65535];
+    let came = match DatagramReader::open(alloc, Some(FLOWS), &mut source, &mut text) {
+        Ok(mut reader) => came(&mut reader),
+        Err(_) => Some((0, true)),
+    };
     let failures = source.failures();
     Ok(if failures < 2 { came } else { None })
 }
 
-/// How many octets of the recording there are, how many datagrams then come, and the number of the
-/// fault behind them: none, and fewer than tell the kind, so a capture's fault; fewer than a file's
-/// head; the head alone; within a packet's head and its octets; up to each packet's end, and one
-/// fewer.
-const CUTS: [(usize, usize, Option<u8>); 15] = [
-    (0, 0, Some(5)),
-    (3, 0, Some(5)),
-    (23, 0, Some(2)),
-    (24, 0, None),
-    (39, 0, Some(2)),
-    (70, 0, Some(2)),
-    (71, 1, None),
-    (106, 1, Some(2)),
-    (107, 1, None),
-    (181, 1, Some(2)),
-    (182, 2, None),
-    (225, 2, Some(2)),
-    (226, 2, None),
-    (271, 2, Some(2)),
-    (272, 3, None),
-];
-
-/// Whether what was read is so many datagrams, and this fault behind them.
-pub fn is_so(read: Result<Came, AllocError>, datagrams: usize, fault: Option<SourceFault>) -> bool {
-    match read {
-        Ok(came) => came == Some((datagrams, fault)),
-        Err(_) => false,
-    }
-}
-
-/// A fault of what is read, by its number.
-pub fn content(number: Option<u8>) -> Option<SourceFault> {
-    match number {
-        Some(number) => Some(SourceFault::Content(number)),
-        None => None,
-    }
-}
-
-#[test]
-fn cut(rt: HostRuntime) {
-    for (count, datagrams, number) in CUTS {
-        let octets = RECORDING.get(..count).unwrap_or(&[]);
-        let read = read(rt.alloc(), octets, 0);
-        met(&rt, is_so(read, datagrams, content(number)));
-    }
-}
-
-/// The call of the source that fails, how many datagrams come before, and the fault behind them.
-/// Five are of the file's head; each packet has four of its head and one for each five of its
-/// octets; the last one tells the end.
-const FAILING: [(u64, usize, Option<SourceFault>); 6] = [
-    (5, 0, Some(SourceFault::Device)),
-    (16, 0, Some(SourceFault::Device)),
-    (24, 1, Some(SourceFault::Device)),
-    (60, 2, Some(SourceFault::Device)),
-    (61, 3, Some(SourceFault::Device)),
-    (62, 3, None),
+/// A file, the call of its source that fails, how many datagrams come before, and whether a fault
+/// is behind them. Five are of a recording's head; each packet has four of its head and one for
+/// each five of its octets. Two are of a capture's name and version, and two of the text; each
+/// record has one of its first octet, two of the others of its head, and one of its octets. The
+/// last one tells the end.
+const FAILING: [(&[u8], u64, usize, bool); 13] = [
+    (RECORDING, 5, 0, true),
+    (RECORDING, 16, 0, true),
+    (RECORDING, 24, 1, true),
+    (RECORDING, 60, 2, true),
+    (RECORDING, 61, 3, true),
+    (RECORDING, 62, 3, false),
+    (CAPTURE, 1, 0, true),
+    (CAPTURE, 4, 0, true),
+    (CAPTURE, 8, 0, true),
+    (CAPTURE, 9, 1, true),
+    (CAPTURE, 16, 2, true),
+    (CAPTURE, 17, 3, true),
+    (CAPTURE, 18, 3, false),
 ];
 
 #[test]
-fn failing_device(rt: HostRuntime) {
-    for (call, datagrams, fault) in FAILING {
-        let read = read(rt.alloc(), RECORDING, call);
-        met(&rt, is_so(read, datagrams, fault));
+fn failing_device(rt: HostRuntime) -> Result<(), Fail> {
+    for (octets, call, datagrams, fails) in FAILING {
+        met(
+            &rt,
+            read(rt.alloc(), octets, call)? == Some((datagrams, fails)),
+        );
     }
+    Ok(())
 }
 
-/// Reading one without copying.
+/// A file of the datagrams: a recording, or a capture.
 #[derive(Clone, Copy)]
-struct Borrowing;
-
-/// Whether a reader's next datagram is the one of this place, and is lent.
-fn is_lent<A: Allocator>(reader: &mut DatagramReader<A, MemorySource>, place: usize) -> bool {
-    if reader.advance() != Ok(true) {
-        return false;
-    }
-    match reader.record() {
-        Some(record) => is_record(place, &record) && reader.octets() == record.octets,
-        None => false,
-    }
+struct File {
+    octets: &'static [u8],
 }
 
-/// Whether each of them is.
-fn lends_each<A: Allocator>(reader: &mut DatagramReader<A, MemorySource>) -> bool {
-    for place in 0..3usize {
-        if !is_lent(reader, place) {
-            return false;
-        }
-    }
-    true
-}
-
-/// Whether a reader has come to its end, as often as it is asked, and has no datagram then.
-fn is_over<A: Allocator>(reader: &mut DatagramReader<A, MemorySource>) -> bool {
-    reader.advance() == Ok(false) && reader.advance() == Ok(false) && has_none(reader)
-}
-
-fn has_none<A: Allocator>(reader: &DatagramReader<A, MemorySource>) -> bool {
-    reader.record().is_none()
-        && reader.path().is_none()
-        && reader.moment().is_none()
-        && reader.octets().is_empty()
-}
-
-/// Whether a packet of TCP and a datagram of another flow were left out, and no more.
-fn has_left_out(left_out: &LeftOut) -> bool {
-    left_out.not_udp == 1 && left_out.other_flow == 1 && left_out.total() == 2
-}
-
-/// Whether the datagrams come so where they are borrowed, and others are counted by why; `None`
-/// where memory is wanted.
-fn is_borrowed<A: Allocator>(global: Global, alloc: A) -> Result<Option<bool>, AllocError> {
+/// Whether a file's datagrams come; `None` where memory is wanted, with its first four octets read.
+fn is_file<A: Allocator>(
+    global: Global,
+    alloc: A,
+    octets: &[u8],
+) -> Result<Option<bool>, AllocError> {
     let mut text = [0u8; 65535];
-    let source = source(global, RECORDING)?;
-    let mut reader = match DatagramReader::open(alloc, Some(FLOWS), source, &mut text) {
-        Ok(reader) => reader,
-        Err((FileOpeningFault::NoMemory, source)) if source.to_give() == &RECORDING[4..] => {
-            return Ok(None);
+    let source = source(global, octets)?;
+    match DatagramReader::open(alloc, Some(FLOWS), source, &mut text) {
+        Ok(mut reader) => Ok(Some(came(&mut reader) == Some((3, false)))),
+        Err((FileOpeningFault::NoMemory, source)) if Some(source.to_give()) == octets.get(4..) => {
+            Ok(None)
         }
-        Err(_) => return Ok(Some(false)),
-    };
-    Ok(Some(lends_each(&mut reader) && is_over(&mut reader) && has_left_out(&reader.left_out())))
-}
-
-impl Wanting for Borrowing {
-    fn answer(&self, global: Global, refusing: &Refusing<Global>) -> Result<Option<bool>, Fail> {
-        Ok(is_borrowed(global, refusing)?)
+        Err(_) => Ok(Some(false)),
     }
 }
 
-/// For a packet, and for nothing else.
+impl Wanting for File {
+    fn answer(&self, global: Global, refusing: &Refusing<Global>) -> Result<Option<bool>, Fail> {
+        Ok(is_file(global, refusing, self.octets)?)
+    }
+}
+
+/// For a packet or a record, and for nothing else.
 #[test]
-fn borrowed(rt: HostRuntime) -> Result<(), Fail> {
-    met(&rt, is_borrowed(rt.alloc(), rt.alloc())? == Some(true));
-    met(&rt, growths(rt.alloc(), &Borrowing)? == Some(1));
+fn of_either_kind(rt: HostRuntime) -> Result<(), Fail> {
+    for octets in [RECORDING, CAPTURE] {
+        met(&rt, growths(rt.alloc(), &File { octets })? == Some(1));
+    }
     Ok(())
 }

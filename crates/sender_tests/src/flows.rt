@@ -1,8 +1,7 @@
-//! Where the video of an SDP text is sent to, flows as texts, and the path of a datagram.
-use crate::checks::none_fails;
-use flow::{Flows, read_flow};
+//! Where the video of an SDP text is sent to, and flows as texts.
+use crate::checks::met;
+use flow::read_flow;
 use sdp_format::read_flows;
-use st_format::Path;
 use std::alloc::{AllocError, Global};
 use std::test::Fail;
 
@@ -164,190 +163,13 @@ fn shown(alloc: Global, text: &str) -> Result<String, AllocError> {
     }
 }
 
-/// The place of the first SDP text that is told as another.
-fn told_as_another(alloc: Global) -> Result<Option<u64>, AllocError> {
-    let mut place = 0u64;
+#[test]
+fn flows_and_their_texts(rt: HostRuntime) -> Result<(), Fail> {
     for (text, wanted) in &TEXTS {
-        if told(alloc, text)?.as_str() != *wanted {
-            return Ok(Some(place));
-        }
-        place = place.wrapping_add(1);
+        met(&rt, told(rt.alloc(), *text)?.as_str() == *wanted);
     }
-    Ok(None)
-}
-
-/// The place of the first text of a flow that is displayed as another.
-fn shown_as_another(alloc: Global) -> Result<Option<u64>, AllocError> {
-    let mut place = 0u64;
     for (text, wanted) in &FLOWS {
-        if shown(alloc, text)?.as_str() != *wanted {
-            return Ok(Some(place));
-        }
-        place = place.wrapping_add(1);
+        met(&rt, shown(rt.alloc(), *text)?.as_str() == *wanted);
     }
-    Ok(None)
-}
-
-#[test]
-fn flows_of_texts(rt: HostRuntime) -> Result<(), Fail> {
-    none_fails(&rt, told_as_another(rt.alloc())?);
-    none_fails(&rt, shown_as_another(rt.alloc())?);
     Ok(())
-}
-
-/// The address of which datagrams come that another isn't said of.
-const CAMERA: &[u8] = &[192, 0, 2, 1];
-
-/// Texts of two flows, the address that a datagram came from, the address and the port that it was
-/// sent to, and its path.
-const SENT: [(&str, &str, &[u8], &[u8], u16, Option<Path>); 12] = [
-    (
-        "5004",
-        "239.1.1.2:5006",
-        CAMERA,
-        &[239, 1, 1, 1],
-        5004,
-        Some(Path::A),
-    ),
-    (
-        "5004",
-        "239.1.1.2:5006",
-        CAMERA,
-        &[239, 1, 1, 2],
-        5006,
-        Some(Path::B),
-    ),
-    (
-        "5004",
-        "239.1.1.2:5006",
-        CAMERA,
-        &[239, 1, 1, 1],
-        5006,
-        None,
-    ),
-    (
-        "[ff3e::1]:5004",
-        "5004",
-        CAMERA,
-        &[0xff, 0x3e, 0, 0, 0, 0, 0, 0, 0, 0, 0, 0, 0, 0, 0, 1],
-        5004,
-        Some(Path::A),
-    ),
-    (
-        "[ff3e::1]:5004",
-        "5004",
-        CAMERA,
-        &[0xff, 0x3e, 0, 0, 0, 0, 0, 0, 0, 0, 0, 0, 0, 0, 0],
-        5004,
-        Some(Path::B),
-    ),
-    (
-        "192.0.2.1>239.1.1.1:5004",
-        "192.0.2.2>239.1.1.1:5004",
-        CAMERA,
-        &[239, 1, 1, 1],
-        5004,
-        Some(Path::A),
-    ),
-    (
-        "192.0.2.1>239.1.1.1:5004",
-        "192.0.2.2>239.1.1.1:5004",
-        &[192, 0, 2, 2],
-        &[239, 1, 1, 1],
-        5004,
-        Some(Path::B),
-    ),
-    (
-        "192.0.2.1>239.1.1.1:5004",
-        "192.0.2.2>239.1.1.1:5004",
-        &[192, 0, 2, 3],
-        &[239, 1, 1, 1],
-        5004,
-        None,
-    ),
-    (
-        "192.0.2.1>239.1.1.1:5004",
-        "239.1.1.1:5004",
-        &[192, 0, 2, 3],
-        &[239, 1, 1, 1],
-        5004,
-        Some(Path::B),
-    ),
-    (
-        "239.1.1.1:5004",
-        "192.0.2.1>239.1.1.1:5004",
-        CAMERA,
-        &[239, 1, 1, 1],
-        5004,
-        Some(Path::A),
-    ),
-    // It was taken at no interface that is known.
-    (
-        "eth0@239.1.1.1:5004",
-        "239.1.1.1:5004",
-        CAMERA,
-        &[239, 1, 1, 1],
-        5004,
-        Some(Path::B),
-    ),
-    // Source and destination the other way about.
-    (
-        "239.1.1.1>192.0.2.1:5004",
-        "5006",
-        CAMERA,
-        &[239, 1, 1, 1],
-        5004,
-        None,
-    ),
-];
-
-/// Texts of two flows, and whether both are one place.
-const PLACES: [(&str, &str, bool); 9] = [
-    ("[ff3e::1]:5004", "[FF3E:0::1]:5004", true),
-    ("[ff3e::1]:5004", "5004", false),
-    ("5004", "239.1.1.2:5006", false),
-    ("x", "x", false),
-    ("192.0.2.1>5004", "192.0.2.1>5004", true),
-    ("192.0.2.1>5004", "192.0.2.2>5004", false),
-    ("eth0@5004", "eth0@5004", true),
-    ("eth0@5004", "eth1@5004", false),
-    ("eth0@5004", "5004", false),
-];
-
-/// The flows of two texts.
-fn flows_of(a: &str, b: &str) -> Flows {
-    Flows {
-        a: read_flow(a.as_bytes()),
-        b: read_flow(b.as_bytes()),
-    }
-}
-
-/// The place of the first datagram that comes by another path.
-fn comes_otherwise() -> Option<u64> {
-    let mut place = 0u64;
-    for (a, b, source, address, port, path) in &SENT {
-        if flows_of(a, b).path_of(&None, source, address, *port) != *path {
-            return Some(place);
-        }
-        place = place.wrapping_add(1);
-    }
-    None
-}
-
-/// The place of the first two flows that are otherwise one place or two.
-fn stands_otherwise() -> Option<u64> {
-    let mut place = 0u64;
-    for (a, b, is_one) in &PLACES {
-        if flows_of(a, b).is_one_place() != *is_one {
-            return Some(place);
-        }
-        place = place.wrapping_add(1);
-    }
-    None
-}
-
-#[test]
-fn paths_of_datagrams(rt: HostRuntime) {
-    none_fails(&rt, comes_otherwise());
-    none_fails(&rt, stands_otherwise());
 }

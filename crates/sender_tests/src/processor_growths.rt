@@ -1,223 +1,151 @@
 //! Calls of the processor with each growth refused in turn; and then the same call with memory.
 use crate::checks::met;
-use crate::job_sending::{has_sent, merged};
-use crate::processing::{has_lumas, is_plain, plain};
 use bt709_fixed::{ColourFault, RangeKind, to_ycc422, to_ycc444};
 use key_mix::{Axis, Job, JobFault, WipeShape, key, run_job, wipe};
 use refusing::Refusing;
-use st_format::{Depth, Picture, Sampling};
+use st_format::{Depth, Format, Picture, Sampling};
 use std::alloc::{Allocator, Global};
 use std::process::Abort;
 use std::test::Fail;
 use test_kit::wanting::{Wanting, grows};
 
-/// A picture of one colour.
+/// A picture of 8 by 2 of one colour.
 type Plain = (Sampling, Depth, [u16; 3]);
 
-/// How a picture is made of one.
+/// How a picture is made of one, of two or of three.
 #[derive(Clone, Copy)]
 enum Way {
     ToYcc444,
     ToYcc422,
+    Wipe,
+    Key,
     Run(Job),
 }
 
-/// A picture of one colour, and the one that is made of it.
+/// A way, the colours of the pictures that it may take, and of the one that it makes.
 #[derive(Clone, Copy)]
-struct Single {
+struct Case {
     way: Way,
-    from: Plain,
+    from: [Plain; 3],
     to: Plain,
 }
 
-/// *matrix* of RGB of 10 bits.
-const OF_RGB: (Plain, Plain) = (
-    (Sampling::Rgb, Depth::D10, [940, 64, 64]),
-    (Sampling::Ycc444, Depth::D10, [250, 409, 960]),
-);
+/// *matrix*: RGB of 10 bits, and 4:2:2 of 4:4:4.
+const RGB: Plain = (Sampling::Rgb, Depth::D10, [940, 64, 64]);
 
-/// *matrix*, and 4:2:2 of 4:4:4.
-const OF_YCC444: (Plain, Plain) = (
-    (Sampling::Ycc444, Depth::D8, [235, 128, 128]),
-    (Sampling::Ycc422, Depth::D8, [235, 128, 128]),
-);
+const OF_RGB: Plain = (Sampling::Ycc444, Depth::D10, [250, 409, 960]);
 
-/// *gain-and-limit*: gain 8192 of 4:2:2 of 8 bits.
-const GAINED: (Plain, Plain) = (
-    (Sampling::Ycc422, Depth::D8, [100, 128, 255]),
-    (Sampling::Ycc422, Depth::D8, [184, 128, 254]),
-);
+const YCC444: Plain = (Sampling::Ycc444, Depth::D8, [235, 128, 128]);
 
-/// *gain-and-limit*: the nominal range of 4:4:4 of 10 bits.
-const LIMITED: (Plain, Plain) = (
-    (Sampling::Ycc444, Depth::D10, [0, 1023, 0]),
-    (Sampling::Ycc444, Depth::D10, [64, 960, 64]),
-);
+const OF_YCC444: Plain = (Sampling::Ycc422, Depth::D8, [235, 128, 128]);
 
-/// A picture of one colour, and what this way makes of it.
-const fn made_by(way: Way, colours: (Plain, Plain)) -> Single {
-    let (from, to) = colours;
-    Single { way, from, to }
-}
+/// *gain-and-limit*: gain 8192 of 4:2:2 of 8 bits, and the nominal range of 4:4:4 of 10 bits.
+const TO_GAIN: Plain = (Sampling::Ycc422, Depth::D8, [100, 128, 255]);
 
-/// Each way, by its own call and as a job.
-const SINGLES: [(Way, (Plain, Plain)); 6] = [
-    (Way::ToYcc444, OF_RGB),
-    (Way::ToYcc422, OF_YCC444),
-    (Way::Run(Job::ToYcc444), OF_RGB),
-    (Way::Run(Job::ToYcc422), OF_YCC444),
-    (Way::Run(Job::Gain(8192)), GAINED),
-    (Way::Run(Job::Limit(RangeKind::Nominal)), LIMITED),
+const GAINED: Plain = (Sampling::Ycc422, Depth::D8, [184, 128, 254]);
+
+const TO_LIMIT: Plain = (Sampling::Ycc444, Depth::D10, [0, 1023, 0]);
+
+const LIMITED: Plain = (Sampling::Ycc444, Depth::D10, [64, 960, 64]);
+
+/// *wipe-weights* at position 0, softness 0: the second picture.
+const SHAPE: WipeShape = WipeShape {
+    axis: Axis::Columns,
+    position: 0,
+    soft: 0,
+};
+
+const BLACK: Plain = (Sampling::Ycc422, Depth::D8, [16, 128, 16]);
+
+const WHITE: Plain = (Sampling::Ycc422, Depth::D8, [235, 128, 235]);
+
+/// *key-rounds*: the mix of luma 16 and 17 by luma 126, which is 17.
+const DARK: Plain = (Sampling::Ycc422, Depth::D8, [16, 1, 16]);
+
+const LIGHT: Plain = (Sampling::Ycc422, Depth::D8, [17, 1, 17]);
+
+const HALF: Plain = (Sampling::Ycc422, Depth::D8, [126, 0, 0]);
+
+/// Each way, by its own call and as a job: the pictures, the one that is made of them, and the
+/// least number of growths that it takes.
+const CASES: [(Way, [Plain; 3], Plain, u64); 10] = [
+    (Way::ToYcc444, [RGB; 3], OF_RGB, 1),
+    (Way::ToYcc422, [YCC444; 3], OF_YCC444, 1),
+    (Way::Run(Job::ToYcc444), [RGB; 3], OF_RGB, 1),
+    (Way::Run(Job::ToYcc422), [YCC444; 3], OF_YCC444, 1),
+    (Way::Run(Job::Gain(8192)), [TO_GAIN; 3], GAINED, 1),
+    (
+        Way::Run(Job::Limit(RangeKind::Nominal)),
+        [TO_LIMIT; 3],
+        LIMITED,
+        1,
+    ),
+    (Way::Wipe, [BLACK, WHITE, BLACK], WHITE, 2),
+    (Way::Run(Job::Wipe(SHAPE)), [BLACK, WHITE, BLACK], WHITE, 2),
+    (Way::Key, [DARK, LIGHT, HALF], LIGHT, 2),
+    (Way::Run(Job::Key), [DARK, LIGHT, HALF], LIGHT, 2),
 ];
 
-/// Whether a picture is of one colour, or `None` where memory was wanted for it.
-fn of_colour<A: Allocator>(
-    global: Global,
-    made: Result<Picture<A>, ColourFault>,
-    to: Plain,
-) -> Option<bool> {
-    let (sampling, depth, fill) = to;
-    match made {
-        Ok(picture) => Some(is_plain(global, &picture, sampling, depth, fill)),
-        Err(ColourFault::NoMemory) => None,
-        Err(_) => Some(false),
+/// A picture of one colour, 60 frames a second.
+fn filled(alloc: Global, colour: Plain) -> Result<Picture, Fail> {
+    let (sampling, depth, fill) = colour;
+    let format = Format::new(sampling, depth, 8, 2, 60, 1)?;
+    Ok(Picture::new(alloc, format, fill)?)
+}
+
+/// How many pictures a job takes.
+fn input_count(job: &Job) -> usize {
+    match job {
+        Job::Key => 3,
+        Job::Wipe(_) => 2,
+        _ => 1,
     }
 }
 
-/// The same of a job's picture.
-fn of_job<A: Allocator>(
+/// Whether a job's picture is of one colour, or `None` where memory was wanted for it.
+fn is_plain<A: Allocator>(
     global: Global,
     made: Result<Picture<A>, JobFault>,
     to: Plain,
-) -> Option<bool> {
-    let (sampling, depth, fill) = to;
-    match made {
-        Ok(picture) => Some(is_plain(global, &picture, sampling, depth, fill)),
+) -> Result<Option<bool>, Fail> {
+    let wanted = filled(global, to)?;
+    Ok(match made {
+        Ok(picture) => Some(picture.same(&wanted)),
         Err(JobFault::NoMemory) => None,
         Err(_) => Some(false),
-    }
+    })
 }
 
-impl Wanting for Single {
-    fn answer(&self, global: Global, refusing: &Refusing<Global>) -> Result<Option<bool>, Fail> {
-        let (sampling, depth, fill) = self.from;
-        let Some(input) = plain(global, sampling, depth, fill) else {
-            return Ok(Some(false));
-        };
-        Ok(match self.way {
-            Way::ToYcc444 => of_colour(global, to_ycc444(refusing, &input), self.to),
-            Way::ToYcc422 => of_colour(global, to_ycc422(refusing, &input), self.to),
-            Way::Run(job) => of_job(global, run_job(refusing, &job, &[input]), self.to),
-        })
-    }
-}
-
-#[test]
-fn singles(rt: HostRuntime) -> Result<(), Fail> {
-    for (way, colours) in SINGLES {
-        met(&rt, grows(rt.alloc(), &made_by(way, colours), 1)?);
-    }
-    Ok(())
-}
-
-/// A wipe, a key, or a job that is sent.
-#[derive(Clone, Copy)]
-enum Mixed {
-    /// *wipe-weights* at position 2, softness 4; as a job too.
-    Wipe,
-    WipeJob,
-    /// *key-rounds* at key luma 126; as a job too.
-    Key,
-    KeyJob,
-    /// *send-gain-one*.
-    Send,
-}
-
-const SHAPE: WipeShape = WipeShape {
-    axis: Axis::Columns,
-    position: 2,
-    soft: 4,
-};
-
-/// The lumas of each row of the wipe.
-const LUMAS: [u16; 8] = [16, 16, 16, 71, 126, 180, 235, 235];
-
-/// Whether a picture is the wipe, or `None` where memory was wanted for it.
-fn of_wipe<A: Allocator>(made: Result<Picture<A>, JobFault>) -> Option<bool> {
+/// The same of a colour's.
+fn coloured<A: Allocator>(made: Result<Picture<A>, ColourFault>) -> Result<Picture<A>, JobFault> {
     match made {
-        Ok(picture) => Some(has_lumas(&picture, &LUMAS)),
-        Err(JobFault::NoMemory) => None,
-        Err(_) => Some(false),
+        Ok(picture) => Ok(picture),
+        Err(fault) => Err(JobFault::from(fault)),
     }
 }
 
-/// A picture of 4:2:2, 8 bits, of one colour.
-fn of_eight_bits(global: Global, fill: [u16; 3]) -> Option<Picture> {
-    plain(global, Sampling::Ycc422, Depth::D8, fill)
-}
-
-/// The wipe from luma 16 to luma 235.
-fn wiped(global: Global, refusing: &Refusing<Global>, is_job: bool) -> Option<bool> {
-    let (Some(a), Some(b)) = (
-        of_eight_bits(global, [16, 128, 16]),
-        of_eight_bits(global, [235, 128, 235]),
-    ) else {
-        return Some(false);
-    };
-    let inputs = [a, b];
-    if is_job {
-        of_wipe(run_job(refusing, &Job::Wipe(SHAPE), &inputs))
-    } else {
-        of_wipe(wipe(refusing, &inputs[0], &inputs[1], SHAPE))
-    }
-}
-
-/// The mix of luma 16 and 17 by luma 126, which is 17.
-fn keyed(global: Global, refusing: &Refusing<Global>, is_job: bool) -> Option<bool> {
-    let (Some(a), Some(b), Some(by)) = (
-        of_eight_bits(global, [16, 1, 16]),
-        of_eight_bits(global, [17, 1, 17]),
-        of_eight_bits(global, [126, 0, 0]),
-    ) else {
-        return Some(false);
-    };
-    let inputs = [a, b, by];
-    let made = if is_job {
-        run_job(refusing, &Job::Key, &inputs)
-    } else {
-        key(refusing, &inputs[0], &inputs[1], &inputs[2])
-    };
-    of_job(global, made, (Sampling::Ycc422, Depth::D8, [17, 1, 17]))
-}
-
-impl Wanting for Mixed {
+impl Wanting for Case {
     fn answer(&self, global: Global, refusing: &Refusing<Global>) -> Result<Option<bool>, Fail> {
-        Ok(match self {
-            Mixed::Wipe => wiped(global, refusing, false),
-            Mixed::WipeJob => wiped(global, refusing, true),
-            Mixed::Key => keyed(global, refusing, false),
-            Mixed::KeyJob => keyed(global, refusing, true),
-            Mixed::Send => {
-                let receiver = merged(global)?;
-                has_sent(refusing, global, &receiver)
+        let [a, b, by] = self.from;
+        let inputs = [filled(global, a)?, filled(global, b)?, filled(global, by)?];
+        let made = match self.way {
+            Way::ToYcc444 => coloured(to_ycc444(refusing, &inputs[0])),
+            Way::ToYcc422 => coloured(to_ycc422(refusing, &inputs[0])),
+            Way::Wipe => wipe(refusing, &inputs[0], &inputs[1], SHAPE),
+            Way::Key => key(refusing, &inputs[0], &inputs[1], &inputs[2]),
+            Way::Run(job) => {
+                let count = input_count(&job).min(inputs.len());
+                run_job(refusing, &job, &inputs[..count])
             }
-        })
+        };
+        is_plain(global, made, self.to)
     }
 }
 
-/// Each of them, and the least number of growths that it takes.
-const CALLS: [(Mixed, u64); 5] = [
-    (Mixed::Wipe, 2),
-    (Mixed::WipeJob, 2),
-    (Mixed::Key, 2),
-    (Mixed::KeyJob, 2),
-    (Mixed::Send, 4),
-];
-
 #[test]
-fn mixes(rt: HostRuntime) -> Result<(), Fail> {
-    for (call, least) in &CALLS {
-        met(&rt, grows(rt.alloc(), call, *least)?);
+fn each_growth_refused(rt: HostRuntime) -> Result<(), Fail> {
+    for (way, from, to, least) in CASES {
+        met(&rt, grows(rt.alloc(), &Case { way, from, to }, least)?);
     }
     Ok(())
 }

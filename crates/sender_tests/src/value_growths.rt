@@ -1,10 +1,10 @@
 //! Calls of the library that want memory for pictures, plans, receivers, schedules, maps of packet
 //! numbers and SDP texts, with each growth refused in turn; and then the same call with memory.
 use crate::checks::met;
-use crate::number_map::{is_mapped, misses_six};
+use crate::number_map::{is_joined, is_mapped};
 use crate::rehearsals::is_played;
-use crate::sdp::is_written;
-use crate::sending::{gives_groups, gives_whole, p0};
+use crate::sdp::{is_located, is_written};
+use crate::sending::{is_pictured, is_planned, p0};
 use path_receiver::{OpenFault, Receiver, Taken};
 use refusing::Refusing;
 use st_format::{Path, PictureFault};
@@ -16,7 +16,7 @@ use test_kit::wanting::{Wanting, grows};
 
 /// Whether a copy of P0 equals it, or `None` where memory is wanted.
 fn is_copied<A: Allocator>(global: Global, alloc: A) -> Result<Option<bool>, Fail> {
-    let picture = p0(global)?;
+    let picture = p0(global, small()?)?;
     Ok(match picture.try_copy(alloc) {
         Ok(copy) => Some(copy.same(&picture)),
         Err(PictureFault::NoMemory) => None,
@@ -24,15 +24,15 @@ fn is_copied<A: Allocator>(global: Global, alloc: A) -> Result<Option<bool>, Fai
     })
 }
 
-/// A call for a picture, a plan of its packets, a receiver, receivers of a schedule, a map of packet
-/// numbers, or an SDP text.
+/// A call for a picture, a plan of its packets, a receiver, receivers of a schedule, a map of
+/// packet numbers, or an SDP text.
 #[derive(Clone, Copy)]
 enum Call {
-    /// *sender-sizes* at 42 octets, of a picture that is made.
+    /// *sender-sizes* at 24 octets, of a picture that is made.
     Picture,
     /// The copy of P0 of *copies-and-settling*.
     Copy,
-    /// *sender-sizes* at 24 octets, by a plan that is made.
+    /// The same, by a plan that is made.
     Plan,
     /// *first-datagram*, of a receiver of this window.
     Receiver(&'static [u32]),
@@ -40,10 +40,12 @@ enum Call {
     Schedule,
     /// *number-map*.
     Numbers,
-    /// The missing runs of a map of packet numbers, more than the first memory for them holds.
-    MissingRuns,
+    /// *numbers-of-two-paths*.
+    Joined,
     /// `read_sdp` and `fmtp_text` of *camera-sdp*.
     Line,
+    /// `read_located` of it.
+    Located,
 }
 
 /// Whether a receiver of a window takes *first-datagram*, or `None` where memory is wanted.
@@ -61,20 +63,21 @@ fn is_taken<A: Allocator + Copy>(alloc: A, window: &[u32]) -> Result<Option<bool
 impl Wanting for Call {
     fn answer(&self, global: Global, refusing: &Refusing<Global>) -> Result<Option<bool>, Fail> {
         match self {
-            Call::Picture => gives_whole(global, refusing),
+            Call::Picture => is_pictured(global, refusing),
             Call::Copy => is_copied(global, refusing),
-            Call::Plan => gives_groups(global, refusing),
+            Call::Plan => is_planned(global, refusing),
             Call::Receiver(window) => is_taken(refusing, *window),
             Call::Schedule => is_played(global, refusing),
             Call::Numbers => Ok(is_mapped(refusing)),
-            Call::MissingRuns => Ok(misses_six(global, refusing)),
+            Call::Joined => is_joined(global, refusing),
             Call::Line => Ok(is_written(refusing)),
+            Call::Located => Ok(is_located(refusing)),
         }
     }
 }
 
 /// Each call, and the least number of growths that it takes.
-const CALLS: [(Call, u64); 9] = [
+const CALLS: [(Call, u64); 10] = [
     (Call::Picture, 1),
     (Call::Copy, 1),
     (Call::Plan, 1),
@@ -82,8 +85,9 @@ const CALLS: [(Call, u64); 9] = [
     (Call::Receiver(&[900, 2400]), 3),
     (Call::Schedule, 8),
     (Call::Numbers, 2),
-    (Call::MissingRuns, 1),
+    (Call::Joined, 1),
     (Call::Line, 2),
+    (Call::Located, 1),
 ];
 
 #[test]

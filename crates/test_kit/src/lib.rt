@@ -1,11 +1,10 @@
-//! What the crates of worked examples share: formats, datagrams and texts of docs/EXAMPLES.md, the
-//! formulas of the processor, calls whose growths are refused, and what a fault says. What a test
-//! asserts stands in each of those crates, since only tests may end a process.
+//! What the crates of worked examples share: formats, datagrams and texts of docs/EXAMPLES.md,
+//! calls whose growths are refused, and what a fault says. What a test asserts stands in each of
+//! those crates, since only tests may end a process.
 #![tactic(auto)]
 
 pub mod camera;
 pub mod datagrams;
-pub mod formulas;
 pub mod picture_values;
 pub mod sending;
 pub mod small_format;
