@@ -4,7 +4,6 @@ use Rattle.std.proofs.Common.{refl, sym, ap, subst, ◌∙◌, arith, append_ass
 use Rattle.std.proofs.Common.{zero, suc, ◌≤◌, append-nil, drop, take}
 use Rattle.std.proofs.lemmas.List.{take_all}
 use Rattle.capture_engines.specs.Sent.{FirstIs}
-use Rattle.capture_engines.proofs.OneOf.{zip_drop}
 use Rattle.media_file.specs.StateFile.{state_text}
 use Rattle.receiver_file.specs.Saved.{kept_of}
 use Rattle.run_outcome.specs.Sources.{IsSourceText}
@@ -249,12 +248,6 @@ all_ended ways f start now k Before B files all same = (
   all_taken ways f start now k Before B files.0 all same,
   all_whole ways f start now k files.1 all same,
 )
-
--- those that are left are behind those that were taken
-pub pairs_left : {S : Type 0} (k : ℕ) (start now new : List S) → drop k now ≡ drop k start
-    → zip (drop k now) (drop k new) ≡ drop k (zip start new)
-pairs_left {S} k start now new behind =
-    ap (λ (l : List S). zip l (drop k new)) behind ∙ zip_drop k start new
 
 -- ---- the receiver that took them is written
 

@@ -28,7 +28,7 @@ use Rattle.st_format.specs.History.{IsRead, since}
 use Rattle.capture_engines.specs.Files.{HasFileText, first_way, flows_in, other_ways}
 use Rattle.capture_engines.specs.Files.{way_at}
 use Rattle.capture_engines.specs.Received.{FirstFileRefuses, HasCaptureFault}
-use Rattle.capture_engines.specs.Received.{IsCaptureBy, IsFileOpenedRefusal, IsFilesRefusal}
+use Rattle.capture_engines.specs.Received.{IsCaptureBy, IsFileOpenedRefusal}
 use Rattle.capture_engines.specs.Received.{IsFrontRefusal, IsOpeningRefusal}
 use Rattle.capture_engines.specs.Received.{IsTakeRefusal, OneFileIs, StopsFile}
 use Rattle.capture_engines.specs.Sent.{FirstIs}
@@ -267,16 +267,6 @@ file_refused {S} {T} window text w begun r at gave ended old new Taken Same (Err
         text_refused window text w begun (λ (s : S). gave (at s)) (λ (s : S). ended (at s)) r f by
         kind same given parts of.1
 
--- what stopped a file before its records refuses it
-pub unopened_refused : {T X : Type 0} (window : List ℕ) (w : Way) (begun : Option X)
-    (gave : T → List ℕ) (ended : T → Type 0) (old new now : T) (f : Fault) → new ≡ now
-    → OfRefusal f (StopsFile w (IsRead (gave old) (gave now) (ended now)))
-    → OfRefusal f (IsTakeRefusal window w begun (IsRead (gave old) (gave new) (ended new)))
-unopened_refused {T} window w begun gave ended old new now f same stops =
-    subst (λ (t : T). OfRefusal f (IsTakeRefusal window w begun
-    (IsRead (gave old) (gave t) (ended t)))) (sym same)
-    (of_refusal_map f (λ x is. inl is) stops)
-
 -- ---- files, one after the other
 
 -- either none was taken yet, or a receiver is open
@@ -295,12 +285,6 @@ both_first : {S : Type 0} (P : Type 0) (Is : S → Type 0) (xs : List S)
     → FirstIs (λ s. P × Is s) xs → P × FirstIs Is xs
 both_first P Is [] is = absurd is
 both_first P Is (x ∷ xs) is = is
-
--- the first is one of two
-either_first : {S : Type 0} (Is Are : S → Type 0) (xs : List S) → FirstIs (λ s. Is s ⊎ Are s) xs
-    → FirstIs Is xs ⊎ FirstIs Are xs
-either_first Is Are [] is = absurd is
-either_first Is Are (x ∷ xs) is = is
 
 -- the one of a place is one of all
 one_at : {S : Type 0} (Is : Way → S → Type 0) (ways : List (Result Flows Refusal)) (k : ℕ)
@@ -325,28 +309,6 @@ opened_first {S} window ways f k start rest before now same (inl started) r is =
 )
 opened_first window ways f k start rest before now same (inr started) r is =
     absurd (started is.0)
-
--- a refusal of the one that is taken next is one of all
-pub next_refuses : {S X : Type 0} (window : List ℕ) (ways : List (Result Flows Refusal))
-    (f : S → List ℕ → Type 0) (k : ℕ) (start rest : List S) (before begun : Option X)
-    → rest ≡ drop k start → HasStarted k before begun → (r : Refusal)
-    → FirstIs (λ s. IsTakeRefusal window (way_at ways k) begun (f s) r) rest
-    → IsFilesRefusal window before ways f start r
-next_refuses {S} window ways f k start rest before begun behind started r is =
-    by (either_first (λ s. StopsFile (way_at ways k) (f s) r)
-    (λ s. (begun ≡ None) × IsFileOpenedRefusal window (way_at ways k) (f s) r) rest is)
-  where
-    by : FirstIs (λ s. StopsFile (way_at ways k) (f s) r) rest
-        ⊎ FirstIs (λ s. (begun ≡ None) × IsFileOpenedRefusal window (way_at ways k) (f s) r) rest
-        → IsFilesRefusal window before ways f start r
-    by (inl stops) =
-        inl (one_at (λ w s. StopsFile w (f s) r) ways k start
-        (subst (λ (ys : List S). FirstIs (λ s. StopsFile (way_at ways k) (f s) r) ys) behind
-        stops))
-    by (inr opened) =
-        inr (opened_first window ways f k start rest before begun behind started r
-        (both_first (begun ≡ None)
-        (λ s. IsFileOpenedRefusal window (way_at ways k) (f s) r) rest opened))
 
 -- where no receiver is open at the end, no file was there
 pub none_started : {S X : Type 0} (k : ℕ) (start : List S) (before now : Option X)

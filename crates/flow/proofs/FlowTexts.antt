@@ -520,26 +520,6 @@ pub host_v6 : (text inside : List ℕ) (a : Ipv6Addr) → text ≡ codes "[" ++ 
     → IsIpv6Text inside a → Finds IsHost text (Some (V6 a))
 host_v6 text inside a e h = found IsHost text (host_once text) (V6 a) (inside, e, h)
 
-no_host_of : (text : List ℕ) → ((a : Ipv4Addr) → IsIpv4Text text a → ⊥)
-    → ((inside : List ℕ) (a : Ipv6Addr) → text ≡ codes "[" ++ inside ++ codes "]"
-    → IsIpv6Text inside a → ⊥) → (a : IpAddr) → IsHost text a → ⊥
-no_host_of text no_v4 no_v6 (V4 a) h = no_v4 a h
-no_host_of text no_v4 no_v6 (V6 a) h = no_v6 h.0 a h.1 h.2
-
-pub host_without_brackets : (text : List ℕ) → ((a : Ipv4Addr) → IsIpv4Text text a → ⊥)
-    → ((inside : List ℕ) → text ≡ codes "[" ++ inside ++ codes "]" → ⊥) → Finds IsHost text None
-host_without_brackets text no_v4 none =
-    missed IsHost text (no_host_of text no_v4 (λ inside a e h. none inside e))
-
-pub host_in_brackets : (text inside : List ℕ) → text ≡ codes "[" ++ inside ++ codes "]"
-    → ((a : Ipv4Addr) → IsIpv4Text text a → ⊥) → ((a : Ipv6Addr) → IsIpv6Text inside a → ⊥)
-    → Finds IsHost text None
-host_in_brackets text inside e no_v4 no_v6 =
-    missed IsHost text
-    (no_host_of text no_v4
-    (λ other a f h. no_v6 a
-    (subst (λ t. IsIpv6Text t a) (bracketed_once other inside (sym f ∙ e)) h)))
-
 -- ---- what is written is read again
 
 port_decimal : (port : ℕ) → port < 2 ^ 16 → IsPort (decimal port) port

@@ -2,7 +2,7 @@
 use Rattle.std.proofs.Common.{◌≡◌, ℕ, zero, suc, ◌≤◌, ◌⊎◌, inl, inr, Bool, true, false, cond}
 use Rattle.std.proofs.Common.{eqb, List, [], ◌∷◌, ◌++◌, length, map, drop, Option, None, Some, Result}
 use Rattle.std.proofs.Common.{Ok, Err, refl, sym, ap, ◌∙◌, subst, arith, append-nil}
-use Rattle.std.specs.Prelude.{slice_get, ◌&&◌}
+use Rattle.std.specs.Prelude.{◌&&◌}
 use Rattle.std.specs.List.{flat_map, insert, list_all}
 use Rattle.std.proofs.lemmas.Bool.{cases_eq, eq-eqb, eqb-true, eqb-false, ne_eqb}
 use Rattle.std.proofs.lemmas.List.Concat.{flat_map-append}
@@ -10,7 +10,7 @@ use Rattle.st_format.specs.Member.{IsMember}
 use Rattle.st_format.specs.Offer.{Offer}
 use Rattle.st_format.specs.Raster.{Raster, blank, joined_rasters, raster_of}
 use Rattle.path_receiver.specs.declared.answer.Refusal.{Refusal}
-use Rattle.path_receiver.specs.Frames.{frame_at, frames_of, joined_frames}
+use Rattle.path_receiver.specs.Frames.{frame_at, joined_frames}
 use Rattle.path_receiver.specs.Grammar.{Datagram}
 use Rattle.path_receiver.specs.Offers.{offers, offers_of}
 use Rattle.path_receiver.specs.Opening.{AreDifferent, Opening}
@@ -285,29 +285,6 @@ since_more s t octets is same ts ds came m =
     (subst (λ (u : Following). IsMember ts u.opening.window) same m))
 
 -- ---- the oldest goes
-
-frame_first : (w : List ℕ) (rs : List Raster) (first : ℕ) (r : Raster)
-    → slice_get w 0 ≡ Some first → slice_get rs 0 ≡ Some r → frame_at w rs first ≡ Some r
-frame_first [] rs first r e f = absurd cc
-frame_first (t ∷ w) [] first r e f = absurd cc
-frame_first (t ∷ w) (q ∷ rs) first r e f =
-    let same : first ≡ t = cc in
-    let is : q ≡ r = cc in
-    ap (chosen q w rs first) (eq-eqb first t same) ∙ ap (λ (x : Raster). Some x) is
-
-is_frame : (r : Option Raster) (o : Opening) (ds : List (List ℕ)) (ts : ℕ) (q : Raster)
-    → r ≡ Some q → IsFrameAt r o ds ts → q ≡ frame_of o ds ts
-is_frame None o ds ts q e is = absurd cc
-is_frame (Some r) o ds ts q e is = let same : r ≡ q = cc in sym same ∙ is
-
--- The oldest frame is that of what came since it came in.
-pub since_handed : (s : Following) (first : ℕ) (r : Raster) → slice_get s.opening.window 0 ≡ Some first
-    → slice_get s.frames 0 ≡ Some r → (ds : List (List ℕ)) → CameSince s first ds
-    → frames_of (with_window s.opening (first ∷ [])) ds ≡ r ∷ []
-since_handed s first r e f ds came =
-    ap (λ (q : Raster). q ∷ [])
-    (sym (is_frame (frame_at s.opening.window s.frames first) s.opening ds first r
-    (frame_first s.opening.window s.frames first r e f) came))
 
 rest_at : (w : List ℕ) (rs : List Raster) (ts : ℕ) → AreDifferent w → length rs ≡ length w
     → IsMember ts (drop 1 w) → frame_at (drop 1 w) (drop 1 rs) ts ≡ frame_at w rs ts

@@ -635,15 +635,3 @@ whole_stream o size ahead xs some timed orderly =
     goes o size ahead some xs [] timed orderly [] [] None
     (record { times = refl; room = omega arith; last_is = refl }) in
     h.handed ∙ ap (λ (us : List ℕ). map (handed_at o xs) us) (sym h.order)
-
--- So a sink is shown that, where it is shown what a new follower hands out.
-pub stream_shown : (s : Following) (o : Opening) (xs : List Timed) (ds : List (List ℕ))
-    (old new : List Handed) → 0 < s.size → new ≡ old ++ handed_out s ds → s ≡ opened o s.size s.most_ahead
-    → octets_of xs ≡ ds → AreTimed o xs → IsOrderly s.size s.most_ahead (times_of o xs)
-    → new ≡ old ++ map (handed_at o xs) (in_order (times_of o xs))
-stream_shown s o xs ds old new some shown same octets timed orderly =
-    shown
-    ∙ ap (λ (hs : List Handed). old ++ hs)
-    (ap (λ (t : Following). handed_out t ds) same
-    ∙ ap (λ (es : List (List ℕ)). handed_out (opened o s.size s.most_ahead) es) (sym octets)
-    ∙ whole_stream o s.size s.most_ahead xs some timed orderly)

@@ -4,15 +4,13 @@ use Rattle.std.proofs.Common.{◌∷◌, ◌++◌, length, map, drop, take, None
 use Rattle.std.proofs.Common.{◌∙◌, subst, arith, append_assoc, append-nil}
 use Rattle.std.proofs.lemmas.Bool.{false≢true}
 use Rattle.std.specs.Prelude.{slice_get}
-use Rattle.st_format.specs.Device.{AreOctets}
 use Rattle.st_format.specs.Raster.{Raster}
 use Rattle.path_receiver.specs.declared.answer.Refusal.{Refusal}
 use Rattle.path_receiver.specs.Opening.{Opening}
 use Rattle.following.specs.declared.answer.Followed.{Followed}
-use Rattle.following.specs.declared.answer.Followed.TheVariants.{Due}
 use Rattle.following.specs.Acts.{Act, AreNearby, NoneLost, handed_by, taken_of}
 use Rattle.following.specs.Acts.Act.{Takes, Hands}
-use Rattle.following.specs.Follower.{Following, IsFollower, answer_to, opened, state_after}
+use Rattle.following.specs.Follower.{Following, answer_to, opened, state_after}
 use Rattle.following.specs.Follower.{without_oldest}
 use Rattle.following.specs.Following.{Handed, frames_in, handed_before, handed_out, is_due}
 use Rattle.following.specs.Following.{with_timestamps}
@@ -22,13 +20,11 @@ use Rattle.following.specs.declared.fault.StreamFault.TheVariants.{Source, Sink}
 use Rattle.path_receiver.specs.declared.receiving.Received.{Received}
 use Rattle.following.specs.Times.{AreTimed, IsOrderly, Timed, handed_at, in_order, octets_of, times_of}
 use Rattle.following.specs.Turned.{answer_in, answers_in, complete_count, early_count}
-use Rattle.following.specs.Turned.{first_complete, goes_early, handed_as, handed_early, handed_in}
+use Rattle.following.specs.Turned.{first_complete, goes_early, handed_early, handed_in}
 use Rattle.following.specs.Turned.{handed_while, is_complete, state_behind, state_early, state_taken}
 use Rattle.following.specs.Turned.{turned, without_first}
 use Rattle.following.proofs.Early.{none_lost}
 use Rattle.following.proofs.Streams.{whole_stream}
-use Rattle.following.proofs.Taken.{due_iff}
-use Rattle.following.proofs.Turns.{never_due}
 
 -- ---- one turn
 
@@ -58,31 +54,7 @@ pub answer-on : (s : Following) (octets : List ℕ) → is_due s octets ≡ fals
     → answer_in s octets ≡ answer_to s octets
 answer-on s octets due = ap (λ (b : Bool). answer_to (cond b (without_oldest s) s) octets) due
 
--- Where the oldest went, nothing is due.
-pub never_again : (s t : Following) (octets : List ℕ) (r : Result Followed Refusal) → IsFollower s
-    → IsFollower t → t ≡ without_oldest s → AreOctets octets → r ≡ answer_to t octets → r ≡ Ok Due
-    → ⊥
-never_again s t octets r is also same fit answer due =
-    never_due s t octets is same ((due_iff t octets r also fit answer).0 due)
-
 -- ---- the oldest, if one goes
-
-handed_first : (w : List ℕ) (rs : List Raster) (first : ℕ) (r : Raster)
-    → slice_get w 0 ≡ Some first → slice_get rs 0 ≡ Some r
-    → handed_as (Some first) r ≡ take 1 (with_timestamps w rs)
-handed_first [] rs first r e f = absurd cc
-handed_first (t ∷ w) [] first r e f = absurd cc
-handed_first (t ∷ w) (q ∷ rs) first r e f =
-    let same : t ≡ first = cc in
-    let is : q ≡ r = cc in
-    sym (ap (λ (x : ℕ). handed_as (Some x) q) same ∙ ap (λ (x : Raster). handed_as (Some first) x) is)
-
-pub handed_some : (s : Following) (first : ℕ) (r : Raster) → slice_get s.opening.window 0 ≡ Some first
-    → slice_get s.frames 0 ≡ Some r → handed_as (Some first) r ≡ take 1 (frames_in s)
-handed_some s first r e f = handed_first s.opening.window s.frames first r e f
-
-pub handed_none : (s : Following) → s.opening.window ≡ [] → [] ≡ take 1 (frames_in s)
-handed_none s e = sym (ap (λ (w : List ℕ). take 1 (with_timestamps w s.frames)) e)
 
 pub complete_none : (rs : List Raster) → slice_get rs 0 ≡ None → first_complete rs ≡ false
 unfolding first_complete

@@ -1,5 +1,5 @@
 -- A datagram taken in its turn.
-use Rattle.std.proofs.Common.{◌≡◌, ℕ, Bool, true, false, cond, List, [], take, Result, Ok}
+use Rattle.std.proofs.Common.{◌≡◌, ℕ, Bool, true, false, List, Result, Ok}
 use Rattle.std.proofs.Common.{Err, refl, sym, ap, ◌∙◌, subst, arith, length, drop, ◌<◌, ◌≤◌}
 use Rattle.std.proofs.Common.{length-drop}
 use Rattle.following.specs.Taking.{IsDueFor}
@@ -13,8 +13,8 @@ use Rattle.following.specs.declared.standing.Standing.TheVariants.{Beyond, Insid
 use Rattle.following.specs.declared.standing.Standing.TheVariants.{Nowhere}
 use Rattle.following.specs.Follower.{Following, answer_to, followed_at, reading_of, standing_of}
 use Rattle.following.specs.Follower.{IsFollower, without_oldest}
-use Rattle.following.specs.Following.{frames_in, handed_before, is_due, is_due_answer}
-use Rattle.following.specs.Following.{is_due_by, is_waiting, ready_for, waits_for}
+use Rattle.following.specs.Following.{is_due, is_due_answer}
+use Rattle.following.specs.Following.{is_due_by, is_waiting, waits_for}
 
 waiting_answer : (number : ℕ) (x : Standing) → is_waiting x ≡ is_due_by (followed_at number x)
 waiting_answer number (Inside p) = refl
@@ -49,15 +49,6 @@ due_is s octets r b answer is h = (
   due_from r (sym is ∙ h),
   is_due-answer s octets ∙ ap is_due_answer (sym answer) ∙ sym is ∙ h,
 )
-
-pub ready_due : (s t : Following) (octets : List ℕ) → is_due s octets ≡ true
-    → t ≡ without_oldest s → ready_for s octets ≡ t
-ready_due s t octets due same =
-    ap (λ (b : Bool). cond b (without_oldest s) s) due ∙ sym same
-
-pub before_due : (s : Following) (octets : List ℕ) → is_due s octets ≡ true
-    → handed_before s octets ≡ take 1 (frames_in s)
-before_due s octets due = ap (λ (b : Bool). cond b (take 1 (frames_in s)) []) due
 
 -- ---- never twice
 

@@ -168,11 +168,6 @@ put_more old mid new page page' page'' here first rest whole p e q = record {
       append_assoc p.text first rest ∙ ap (λ (t : List ℕ). p.text ++ t) (sym e) ∙ p.all;
 }
 
-pub put_same : (old new : SinkTold) (page page' here rest whole : List ℕ)
-    → IsPut old new page page' here whole → here ≡ rest → IsPut old new page page' rest whole
-put_same old new page page' here rest whole p e =
-    subst (λ (t : List ℕ). IsPut old new page page' t whole) e p
-
 pub put_cut : (old mid new : SinkTold) (page page' here first rest whole : List ℕ)
     → IsPut old mid page page' here whole → here ≡ first ++ rest
     → TakesPart mid new (page' ++ first) → TakesPart old new (page ++ whole)

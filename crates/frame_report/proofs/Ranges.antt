@@ -1,6 +1,6 @@
 -- Texts of numbers, one after the other.
 use Rattle.std.proofs.Common.{◌≡◌, ℕ, zero, suc, ◌+◌, ◌-◌, ◌<◌, ◌≤◌, List, [], ◌∷◌, ◌++◌, length}
-use Rattle.std.proofs.Common.{map, drop, get_or, refl, ap, ◌∙◌, arith}
+use Rattle.std.proofs.Common.{drop, get_or, refl, ap, ◌∙◌, arith}
 use Rattle.std.specs.List.{flat_map, range_with_len}
 use Rattle.std.proofs.lemmas.List.{drop_all, drop_more}
 
@@ -33,15 +33,6 @@ items_here f xs i lt = ap (flat_map f) (drop_more xs i 0 lt)
 pub items_end : (f : ℕ → List ℕ) (xs : List ℕ) (i : ℕ) → length xs ≤ i
     → flat_map f (drop i xs) ≡ []
 items_end f xs i le = ap (flat_map f) (drop_all i xs le)
-
--- numbers that are mapped, and those behind a first one
-pub texts_mapped : {A : Type 0} (f : A → List ℕ) (h : ℕ → A) (b c a n : ℕ) → a ≡ b + c
-    → flat_map f (map h (range_with_len a n)) ≡ flat_map (λ i. f (h (b + i))) (range_with_len c n)
-texts_mapped f h b c a zero e = refl
-texts_mapped f h b c a (suc n) e =
-    let next : a + 1 ≡ b + (c + 1) = omega (arith, e) in
-    ap (λ (k : ℕ). f (h k) ++ flat_map f (map h (range_with_len (a + 1) n))) e
-    ∙ ap (λ (t : List ℕ). f (h (b + c)) ++ t) (texts_mapped f h b (c + 1) (a + 1) n next)
 
 -- texts of which none has an octet
 pub texts_none : (f : ℕ → List ℕ) (a n : ℕ)

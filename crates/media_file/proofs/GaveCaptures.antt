@@ -6,7 +6,6 @@ use Rattle.st_format.specs.Device.{AreOctets}
 use Rattle.st_format.specs.History.{GrewFrom, IsRead}
 use Rattle.media_file.specs.declared.capture.Capture.{Capture}
 use Rattle.media_file.specs.declared.fault.FileFault.{FileFault}
-use Rattle.media_file.specs.declared.fault.FileFault.TheVariants.{NoMemory}
 use Rattle.media_file.specs.Capture.{Content, IsCapture, capture_seen, capture_walk}
 use Rattle.media_file.specs.Capture.{records_at}
 use Rattle.media_file.specs.CaptureFaults.{IsCaptureFault}
@@ -19,10 +18,9 @@ use Rattle.media_file.proofs.CaptureFaults.{capture_wrong}
 use Rattle.media_file.proofs.Found.{found_read}
 use Rattle.media_file.proofs.Gave.{fault_grew, fault_read}
 use Rattle.media_file.proofs.Gave.{whole_grew, whole_read}
-use Rattle.media_file.proofs.GaveLoops.{fails_memory}
 use Rattle.media_file.proofs.Loops.{capture_cut, capture_fails, capture_gives}
 use Rattle.media_file.proofs.Splits.{only_read}
-use Rattle.st_format.proofs.Gave.{fault_of, fault_one, fault_two, grew_twice}
+use Rattle.st_format.proofs.Gave.{fault_one, fault_two, grew_twice}
 
 -- ---- its front and its records
 
@@ -50,13 +48,6 @@ pub capture_gave_wrong : (limit : ℕ) (a b c text : List ℕ) (ended : Type 0) 
 capture_gave_wrong limit a b c text ended f g h =
     fault_two file_fault_origin front_at (records_at limit) (capture_walk limit) text a b c ended f
     (λ was mid p q. capture_fails limit was mid text f p q) g h
-
--- the memory failed behind its front
-pub capture_gave_memory : (limit : ℕ) (a b text : List ℕ) (ended : Type 0)
-    → GaveValue front_at a b text → GaveFault (capture_walk limit) a b ended NoMemory
-capture_gave_memory limit a b text ended g =
-    fault_of file_fault_origin front_at (capture_walk limit) text a b ended NoMemory
-    (λ was left p. fails_memory (capture_walk limit) was) g
 
 -- ---- what was read
 

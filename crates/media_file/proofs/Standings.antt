@@ -15,13 +15,6 @@ use Rattle.media_file.specs.Source.{FailsRecord, GivesRecords, ReadsEnd, ReadsRe
 
 -- ---- records that a source gave
 
-pub no_records : (told : Option (List ℕ)) → GivesRecords 0 told told
-no_records told = record { records = []; fit = tt; counted = refl; given = nothing told }
-  where
-    nothing : (told : Option (List ℕ)) → Consumes told told []
-    nothing None = tt
-    nothing (Some octets) = refl
-
 pub one_record : (old new : Option (List ℕ)) (e : Entry) → ReadsRecord old new e
     → GivesRecords 1 old new
 one_record old new e read = record {
@@ -62,9 +55,6 @@ more_records k n a b c first then = record {
 }
 
 -- ---- what was delivered
-
-pub none_delivered : (told : Option (List ℕ)) → HasDelivered 0 told told
-none_delivered told = record { count = 0; counted = refl; gave = no_records told }
 
 -- one record more
 one_delivered : (delivered now : ℕ) (began old new : Option (List ℕ)) (e : Entry)

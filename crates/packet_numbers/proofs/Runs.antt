@@ -3,7 +3,7 @@ use Rattle.std.proofs.Common.{◌≡◌, ℕ, zero, suc, ◌+◌, ◌-◌, ◌%�
 use Rattle.std.proofs.Common.{List, [], ◌∷◌, ◌++◌, length, map, get_or, drop, refl, sym, ap, ◌∙◌}
 use Rattle.std.proofs.Common.{subst, inl, inr, arith}
 use Rattle.std.proofs.lemmas.Bool.{lt-ltb, le-ltb, cases_lt, cases_eq, false≢true}
-use Rattle.std.proofs.lemmas.List.{drop_more, drop_all, length-drop, append-nil}
+use Rattle.std.proofs.lemmas.List.{drop_more, length-drop, append-nil}
 use Rattle.std.specs.List.Sorted.{IsStrictlyIncreasing}
 use Rattle.st_format.specs.Member.{IsMember}
 use Rattle.st_format.proofs.Members.{member_left, member_right, member_cases, member-map}
@@ -21,14 +21,6 @@ closed_some start end lt = rw (lt-ltb start end lt) refl
 pub closed_none : (start end : ℕ) → end ≤ start → closed_run start end ≡ []
 closed_none start end le = rw (le-ltb start end le) refl
 
-pub runs_closed : (flags : List Bool) (start place : ℕ) → place < length flags
-    → get_or flags place false ≡ true
-    → runs_from start place (drop place flags)
-    ≡ closed_run start place ++ runs_from (place + 1) (place + 1) (drop (place + 1) flags)
-runs_closed flags start place lt e =
-    ap (runs_from start place) (drop_more flags place false lt)
-    ∙ ap (λ (b : Bool). runs_from start place (b ∷ drop (place + 1) flags)) e
-
 pub runs_on : (flags : List Bool) (start place : ℕ) → place < length flags
     → get_or flags place false ≡ false
     → runs_from start place (drop place flags)
@@ -36,10 +28,6 @@ pub runs_on : (flags : List Bool) (start place : ℕ) → place < length flags
 runs_on flags start place lt e =
     ap (runs_from start place) (drop_more flags place false lt)
     ∙ ap (λ (b : Bool). runs_from start place (b ∷ drop (place + 1) flags)) e
-
-pub runs_end : (flags : List Bool) (start place : ℕ) → length flags ≤ place
-    → runs_from start place (drop place flags) ≡ closed_run start place
-runs_end flags start place le = ap (runs_from start place) (drop_all place flags le)
 
 -- ---- which runs it tells
 

@@ -5,8 +5,7 @@ use Rattle.std.proofs.Common.{refl, sym, ap, subst, ◌∙◌, arith, eqb, inl, 
 use Rattle.std.proofs.lemmas.Bool.Decides.{eqb_tells}
 use Rattle.std.proofs.lemmas.List.{get_or-set_other, get_or-set_same, length-set}
 use Rattle.std.proofs.lemmas.List.Sums.{sum_by-append}
-use Rattle.std.proofs.Common.{append_assoc, append-nil}
-use Rattle.std.specs.List.{AllByRecursion, count_by, fold}
+use Rattle.std.specs.List.{AllByRecursion, count_by}
 use Rattle.st_format.specs.Device.{capped}
 use Rattle.path_receiver.specs.Answers.{refusal_number}
 use Rattle.path_receiver.specs.declared.answer.Refusal.{Refusal}
@@ -158,16 +157,6 @@ pub tallies_more : (old new : Tally) (answer : Result Taken Refusal) → new ≡
 tallies_more old new answer is = λ answers before.
     subst (λ (t : Tally). Tallies t (answers ++ answer ∷ [])) (sym is)
     (tallied_more old answer answers before)
-
--- all of some answers were counted, one after the other
-pub tallies_all : (t : Tally) (answers more : List (Result Taken Refusal)) → Tallies t answers
-    → Tallies (fold (λ (u : Tally) (x : Result Taken Refusal). tally_after x u) t more)
-    (answers ++ more)
-tallies_all t answers [] before = subst (Tallies t) (sym (append-nil answers)) before
-tallies_all t answers (x ∷ xs) before =
-    subst (Tallies (fold (λ (u : Tally) (y : Result Taken Refusal). tally_after y u)
-    (tally_after x t) xs)) (append_assoc answers (x ∷ []) xs)
-    (tallies_all (tally_after x t) (answers ++ x ∷ []) xs (tallied_more t x answers before))
 
 -- nothing was counted
 pub tallies_none : (t : Tally) → length t.refused ≡ 14

@@ -143,14 +143,6 @@ module _ (room : ℕ) (k : Known) (front : List ℕ) where
       (fails_pure recording_fault_origin (enter_of k type_of body) new f
       (ap (λ (n : ℕ). enter_of k n body) (sym e) ∙ is))
 
-pub within_front : (q : Result Step RecordingFault) (count : ℕ) (buf : List ℕ)
-    → IfOk q (λ s. IsPacketWithin s (length (take count buf)))
-    → IfOk q (λ s. IsPacketWithin s (length buf))
-within_front (Ok End) count buf w = tt
-within_front (Ok Passed) count buf w = tt
-within_front (Ok (Packet p at)) count buf w = omega (arith, length-take count buf, w)
-within_front (Err f) count buf w = tt
-
 -- ---- a step
 
 module _ (room : ℕ) (k : Known) where

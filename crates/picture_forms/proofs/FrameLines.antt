@@ -1,5 +1,5 @@
 -- The line of a frame, and the frame, read.
-use Rattle.std.proofs.Common.{◌≡◌, ℕ, Bool, true, false, List, [], Option, Result, Ok, Err, refl}
+use Rattle.std.proofs.Common.{◌≡◌, ℕ, Bool, false, List, [], Option, Result, Ok, Err, refl}
 use Rattle.std.proofs.Common.{sym, ap}
 use Rattle.std.specs.Prelude.{⊤}
 use Rattle.st_format.specs.declared.format.Format.{Format}
@@ -8,7 +8,7 @@ use Rattle.picture_forms.specs.declared.fault.FormFault.{FormFault}
 use Rattle.picture_forms.specs.Faults.{IsShown}
 use Rattle.picture_forms.specs.Frames.{frame_line_at, frame_mark, frame_walk, parameters_at}
 use Rattle.picture_forms.specs.Frames.{planes_at}
-use Rattle.picture_forms.specs.Walks.{IsCut, Reads, Refuses, field_at, line_at}
+use Rattle.picture_forms.specs.Walks.{IsCut, Reads, Refuses, field_at}
 use Rattle.picture_forms.proofs.Walked.{Reading, field_refuses, gives_none, reads_of, reads_same}
 use Rattle.picture_forms.proofs.Walked.{reads_then, refuses_first, refuses_of, refuses_same}
 use Rattle.picture_forms.proofs.Walked.{refuses_then}
@@ -21,17 +21,6 @@ nothing_said text rest = Ok (tt, rest)
 pub no_parameters : (w : Option (List ℕ)) (a : List ℕ) → Reads (parameters_at false) w w a a tt
 no_parameters w a =
     reads_of (parameters_at false) w w a a [] tt (gives_none w a) (λ behind. refl)
-
-pub parameters_read : (w l : Option (List ℕ)) (a b text : List ℕ)
-    → Reads (line_at 256) w l a b text → Reads (parameters_at true) w l a b tt
-parameters_read w l a b text p =
-    reads_then (line_at 256) nothing_said w l l a b b text tt p
-    (reads_of (nothing_said text) l l b b [] tt (gives_none l b) (λ behind. refl))
-
-pub parameters_refused : (w l : Option (List ℕ)) (a b : List ℕ) (e : Type 0) (f : FormFault)
-    → Refuses (line_at 256) w l a b e f → Refuses (parameters_at true) w l a b e f
-parameters_refused w l a b e f p =
-    refuses_first (line_at 256) nothing_said w l a b e f p
 
 -- ---- the line
 

@@ -48,11 +48,6 @@ pub inside_at : (xs : List ℕ) (first step count k : ℕ) → Inside xs first s
     → first + step * k < length xs
 inside_at xs first step count k is lt = grind arith
 
--- fewer are in it too
-pub inside_less : (xs : List ℕ) (first step count n : ℕ) → Inside xs first step count → n ≤ count
-    → Inside xs first step n
-inside_less xs first step count n is le = record { low = is.low; within = grind arith }
-
 -- what is written from number i on, up to j
 stored_2 : (xs : List ℕ) (i j a b : ℕ) → j ≡ i + 2 → j ≤ length xs
     → take j (set (set xs i a) (i + 1) b) ≡ take i xs ++ (a ∷ b ∷ [])

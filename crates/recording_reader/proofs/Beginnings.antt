@@ -1,8 +1,7 @@
 -- What stands before all records of a file, read behind its first four octets.
 use Rattle.std.proofs.Common.{◌≡◌, ℕ, ◌<◌, List, [], ◌++◌, Bool, true, false, Option, None, Some}
-use Rattle.std.proofs.Common.{Result, Ok, Err, append_assoc, append-nil, refl, sym, ap, subst, ◌∙◌}
+use Rattle.std.proofs.Common.{Err, append_assoc, append-nil, refl, sym, ap, ◌∙◌}
 use Rattle.std.proofs.Common.{length, arith}
-use Rattle.std.specs.Prelude.{IfErr, IfOk, take}
 use Rattle.flow.specs.declared.flows.Flows.{Flows}
 use Rattle.recording_counts.specs.LeftOut.{left_out_of}
 use Rattle.media_file.specs.Fields.{GaveFault}
@@ -24,11 +23,9 @@ use Rattle.recording_reader.specs.Files.{IsFrontFault}
 use Rattle.recording_reader.specs.Kinds.{is_magic, is_recording}
 use Rattle.recording_reader.specs.Opening.{HasGivenFour, StopsOpening}
 use Rattle.recording_reader.specs.Ways.{BeginsWay}
-use Rattle.recording_reader.specs.declared.fault.FileOpeningFault.{FileOpeningFault}
 use Rattle.recording_reader.specs.declared.fault.FileOpeningFault.TheVariants as opening
 use Rattle.recording_reader.specs.declared.fault.ReadingFault.TheVariants as fault
 use Rattle.recording_reader.specs.declared.way.Track.{Track}
-use Rattle.recording_reader.specs.declared.way.FileKind.{FileKind}
 use Rattle.recording_reader.specs.declared.way.FileKind.TheVariants.{Capture, Recording}
 use Rattle.recording_reader.proofs.Captures.{capture_first}
 use Rattle.recording_reader.proofs.Magic.{kind_behind, kind_of_few}
@@ -154,44 +151,3 @@ module _ (before was four : List ℕ) (size : length four ≡ 4) (magic : is_mag
   )
 
 -- ---- by what a call behind the four answered
-
-pub begun_recording : {B E : Type 0} (way : B → FileKind) (len : B → ℕ) (r : Result B E)
-    (flows : Option Flows) (by : Flows) (before was now four text : List ℕ) (ended : Type 0)
-    → flows ≡ Some by → was ≡ before ++ four
-    → IfOk r (λ b. (since : List ℕ) → was ≡ since ++ four
-    → BeginsWay (way b) (Some by) since now ended []) → IfOk r (λ b. len b ≡ 0)
-    → IfOk r (λ b. BeginsWay (way b) flows before now ended (take (len b) text))
-begun_recording way len (Ok b) flows by before was now four text ended some is begins none =
-    let empty : take (len b) text ≡ [] = ap (λ (n : ℕ). take n text) none in
-    subst (λ (f : Option Flows). BeginsWay (way b) f before now ended (take (len b) text))
-    (sym some)
-    (subst (λ (l : List ℕ). BeginsWay (way b) (Some by) before now ended l) (sym empty)
-    (begins before is))
-begun_recording way len (Err e) flows by before was now four text ended some is begins none = tt
-
-pub stops_recording : {B : Type 0} (r : Result B FileOpeningFault) (flows : Option Flows)
-    (by : Flows) (before was now four : List ℕ) (ended : Type 0) → flows ≡ Some by
-    → was ≡ before ++ four
-    → IfErr r (λ f. (since : List ℕ) → was ≡ since ++ four
-    → StopsOpening (Some by) since now ended f)
-    → IfErr r (λ f. StopsOpening flows before now ended f)
-stops_recording (Ok b) flows by before was now four ended some is stops = tt
-stops_recording (Err f) flows by before was now four ended some is stops =
-    subst (λ (x : Option Flows). StopsOpening x before now ended f) (sym some) (stops before is)
-
-pub stops_capture : {B : Type 0} (r : Result B FileOpeningFault) (flows : Option Flows)
-    (before was now four : List ℕ) (ended : Type 0) → was ≡ before ++ four
-    → IfErr r (λ f. (since : List ℕ) (by : Option Flows) → was ≡ since ++ four
-    → StopsOpening by since now ended f)
-    → IfErr r (λ f. StopsOpening flows before now ended f)
-stops_capture (Ok b) flows before was now four ended is stops = tt
-stops_capture (Err f) flows before was now four ended is stops = stops before flows is
-
-pub begun_capture : {B E : Type 0} (way : B → FileKind) (len : B → ℕ) (r : Result B E)
-    (flows : Option Flows) (before was now four text : List ℕ) (ended : Type 0)
-    → was ≡ before ++ four
-    → IfOk r (λ b. (since : List ℕ) (by : Option Flows) → was ≡ since ++ four
-    → BeginsWay (way b) by since now ended (take (len b) text))
-    → IfOk r (λ b. BeginsWay (way b) flows before now ended (take (len b) text))
-begun_capture way len (Ok b) flows before was now four text ended is begins = begins before flows is
-begun_capture way len (Err e) flows before was now four text ended is begins = tt

@@ -32,17 +32,6 @@ Passes flows old new was now left left' =
     (before : List ℕ) (packets : List Recorded) → HasRead most_packet before old was packets
     → left ≡ left_out_of (omissions_of flows packets) → HasPassed flows before new now packets left'
 
-pub passed_none : (flows : Flows) (old : List ℕ) (was : Seen) (left : LeftOut)
-    → Passes flows old old was was left left
-passed_none flows old was left before packets read is =
-    let same = sym (append-nil packets) in
-    record {
-      more = [];
-      read = subst (λ (l : List Recorded). HasRead most_packet before old was l) same read;
-      left = subst (λ (l : List Recorded). left ≡ left_out_of (omissions_of flows l)) same is;
-      none = refl;
-    }
-
 -- the records of packets, and of one more
 one_more : (flows : Flows) (more : List Recorded) (p : Recorded) (r : Option Entry)
     → record_of flows p ≡ r → records_of flows more ≡ []

@@ -191,20 +191,6 @@ module _ (flows : Option Flows) (standing : Standing) (before old new : List ℕ
 
 -- ---- what stays
 
-pub same_kind : (was way : FileKind) (o : Option Found) (buffer old new : List ℕ) (ended : Type 0)
-    → FindsNext was way o buffer old new ended → is_recording_way way ≡ is_recording_way was
-same_kind Capture Capture o buffer old new ended next = refl
-same_kind Capture (Recording u) o buffer old new ended next = absurd next
-same_kind (Recording t) Capture o buffer old new ended next = absurd next
-same_kind (Recording t) (Recording u) o buffer old new ended next = refl
-
-pub same_kind_failed : (was way : FileKind) (f : ReadingFault) (old new : List ℕ) (ended : Type 0)
-    → FailsNextBy was way f old new ended → is_recording_way way ≡ is_recording_way was
-same_kind_failed Capture Capture f old new ended next = refl
-same_kind_failed Capture (Recording u) f old new ended next = absurd next
-same_kind_failed (Recording t) Capture f old new ended next = absurd next
-same_kind_failed (Recording t) (Recording u) f old new ended next = refl
-
 pub same_room : (was way : FileKind) (o : Option Found) (buffer old new : List ℕ) (ended : Type 0)
     (count : ℕ) → FindsNext was way o buffer old new ended → HasSpace was count → HasSpace way count
 same_room Capture Capture o buffer old new ended count next is = is
@@ -224,13 +210,6 @@ same_room_failed (Recording t) (Recording u) f old new ended count next is = is
 pub at_hand : (o : Option Found) (standing : Standing) → standing ≡ Reads → IsAtHand standing o
 at_hand None standing is = tt
 at_hand (Some f) standing is = is
-
--- at the end and at a fault nothing is
-pub none_ended : (o : Option Found) (buffer : List ℕ) (standing : Standing) → IsAtHand standing o
-    → standing ≡ Ended → entry_there o buffer ≡ None
-none_ended None buffer standing hand is = refl
-none_ended (Some f) buffer standing hand is =
-    let other : Reads ≡ Ended = sym hand ∙ is in absurd cc
 
 pub none_failed : (o : Option Found) (buffer : List ℕ) (standing : Standing) (f : ReadingFault)
     → IsAtHand standing o → standing ≡ Failed f → entry_there o buffer ≡ None

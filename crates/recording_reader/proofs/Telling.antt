@@ -1,13 +1,12 @@
 -- What a reader of a file tells as a source of datagrams.
-use Rattle.std.proofs.Common.{◌≡◌, ℕ, ◌↔◌, Bool, true, false, List, [], ◌∷◌, ◌++◌}
-use Rattle.std.proofs.Common.{append-nil, Option, None, Some, refl, sym, ap, subst, ◌∙◌}
+use Rattle.std.proofs.Common.{◌≡◌, ℕ, ◌↔◌, List, [], ◌∷◌, ◌++◌}
+use Rattle.std.proofs.Common.{append-nil, None, refl, sym, ap, ◌∙◌}
 use Rattle.media_file.specs.Records.{Entry}
-use Rattle.st_format.specs.Device.{CountsOne}
 use Rattle.st_format.specs.Turns.{CountsTurn, IsEnd, IsWithin, TakesTurn, arrived}
 use Rattle.st_format.specs.declared.device.Turn.{Turn}
 use Rattle.st_format.specs.declared.device.Turn.TheVariants.{Datagram, Quiet, End}
 use Rattle.st_format.specs.declared.path.Path.{Path}
-use Rattle.recording_reader.specs.FileReader.{FileReader, FindsNone, FindsOne, FindsRecord}
+use Rattle.recording_reader.specs.FileReader.{FileReader, FindsNone}
 use Rattle.recording_reader.specs.FileReader.{TellsNext}
 use Rattle.recording_reader.specs.FileReader.{TellsOne, TellsTurn}
 use Rattle.recording_reader.specs.Files.{datagrams_of}
@@ -52,25 +51,6 @@ told old new End buf finds = record {
   ended = (λ _. tt, λ _. finds.ended);
 }
 
--- the datagram at hand, told by a reader at which none is then
-tells_one : {S : Type 0} (old mid new : FileReader S) (t : Turn) (buf : List ℕ)
-    → (finds : FindsOne old mid) → TellsTurn (Some finds.entry) t buf
-    → new.records ≡ mid.records → new.standing ≡ mid.standing → new.delivered ≡ mid.delivered
-    → new.at_hand ≡ None → TellsNext t buf old new
-tells_one old mid new (Datagram path count) buf finds turn records standing delivered none =
-    record {
-      entry = finds.entry;
-      records = records ∙ finds.records;
-      by = turn.0;
-      octets = turn.1;
-      few = turn.2;
-      at_hand = none;
-      reads = standing ∙ finds.reads;
-      delivered = subst (λ (n : ℕ). CountsOne old.delivered n) (sym delivered) finds.delivered;
-    }
-tells_one old mid new Quiet buf finds turn records standing delivered none = absurd turn
-tells_one old mid new End buf finds turn records standing delivered none = absurd turn
-
 tells_none : {S : Type 0} (old mid new : FileReader S) (t : Turn) (buf : List ℕ)
     → FindsNone old mid → TellsTurn None t buf
     → new.records ≡ mid.records → new.standing ≡ mid.standing → new.delivered ≡ mid.delivered
@@ -85,19 +65,6 @@ tells_none old mid new End buf finds turn records standing delivered none =
       ended = standing ∙ finds.ended;
       delivered = delivered ∙ finds.delivered;
     }
-
-pub tells_next : {S : Type 0} (old mid new : FileReader S) (b : Bool) (t : Turn) (buf : List ℕ)
-    → FindsRecord b old mid → TellsTurn mid.at_hand t buf
-    → new.records ≡ mid.records → new.standing ≡ mid.standing → new.delivered ≡ mid.delivered
-    → new.at_hand ≡ None → TellsNext t buf old new
-tells_next old mid new true t buf finds turn records standing delivered none =
-    tells_one old mid new t buf finds
-    (subst (λ (o : Option Entry). TellsTurn o t buf) finds.at_hand turn) records standing delivered
-    none
-tells_next old mid new false t buf finds turn records standing delivered none =
-    tells_none old mid new t buf finds
-    (subst (λ (o : Option Entry). TellsTurn o t buf) finds.at_hand turn) records standing delivered
-    none
 
 -- a source that tells no turns takes any
 pub takes_any : (t : Turn) (buf : List ℕ) → TakesTurn None None t buf

@@ -3,7 +3,7 @@ use Rattle.std.proofs.Common.{◌≡◌, ℕ, ◌<◌, ◌≤◌, List, [], ◌�
 use Rattle.std.proofs.Common.{Result, Ok, Err, inl, inr, refl, sym, ap, subst, ◌∙◌, append_assoc}
 use Rattle.std.proofs.Common.{append-nil, arith, take, zero, suc, Bool, true, false}
 use Rattle.std.proofs.lemmas.List.{map-append}
-use Rattle.std.specs.Prelude.{IfOk, IsSome, IsTrue, OnErr, OnOk, ⊤, ◌↔◌}
+use Rattle.std.specs.Prelude.{IsSome, IsTrue, OnErr, OnOk, ⊤, ◌↔◌}
 use Rattle.flow.specs.declared.flows.Flows.{Flows}
 use Rattle.media_file.specs.Records.{Entry}
 use Rattle.recording_reader.specs.FileReader.{FileReader, FindsOne, HasGivenFile, IsKnownBy}
@@ -286,13 +286,6 @@ stop_told window text Unopened standing count f opens within (inr wanted) =
 nothing : (n : ℕ) → let none : List ℕ = [] in none ≡ take n none
 nothing zero = refl
 nothing (suc n) = refl
-
-pub opened_if : {A E : Type 0} (o : Sought) (r : Result (Finder A) E) (text : List ℕ)
-    → IfOk r (λ s. s.sought ≡ o) → IfOk r (λ s. AnnouncesType text s.payload_type)
-    → IfOk r (λ s. s.window.items ≡ []) → IfOk r (λ s. FindsSought o text s [])
-opened_if o (Ok s) text sought announced none =
-    record { sought = sought; announced = announced; first = none ∙ nothing o.count }
-opened_if o (Err e) text sought announced none = tt
 
 -- a text that announces a payload type opens a receiver of one timestamp
 pub announced_opens : (text : List ℕ) (number : ℕ) → AnnouncesType text number
