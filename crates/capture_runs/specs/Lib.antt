@@ -3,8 +3,4 @@ pub mod Replayed
 pub mod Opened
 pub mod Window
 pub mod Refused
-pub mod Followed
 pub mod Looked
-pub mod Inspected
-pub mod Pictured
-pub mod Outputs

@@ -16,14 +16,14 @@ const CAPTURE: &[u8] = b"S20CAP";
 
 /// The files that are named, of which those up to the first capture were looked at.
 #[derive(Drop)]
-pub(crate) struct Looked<'a> {
-    pub(crate) files: Vec<Replayed<'a>>,
+pub struct Looked<'a> {
+    pub files: Vec<Replayed<'a>>,
     /// Whether one of them begins as a capture.
-    pub(crate) have_capture: bool,
+    pub have_capture: bool,
 }
 
 /// The files of these names, none of which is looked at yet. They may be to be read twice.
-pub(crate) fn files_of<'a>(
+pub fn files_of<'a>(
     rt: &'a HostRuntime,
     names: &[&'a str],
     is_twice: bool,
@@ -52,7 +52,7 @@ fn file_of<'a>(rt: &'a HostRuntime, name: &'a str, is_twice: bool, meter: &Meter
 }
 
 /// Looks at the files of these names for one that begins as a capture, up to the first that does.
-pub(crate) fn look_at<'a>(
+pub fn look_at<'a>(
     rt: &'a HostRuntime,
     names: &[&'a str],
     meter: &Meter,
@@ -132,7 +132,7 @@ fn push_file<'a>(files: &mut Vec<Replayed<'a>>, file: Replayed<'a>) -> Result<()
 }
 
 /// Files, to be read from their fronts.
-pub(crate) fn fresh_files<'a>(
+pub fn fresh_files<'a>(
     rt: &HostRuntime,
     files: Vec<Replayed<'a>>,
 ) -> Result<Vec<Replayed<'a>>, Fault>

@@ -61,7 +61,7 @@ pub struct Asked<'a> {
 
 impl<'a> Files<'a> {
     /// Where nothing is read yet.
-    pub(crate) fn new(rt: &HostRuntime, meter: &Meter) -> Files<'a>
+    pub fn new(rt: &HostRuntime, meter: &Meter) -> Files<'a>
         ensures unread { AreUnread result }
         ensures unsaid { result.sdp ≡ None }
         ensures none { result.found ≡ None }
@@ -117,11 +117,9 @@ impl<'a> Files<'a> {
         }
     }
 
-    pub(crate) fn read_sdp(
-        &mut self,
-        rt: &'a HostRuntime,
-        name: Option<&'a str>,
-    ) -> Result<(), Fault>
+    /// Reads the SDP's file, where one is named. It is `ReceiveSdp` where that gives more than a text
+    /// may have; and a fault where its device fails, or memory is wanted.
+    pub fn read_sdp(&mut self, rt: &'a HostRuntime, name: Option<&'a str>) -> Result<(), Fault>
         requires { AreUnread self.old }
         ensures unread { AreUnread self.new }
         ensures found { self.new.found ≡ self.old.found }
@@ -149,7 +147,7 @@ impl<'a> Files<'a> {
 
     /// Finds the flows by which each of so many files is taken that is a recording, by the words or
     /// else by the SDP.
-    pub(crate) fn find_ways(
+    pub fn find_ways(
         &mut self,
         rt: &HostRuntime,
         flows: FlowWords<'_>,
@@ -232,7 +230,7 @@ impl<'a> Files<'a> {
     }
 
     /// Where the reading of the SDP stands, where one is named.
-    pub(crate) fn sdp_reading(&self) -> Option<Reading<'a>> {
+    pub fn sdp_reading(&self) -> Option<Reading<'a>> {
         match &self.sdp {
             Some(file) => Some(file.reading()),
             None => None,
@@ -249,7 +247,7 @@ impl<'a> Files<'a> {
     }
 
     /// Where the reading of the last file stands that was begun.
-    pub(crate) fn last_read(&self) -> Option<Reading<'a>> {
+    pub fn last_read(&self) -> Option<Reading<'a>> {
         last_begun(&self.recordings).or(last_begun(&self.looked))
     }
 }
@@ -260,7 +258,7 @@ pub(crate) fn is_asked(rt: &HostRuntime, asked: Asked<'_>, file: Option<Identity
 }
 
 /// Whether the SDP's file or one of the recordings of these names is this one.
-pub(crate) fn is_read(
+pub fn is_read(
     rt: &HostRuntime,
     sdp: Option<&str>,
     recordings: &[&str],
@@ -295,7 +293,8 @@ fn read_said(rt: &HostRuntime, file: &mut Replayed<'_>) -> Result<Vec<u8>, Fault
     }
 }
 
-pub(crate) fn text_of(said: &Option<Vec<u8>>) -> Option<&[u8]>
+/// The octets of a text, where there is one.
+pub fn text_of(said: &Option<Vec<u8>>) -> Option<&[u8]>
     ensures { option_copied result ≡ said_text said.now }
 {
     match said {

@@ -194,7 +194,8 @@ fn asked<'a>(words: &'a ReceiveWords<'a>) -> Asked<'a> {
     }
 }
 
-pub(crate) fn octets(text: Option<&str>) -> Option<&[u8]> {
+/// The octets of a word, where there is one.
+pub fn octets(text: Option<&str>) -> Option<&[u8]> {
     match text {
         Some(text) => Some(text.as_bytes()),
         None => None,

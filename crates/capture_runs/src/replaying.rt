@@ -116,7 +116,7 @@ impl<'a> Replayed<'a> {
 }
 
 /// Where the reading of the last of some files stands that was begun.
-pub(crate) fn last_begun<'a>(files: &[Replayed<'a>]) -> Option<Reading<'a>> {
+pub fn last_begun<'a>(files: &[Replayed<'a>]) -> Option<Reading<'a>> {
     let mut last = None;
     for file in files {
         last = file.begun().or(last);

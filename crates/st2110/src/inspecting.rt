@@ -2,10 +2,10 @@
 use crate::describing::refuse_value;
 use crate::importing::tell_left_out;
 use crate::receiving::tell_flows;
-use capture_runs::InspectCommand;
 use command_end::run_command;
 use command_line::{BadValue, FormatWords, InspectWords};
 use devices::Meter;
+use inspect_runs::InspectCommand;
 use script_runs::read_format_word;
 use st_format::FormatFault;
 use stream_inspection::Target;

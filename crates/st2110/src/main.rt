@@ -12,12 +12,13 @@ mod progress;
 mod receiving;
 mod sending;
 
-use capture_runs::{FollowCommand, LoopCommand, MigrateCommand};
+use capture_runs::{LoopCommand, MigrateCommand};
 use command_end::{Command, end_without_memory, run_command};
 use command_line::{Given, Words, WordsFault, given_words, read_words};
 use converting::convert;
 use describing::sdp;
 use exporting::export;
+use follow_runs::FollowCommand;
 use importing::import;
 use inspecting::inspect;
 use picture_runs::PictureCommand;

@@ -5,11 +5,11 @@ use Rattle.std.specs.List.{flat_map}
 use Rattle.capture_engines.specs.Files.{files_datagrams}
 use Rattle.capture_engines.specs.Sending.{run_sender}
 use Rattle.capture_engines.specs.declared.sender.Sending.{Sending}
-use Rattle.capture_runs.specs.Followed.{FollowsFiles, IsListed}
-use Rattle.capture_runs.specs.Outputs.{outputs_of}
+use Rattle.follow_runs.specs.Followed.{FollowsFiles, IsListed}
+use Rattle.follow_runs.specs.Outputs.{outputs_of}
 use Rattle.capture_runs.specs.Replayed.{replayed_ended, replayed_gave}
-use Rattle.capture_runs.specs.declared.outputs.FollowOutputs.{FollowOutputs}
-use Rattle.capture_runs.specs.declared.picture_directory.PictureDirectory.{PictureDirectory}
+use Rattle.follow_runs.specs.declared.outputs.FollowOutputs.{FollowOutputs}
+use Rattle.follow_runs.specs.declared.picture_directory.PictureDirectory.{PictureDirectory}
 use Rattle.capture_runs.specs.declared.replayed.Replayed.{Replayed}
 use Rattle.devices.specs.Filed.{filed_files}
 use Rattle.devices.specs.Passed.{file_took}

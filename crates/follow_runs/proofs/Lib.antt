@@ -1,0 +1,3 @@
+pub mod Follows
+mod FileUnder
+mod Stops
