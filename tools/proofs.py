@@ -15,7 +15,7 @@ SECONDS = {
     "lane_kernels": 50, "bt709_fixed": 50, "packet_numbers": 25, "frame_report": 40, "flow": 20, "interface_name": 15, "recording_counts": 120,
     "run_outcome": 110, "script_engines": 160, "capture_engines": 180, "receiver_engines": 100, "inspect_engine": 45,
     "recording_engines": 100, "export_engine": 35, "command_line": 70, "devices": 45, "command_end": 35,
-    "script_runs": 40, "capture_runs": 240, "receiver_runs": 45, "recording_runs": 40,
+    "script_runs": 40, "capture_runs": 120, "inspect_runs": 60, "follow_runs": 90, "receiver_runs": 45, "recording_runs": 40,
     "picture_forms": 150, "form_files": 60, "convert_engine": 60, "stream_sending": 60, "picture_engine": 60, "picture_runs": 60,
     "recording_reader": 60, "side_by_side": 90, "follow_engine": 150, "following": 150, "sdp_writing": 60, "window_finding": 90, "stream_inspection": 120, "st2110": 200,
     "text_line": 15, "address_text": 15, "marked_view": 60, "settled_forms": 60, "frame_sinks": 120, "paced_export": 60,
@@ -115,8 +115,8 @@ class Proofs:
 
     def begin(self, name, room, jobs):
         self.left.remove(name)
-        verb = ["lib", "--jobs", str(jobs)] if self.rooms[1:] else ["lib"]
-        at, verb = (self.checkout, ["run", "--", "--version"]) if name == PROGRAM else (room, verb)
+        flags = ["--jobs", str(jobs)] if self.rooms[1:] else []
+        at, verb = (self.checkout, ["run", *flags, "--", "--version"]) if name == PROGRAM else (room, ["lib", *flags])
         with open(self.log(name), "w", encoding="utf-8") as log:
             how = {"cwd": f"{at}/crates/{name}", "stdin": subprocess.DEVNULL, "stdout": log, "stderr": log}
             self.running[subprocess.Popen(["rt", *verb], **how)] = name, room, time.time()
