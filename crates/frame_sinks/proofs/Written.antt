@@ -195,28 +195,23 @@ fails_planes took k l sink fill h given held ycc part sunk =
     (head_for k.format h.frame.format ++ frame_text (picture_of fill None h.frame))) (sym sunk)
     part)
 
--- Room was taken for a frame that goes by planes, which made m of what it is settled with; its sink
--- of octets took the frame; and the room was kept.
-pub takes_planes : {K A : Type 0} (took : K → List ℕ) (k l : FormSink K A) (m : Settling A)
-    (sink : K) (fill : Option (List ℕ)) (f : Format) (h : Handed) → m.filling ≡ k.settling.filling
-    → m.fill ≡ k.settling.fill → m.held ≡ k.settling.held → k.settling.filling ≡ Fill
+-- Its sink of octets took a frame that goes by planes: what it is settled with stays.
+pub takes_planes : {K A : Type 0} (took : K → List ℕ) (k l : FormSink K A) (sink : K)
+    (fill : Option (List ℕ)) (f : Format) (h : Handed) → k.settling.filling ≡ Fill
     → k.settling.held ≡ None → IsYcc h.frame.format.sampling → f ≡ h.frame.format
     → fill ≡ k.settling.fill
     → took sink ≡ took k.sink
     ++ (head_for k.format h.frame.format ++ frame_text (picture_of fill None h.frame))
-    → l.sink ≡ sink → l.format ≡ Some f → l.settling.filling ≡ m.filling
-    → l.settling.fill ≡ m.fill → l.settling.held ≡ m.held → SinkTakes took k h l
-takes_planes took k l m sink fill f h filling filled held by none ycc same given written sunk begun
-    keeps_filling keeps_fill kept =
-    record {
-      written =
-          ap took sunk ∙ written
-          ∙ ap (λ (t : List ℕ). took k.sink ++ t) (given_text_is k fill h given none ycc);
-      format = begun ∙ ap (λ (g : Format). Some g) same;
-      held =
-          kept ∙ held ∙ none
-          ∙ sym (ap (λ (x : Filling). held_by x (picture_of k.settling.fill k.settling.held h.frame))
-          by);
-      filling = keeps_filling ∙ filling;
-      fill = keeps_fill ∙ filled;
-    }
+    → l.sink ≡ sink → l.format ≡ Some f → l.settling ≡ k.settling → SinkTakes took k h l
+takes_planes took k l sink fill f h by none ycc same given written sunk begun kept = record {
+  written =
+      ap took sunk ∙ written
+      ∙ ap (λ (t : List ℕ). took k.sink ++ t) (given_text_is k fill h given none ycc);
+  format = begun ∙ ap (λ (g : Format). Some g) same;
+  held =
+      ap (λ (s : Settling A). s.held) kept ∙ none
+      ∙ sym (ap (λ (x : Filling). held_by x (picture_of k.settling.fill k.settling.held h.frame))
+      by);
+  filling = ap (λ (s : Settling A). s.filling) kept;
+  fill = ap (λ (s : Settling A). s.fill) kept;
+}

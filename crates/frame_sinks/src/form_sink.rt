@@ -14,7 +14,8 @@ use std::alloc::{Allocator, Global};
 /// YUV4MPEG2 stream, whose line comes with the first one, and of RGB as a portable pixmap. A frame
 /// of another format than the one before begins a stream anew.
 ///
-/// The samples that a frame has no value for are filled. Memory is taken for the first frame, and
+/// The samples that a frame has no value for are filled. By a fill a frame of YCbCr is written by
+/// its planes as it is settled, and takes no memory. Else memory is taken for the first frame, and
 /// where pictures are held for the second, and then only where the format changes.
 #[derive(Drop)]
 pub struct FormSink<K: ByteSink + Drop, A: Allocator = Global> {
@@ -65,7 +66,8 @@ impl<K: ByteSink + Drop, A: Allocator + Copy> FormSink<K, A> {
         Ok(())
     }
 
-    /// Writes a frame, which is YCbCr, settled by the fill and by planes: no picture is made.
+    /// Writes a frame, which is YCbCr, settled by the fill and by planes: no picture is made, and
+    /// no memory is taken.
     fn show_planes<B: Allocator>(&mut self, timestamp: u32, frame: &Frame<B>) -> Result<(), Fault>
         requires ycc { IsYcc frame.now.format.sampling }
         requires filling { self.old.settling.filling ≡ Filling.Fill }
@@ -78,18 +80,9 @@ impl<K: ByteSink + Drop, A: Allocator + Copy> FormSink<K, A> {
         ensures failures { Accounts result
             (counts (K.failures self.old.sink) (K.failures self.new.sink) ∷ []) }
     {
-        let format = frame.format();
-        let mut chroma = self.settling.take_chroma(&format)?;
         let fill = self.settling.fill();
-        write_next_planes(
-            &mut self.sink,
-            self.format,
-            frame,
-            fill,
-            chroma.as_mut_slice(),
-        )?;
-        self.format = Some(format);
-        self.settling.keep_chroma(chroma);
+        write_next_planes(&mut self.sink, self.format, frame, fill)?;
+        self.format = Some(frame.format());
         Ok(())
     }
 

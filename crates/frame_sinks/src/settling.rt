@@ -3,21 +3,20 @@ ghost use Rattle.std.specs.Prelude.{◌≡◌, IfOk, IsTrue, None, Some, length}
 ghost use Rattle.frame_assembly.specs.Settled.{IsBaseOf, settled_picture};
 ghost use Rattle.frame_sinks.specs.Pictures.{held_by, picture_of};
 ghost use Rattle.picture_forms.specs.Layouts.{IsYcc};
-ghost use Rattle.settled_forms.specs.Pieces.{chroma_size};
 ghost use Rattle.st_format.specs.Picture.{IsPicture};
 ghost use Rattle.st_format.specs.Position.{sample_count};
 
 use crate::filling::{Filling, fill_of};
 use crate::writing::has_format;
 use frame_assembly::{Base, Frame};
-use settled_forms::{chroma_size, settle_all};
+use settled_forms::settle_all;
 use st_format::{Format, Picture, Sampling};
 use std::alloc::{AllocError, Allocator, Global};
 use std::mem;
 
 /// What frames are settled with, one after the other: a fill, or the picture before. Memory is
-/// taken for the first frame, and where pictures are held for the second, and then only where the
-/// format changes.
+/// taken for the first picture, and where pictures are held for the second, and then only where
+/// the format changes.
 #[derive(Drop)]
 pub struct Settling<A: Allocator = Global> {
     alloc: A,
@@ -28,8 +27,6 @@ pub struct Settling<A: Allocator = Global> {
     held: Option<Picture<A>>,
     /// Room for the samples of a picture, once there is some.
     room: Vec<u16, A>,
-    /// Room for the octets of Cb and Cr, once there is some.
-    chroma: Vec<u8, A>,
 }
 
 impl<A: Allocator + Copy> Settling<A> {
@@ -45,12 +42,11 @@ impl<A: Allocator + Copy> Settling<A> {
             fill,
             held: None,
             room: Vec::new(alloc),
-            chroma: Vec::new(alloc),
         }
     }
 
-    /// Whether a frame of this format needs no picture: it is YCbCr, so that it is written by planes
-    /// as it is settled, and settled by the fill, so that no picture is kept of it.
+    /// Whether a frame of this format needs no picture: it is YCbCr, so that it is written by
+    /// planes as it is settled, and settled by the fill, so that no picture is kept of it.
     pub(crate) fn goes_by_planes(&self, format: &Format) -> bool
         ensures ycc { IsTrue result → IsYcc format.now.sampling }
         ensures filling { IsTrue result → self.now.filling ≡ Filling.Fill }
@@ -105,35 +101,11 @@ impl<A: Allocator + Copy> Settling<A> {
         Vec::from_elem(self.alloc, 0, count)
     }
 
-    /// Room for Cb and Cr of a picture of this format: that of one before, where it is as long.
-    pub(crate) fn take_chroma(&mut self, format: &Format) -> Result<Vec<u8, A>, AllocError>
-        ensures room { IfOk result (λ v. length v.items ≡ chroma_size format.now) }
-        ensures filling { self.new.filling ≡ self.old.filling }
-        ensures fill { self.new.fill ≡ self.old.fill }
-        ensures held { self.new.held ≡ self.old.held }
-    {
-        let room = mem::replace(&mut self.chroma, Vec::new(self.alloc));
-        let count = chroma_size(format);
-        if room.len() == count {
-            return Ok(room);
-        }
-        Vec::from_elem(self.alloc, 0, count)
-    }
-
     /// The values of the fill, where they are given.
     pub(crate) fn fill(&self) -> Option<[u16; 3]>
         ensures { result ≡ self.now.fill }
     {
         self.fill
-    }
-
-    /// Keeps the room of Cb and Cr for the next ones.
-    pub(crate) fn keep_chroma(&mut self, chroma: Vec<u8, A>)
-        ensures filling { self.new.filling ≡ self.old.filling }
-        ensures fill { self.new.fill ≡ self.old.fill }
-        ensures held { self.new.held ≡ self.old.held }
-    {
-        self.chroma = chroma;
     }
 
     /// Keeps a picture for the next one, or its room.

@@ -1,12 +1,10 @@
 //! Writing pictures of a stream.
 ghost use Rattle.std.specs.Prelude.{◌≡◌, ◌++◌, ◌∷◌, [], IfErr, IsTrue, None, OnErr, OnOk};
-ghost use Rattle.std.specs.Prelude.{length};
 ghost use Rattle.follow_engine.specs.Shown.{GrowsSome};
 ghost use Rattle.frame_sinks.specs.Pictures.{form_head, head_for, is_of, picture_of};
 ghost use Rattle.picture_forms.specs.Faults.{CountsDevice, IsDevice};
 ghost use Rattle.picture_forms.specs.Layouts.{IsYcc, frame_text, y4m_head};
 ghost use Rattle.run_outcome.specs.Fault.{Accounts, IfRefused, counts};
-ghost use Rattle.settled_forms.specs.Pieces.{chroma_size};
 ghost use Rattle.settled_forms.specs.Settled.{form_text};
 ghost use Rattle.st_format.specs.Device.{GrowsPart};
 ghost use Rattle.st_format.specs.Fields.{fields_of, same_fields};
@@ -38,17 +36,15 @@ pub(crate) fn write_next<A: Allocator, K: ByteSink>(
     write_picture(sink, picture)
 }
 
-/// The same of a frame, which is YCbCr, settled by the fill: it is written by planes, and no picture
-/// is made. `chroma` has just the room for Cb and Cr.
+/// The same of a frame, which is YCbCr, settled by the fill: it is written by planes, and no
+/// picture is made. No memory is taken.
 pub(crate) fn write_next_planes<A: Allocator, K: ByteSink>(
     sink: &mut K,
     begun: Option<Format>,
     frame: &Frame<A>,
     fill: Option<[u16; 3]>,
-    chroma: &mut [u8],
 ) -> Result<(), Fault>
-    requires ycc { IsYcc frame.now.format.sampling }
-    requires room { length chroma.old ≡ chroma_size frame.now.format }
+    requires { IsYcc frame.now.format.sampling }
     ensures written { OnOk result (K.took sink.new ≡ K.took sink.old
         ++ (head_for begun frame.now.format ++ frame_text (picture_of fill None frame.now))) }
     ensures part { OnErr result (GrowsSome (K.took sink.old) (K.took sink.new)
@@ -58,7 +54,7 @@ pub(crate) fn write_next_planes<A: Allocator, K: ByteSink>(
 {
     let format = frame.format();
     write_head(sink, begun, &format)?;
-    write_filled(sink, frame, fill, chroma)
+    write_filled(sink, frame, fill)
 }
 
 /// Writes a frame, which is YCbCr, settled by the fill, as a frame of a YUV4MPEG2 stream.
@@ -66,10 +62,8 @@ fn write_filled<A: Allocator, K: ByteSink>(
     sink: &mut K,
     frame: &Frame<A>,
     fill: Option<[u16; 3]>,
-    chroma: &mut [u8],
 ) -> Result<(), Fault>
-    requires ycc { IsYcc frame.now.format.sampling }
-    requires room { length chroma.old ≡ chroma_size frame.now.format }
+    requires { IsYcc frame.now.format.sampling }
     ensures written { OnOk result (K.took sink.new
         ≡ K.took sink.old ++ frame_text (picture_of fill None frame.now)) }
     ensures part { OnErr result (GrowsPart (K.took sink.old) (K.took sink.new)
@@ -78,7 +72,7 @@ fn write_filled<A: Allocator, K: ByteSink>(
     ensures failures { Accounts result (counts (K.failures sink.old) (K.failures sink.new) ∷ []) }
 {
     let fill = fill_of(fill, &frame.format());
-    match write_planes(sink, frame, Base::<Global>::Fill(fill), chroma) {
+    match write_planes(sink, frame, Base::<Global>::Fill(fill)) {
         Ok(()) => Ok(()),
         Err(_) => Err(Fault::Device),
     }

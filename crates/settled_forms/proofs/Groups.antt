@@ -1,14 +1,11 @@
--- Planes that are filled by pgroups: what a pgroup has of each, and one piece behind the others.
+-- Planes that are written by pgroups: what a pgroup has of each, and one piece behind the others.
 use Rattle.std.proofs.Common.{◌≡◌, ℕ, zero, suc, ◌+◌, ◌*◌, ◌/◌, ◌%◌, ◌^◌, ◌<◌, ◌≤◌, List, [], ◌∷◌}
 use Rattle.std.proofs.Common.{◌++◌, length, get_or, take, drop, refl, sym, ap, ◌∙◌, subst, arith}
 use Rattle.std.proofs.Common.{Option}
 use Rattle.std.specs.List.{All, AllByRecursion}
-use Rattle.std.proofs.Math.Nat.{div-le_self, mul-add, mul_assoc}
+use Rattle.std.proofs.Math.Nat.{mul-add, mul_assoc}
 use Rattle.std.proofs.lemmas.List.{get_or-drop, get_or-take, length-drop, length-take}
-use Rattle.std.proofs.lemmas.List.{length-take-le, take_all}
 use Rattle.std.proofs.lemmas.Nat.{mul-le}
-use Rattle.std.proofs.lemmas.Slice.{take-put_mid}
-use borrow.Rule.Slice.PartMut.{mid_of, put_mid, same_len_mid}
 use Rattle.st_format.specs.declared.format.Format.{Format}
 use Rattle.st_format.specs.declared.sampling.Depth.{Depth}
 use Rattle.st_format.specs.declared.sampling.Depth.TheVariants.{D8, D10, D12, D16}
@@ -20,14 +17,11 @@ use Rattle.st_format.specs.Position.{group_count, row_groups}
 use Rattle.frame_assembly.proofs.Segments.{swap_first}
 use Rattle.picture_forms.specs.Layouts.{IsYcc, column_step, plane_count, plane_first, plane_step}
 use Rattle.picture_forms.specs.Layouts.{plane_text, y4m_spelling}
-use Rattle.picture_forms.specs.Planes.{Inside, every, every_text, sample_limit, sample_size}
-use Rattle.picture_forms.specs.Planes.{sample_text}
+use Rattle.picture_forms.specs.Planes.{Inside, every, every_text, sample_limit, sample_text}
 use Rattle.picture_forms.proofs.Placed.{plane_every}
-use Rattle.picture_forms.proofs.Texts.{every_front, every_none}
 use Rattle.picture_forms.proofs.Written.{none_written, piece_cut, piece_written}
 use Rattle.picture_forms.specs.Writing.{Writes, WritesPart}
-use Rattle.settled_forms.specs.Pieces.{HasGroups, PutsGroups, group_share, groups_text, octets_for}
-use Rattle.settled_forms.specs.Pieces.{part_text}
+use Rattle.settled_forms.specs.Pieces.{group_share, groups_text, part_text}
 
 -- ---- numbers
 
@@ -71,6 +65,29 @@ shares_count f c =
     ∙ ap (λ (n : ℕ). f.height * n)
     (share_columns f.sampling f.depth f.width c f.whole_width.whole_groups)
 
+some_columns : (s : Sampling) (d : Depth) (c : ℕ)
+    → 0 < (pixel_group s d).pixels / column_step s c
+some_columns Ycc422 D8 zero = omega arith
+some_columns Ycc422 D8 (suc c) = omega arith
+some_columns Ycc422 D10 zero = omega arith
+some_columns Ycc422 D10 (suc c) = omega arith
+some_columns Ycc422 D12 zero = omega arith
+some_columns Ycc422 D12 (suc c) = omega arith
+some_columns Ycc422 D16 zero = omega arith
+some_columns Ycc422 D16 (suc c) = omega arith
+some_columns Ycc444 D8 c = omega arith
+some_columns Ycc444 D10 c = omega arith
+some_columns Ycc444 D12 c = omega arith
+some_columns Ycc444 D16 c = omega arith
+some_columns Rgb D8 c = omega arith
+some_columns Rgb D10 c = omega arith
+some_columns Rgb D12 c = omega arith
+some_columns Rgb D16 c = omega arith
+
+-- a pgroup has some
+pub share_some : (f : Format) (c : ℕ) → 0 < group_share f c
+share_some f c = some_columns f.sampling f.depth c
+
 -- they stand as many steps apart as a pgroup has samples
 steps_of : (s : Sampling) (d : Depth) (c : ℕ)
     → plane_step s c * ((pixel_group s d).pixels / column_step s c) ≡ (pixel_group s d).samples
@@ -95,6 +112,14 @@ pub share_steps : (f : Format) (c : ℕ)
     → plane_step f.sampling c * group_share f c ≡ (pixel_group f.sampling f.depth).samples
 share_steps f c = steps_of f.sampling f.depth c
 
+-- how many there are of so many rows
+pub groups_in : (f g : Format) (high wide : ℕ) → high ≡ f.height → wide ≡ row_groups f → f ≡ g
+    → high * wide ≡ group_count g
+groups_in f g high wide h w same =
+    ap (λ (n : ℕ). n * wide) h
+    ∙ ap (λ (n : ℕ). f.height * n) w
+    ∙ ap group_count same
+
 first_low : (s : Sampling) (c : ℕ) → c < 3 → plane_first s c < plane_step s c
 first_low Ycc422 zero lt = omega arith
 first_low Ycc422 (suc zero) lt = omega arith
@@ -115,22 +140,6 @@ share_inside f c count samples lt long =
     (pixel_group f.sampling f.depth).samples count (share_steps f c) in
     record { low = first_low f.sampling c lt; within = omega (arith, all, long) }
 
--- ---- how many there are
-
-pub few_groups : (f : Format) → group_count f ≤ 8192 * 8192
-few_groups f =
-    mul-le f.height (row_groups f) 8192 8192 f.whole_height.most
-    (omega (
-      arith,
-      div-le_self f.width (pixel_group f.sampling f.depth).pixels,
-      f.whole_width.most,
-    ))
-
-pub few_samples : (f : Format) (c : ℕ) → plane_count f c ≤ 8192 * 8192
-few_samples f c =
-    mul-le f.height (f.width / column_step f.sampling c) 8192 8192 f.whole_height.most
-    (omega (arith, div-le_self f.width (column_step f.sampling c), f.whole_width.most))
-
 -- a piece's samples of a component are some of its plane's
 pub samples_within : (f : Format) (c first count : ℕ) → first + count ≤ group_count f
     → group_share f c * first + group_share f c * count ≤ plane_count f c
@@ -142,20 +151,6 @@ samples_within f c first count le =
     subst (λ (n : ℕ). share * (first + count) ≤ n) (shares_count f c)
     (times_le share (first + count) (group_count f) le) in
     omega (arith, both, most)
-
--- a piece stands within its plane
-pub piece_within : (f : Format) (c first count : ℕ) → first + count ≤ group_count f
-    → octets_for f (group_share f c * first) + octets_for f (group_share f c * count)
-    ≤ octets_for f (plane_count f c)
-piece_within f c first count le =
-    let share : ℕ = group_share f c in
-    let size : ℕ = sample_size (y4m_spelling f.depth) in
-    omega (
-      arith,
-      mul-add size (share * first) (share * count),
-      times_le size (share * first + share * count) (plane_count f c)
-          (samples_within f c first count le),
-    )
 
 -- ---- values
 
@@ -243,111 +238,6 @@ piece_text d xs ys first step share group at n low same of =
     ≡ every_text (y4m_spelling d) xs first step (share * at) (share * n)) (sym of)
     (every_part d (take (group * n) (drop (group * at) xs)) xs first step 0 (share * at)
     (share * n) (λ k lt. at_part xs first step share group at n k low same lt))
-
--- ---- a plane
-
--- octets of so many pgroups, in the code's numbers
-pub scaled : (f : Format) (c n size share : ℕ) → size ≡ sample_size (y4m_spelling f.depth)
-    → share ≡ group_share f c → size * (share * n) ≡ octets_for f (group_share f c * n)
-scaled f c n size share s h =
-    ap (λ (x : ℕ). x * (share * n)) s ∙ ap (λ (x : ℕ). octets_for f (x * n)) h
-
-pub part_within : (f : Format) (c first count size share : ℕ) (plane : List ℕ)
-    → size ≡ sample_size (y4m_spelling f.depth) → share ≡ group_share f c
-    → first + count ≤ group_count f → length plane ≡ octets_for f (plane_count f c)
-    → size * (share * first) + size * (share * count) ≤ length plane
-part_within f c first count size share plane s h le long =
-    omega (
-      arith,
-      scaled f c first size share s h,
-      scaled f c count size share s h,
-      piece_within f c first count le,
-      long,
-    )
-
-pub part_long : (a k n : ℕ) (plane : List ℕ) → k ≡ n → a + n ≤ length plane
-    → length (mid_of a k plane) ≡ n
-part_long a k n plane same le =
-    length-take-le k (drop a plane) (omega (arith, same, le, length-drop a plane)) ∙ same
-
--- what was spelled into a part of a plane
-pub puts_groups : (f : Format) (c first count size share k : ℕ) (samples plane part : List ℕ)
-    → size ≡ sample_size (y4m_spelling f.depth) → share ≡ group_share f c
-    → k ≡ size * (share * count)
-    → size * (share * first) + size * (share * count) ≤ length plane
-    → length part ≡ length (mid_of (size * (share * first)) k plane)
-    → part ≡ part_text f c samples (group_share f c * count)
-    → PutsGroups f c first count samples plane (put_mid (size * (share * first)) k plane part)
-puts_groups f c first count size share k samples plane part s h same within long is =
-    let a : ℕ = size * (share * first) in
-    let at : a ≡ octets_for f (group_share f c * first) = scaled f c first size share s h in
-    let more : length part ≡ octets_for f (group_share f c * count) =
-    long ∙ part_long a k (size * (share * count)) plane same within
-    ∙ scaled f c count size share s h in
-    record {
-      long = same_len_mid a k plane part long;
-      text =
-          take-put_mid a k plane part
-          (octets_for f (group_share f c * first) + octets_for f (group_share f c * count))
-          (omega (arith, at, more)) (omega (arith, within))
-          ∙ ap (λ (n : ℕ). take n plane ++ part) at
-          ∙ ap (λ (t : List ℕ). take (octets_for f (group_share f c * first)) plane ++ t) is;
-    }
-
-pub groups_none : (v : Values) (c : ℕ) (plane : List ℕ)
-    → length plane ≡ octets_for v.format (plane_count v.format c) → HasGroups v c 0 plane
-groups_none v c plane long =
-    let f : Format = v.format in
-    let none : group_share f c * 0 ≡ 0 = times_none (group_share f c) in
-    let small : octets_for f (group_share f c * 0) ≡ 0 =
-    ap (octets_for f) none ∙ times_none (sample_size (y4m_spelling f.depth)) in
-    record {
-      long = long;
-      text =
-          ap (λ (n : ℕ). take n plane) small
-          ∙ sym (ap (part_text f c v.samples) none
-          ∙ every_none (y4m_spelling f.depth) v.samples (plane_first f.sampling c)
-          (plane_step f.sampling c) 0);
-    }
-
-pub groups_more : (v : Values) (c first count : ℕ) (samples old new : List ℕ) → c < 3
-    → samples ≡ take ((pixel_group v.format.sampling v.format.depth).samples * count)
-    (drop ((pixel_group v.format.sampling v.format.depth).samples * first) v.samples)
-    → HasGroups v c first old → PutsGroups v.format c first count samples old new
-    → HasGroups v c (first + count) new
-groups_more v c first count samples old new lt of so_far put =
-    let f : Format = v.format in
-    let begin : ℕ = plane_first f.sampling c in
-    let step : ℕ = plane_step f.sampling c in
-    let share : ℕ = group_share f c in
-    let size : ℕ = sample_size (y4m_spelling f.depth) in
-    let done : ℕ = share * first in
-    let more : ℕ = share * count in
-    let both : share * (first + count) ≡ done + more = mul-add share first count in
-    record {
-      long = put.long ∙ so_far.long;
-      text =
-          ap (λ (n : ℕ). take n new) (ap (octets_for f) both ∙ mul-add size done more)
-          ∙ put.text
-          ∙ ap (λ (t : List ℕ). t ++ part_text f c samples more) so_far.text
-          ∙ ap (λ (t : List ℕ). part_text f c v.samples done ++ t)
-          (piece_text f.depth v.samples samples begin step share
-          (pixel_group f.sampling f.depth).samples first count (first_low f.sampling c lt)
-          (share_steps f c) of)
-          ∙ sym (ap (part_text f c v.samples) both
-          ∙ every_front (y4m_spelling f.depth) v.samples begin step done more);
-    }
-
-pub groups_all : (v : Values) (c : ℕ) (plane : List ℕ) → IsYcc v.format.sampling → c < 3
-    → HasGroups v c (group_count v.format) plane → plane ≡ plane_text v c
-groups_all v c plane is lt has =
-    let f : Format = v.format in
-    let count : group_share f c * group_count f ≡ plane_count f c = shares_count f c in
-    sym (take_all (octets_for f (plane_count f c)) plane (omega (arith, has.long)))
-    ∙ ap (λ (n : ℕ). take (octets_for f n) plane) (sym count)
-    ∙ has.text
-    ∙ ap (part_text f c v.samples) count
-    ∙ sym (plane_every v c is lt)
 
 -- ---- a plane that is written by pieces
 

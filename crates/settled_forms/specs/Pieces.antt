@@ -1,7 +1,6 @@
--- Planes that are filled by pgroups, one after the other (own).
-use Rattle.std.specs.Prelude.{◌≡◌, ℕ, ◌+◌, ◌*◌, ◌/◌, List, ◌++◌, length, take}
-use Rattle.picture_forms.specs.Layouts.{column_step, plane_count, plane_first, plane_step}
-use Rattle.picture_forms.specs.Layouts.{y4m_spelling}
+-- Planes that are written by pgroups, one after the other (own).
+use Rattle.std.specs.Prelude.{ℕ, ◌*◌, ◌/◌, List}
+use Rattle.picture_forms.specs.Layouts.{column_step, plane_first, plane_step, y4m_spelling}
 use Rattle.picture_forms.specs.Planes.{every_text, sample_size}
 use Rattle.st_format.specs.declared.format.Format.{Format}
 use Rattle.st_format.specs.Pgroup.{pixel_group}
@@ -15,10 +14,6 @@ group_share f c = (pixel_group f.sampling f.depth).pixels / column_step f.sampli
 abbrev pub octets_for : Format → ℕ → ℕ
 octets_for f n = sample_size (y4m_spelling f.depth) * n
 
--- how many octets the planes of Cb and Cr take
-abbrev pub chroma_size : Format → ℕ
-chroma_size f = octets_for f (plane_count f 1) + octets_for f (plane_count f 2)
-
 -- the octets of the first samples of a component of these
 abbrev pub part_text : Format → ℕ → List ℕ → ℕ → List ℕ
 part_text f c samples n =
@@ -31,17 +26,3 @@ groups_text v c first count =
     every_text (y4m_spelling v.format.depth) v.samples (plane_first v.format.sampling c)
     (plane_step v.format.sampling c) (group_share v.format c * first)
     (group_share v.format c * count)
-
--- a plane of a picture, which has the octets of the first pgroups so far
-pub record HasGroups (v : Values) (c groups : ℕ) (plane : List ℕ) : Type 0 where
-  pub long : length plane ≡ octets_for v.format (plane_count v.format c)
-  pub text : take (octets_for v.format (group_share v.format c * groups)) plane
-      ≡ part_text v.format c v.samples (group_share v.format c * groups)
-
--- a plane got the octets of so many pgroups more, behind those of the first
-pub record PutsGroups (f : Format) (c first count : ℕ) (samples old new : List ℕ) : Type 0 where
-  pub long : length new ≡ length old
-  pub text : take (octets_for f (group_share f c * first)
-      + octets_for f (group_share f c * count)) new
-      ≡ take (octets_for f (group_share f c * first)) old
-      ++ part_text f c samples (group_share f c * count)
