@@ -10,7 +10,6 @@ use Rattle.path_receiver.specs.Opening.{IsWindowSize}
 use Rattle.path_receiver.specs.declared.fault.OpenFault.TheVariants as open_fault
 use Rattle.recording_engines.specs.Joining.{Strand}
 use Rattle.recording_reader.specs.Files.{text_of_file}
-use Rattle.recording_reader.specs.declared.fault.ReadingFault.{ReadingFault}
 use Rattle.run_outcome.specs.LowerFaults.{reading_fault}
 use Rattle.run_outcome.specs.Sources.{IsSourceText}
 use Rattle.run_outcome.specs.TextRefusals.{IsDescriptionRefusal, IsSdp}
