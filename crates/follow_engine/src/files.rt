@@ -49,9 +49,9 @@ use std::mem;
 /// # Errors
 ///
 /// The first refusal in this order: of the words; of the SDP text that is given; of a file, before
-/// its records; of the first file's text; of the records of the file whose turn it is, where several
-/// are at fault of the first, or that they are 2^64 or more, behind what was told and shown of those
-/// before the fault. And else that a device failed or memory was wanted.
+/// its records; of the first file's text; of the records of the file whose turn it is, where
+/// several are at fault of the first, or that they are 2^64 or more, behind what was told and shown
+/// of those before the fault. And else that a device failed or memory was wanted.
 pub fn follow_files<A, S, P, O>(
     alloc: A,
     asked: FollowAsked<'_>,

@@ -179,8 +179,8 @@ pub fn each_frame()
         IsSendersSample (cell_at h.frame at) s pictures h.timestamp at }
 {}
 
-/// Each frame that goes early, before it is due, has nothing missing (`complete`), and behind a turn
-/// no such frame is the oldest: all have gone, however many (`none_waits`). What comes of the
+/// Each frame that goes early, before it is due, has nothing missing (`complete`), and behind a
+/// turn no such frame is the oldest: all have gone, however many (`none_waits`). What comes of the
 /// timestamp of one afterwards, and is late then, could add nothing: of more datagrams each cell is
 /// as it is, or contested (`no_more`).
 pub fn early()

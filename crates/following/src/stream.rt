@@ -15,8 +15,9 @@ ghost use Rattle.following.specs.Stream.{TookTurns, delivered_by, not_shown, sti
 ghost use Rattle.following.specs.Stream.{without_early};
 ghost use Rattle.following.specs.Times.{AreTimed, IsOrderly, Timed, handed_at, in_order, octets_of};
 ghost use Rattle.following.specs.Times.{times_of};
-ghost use Rattle.following.specs.Turned.{answer_in, answers_in, goes_early, handed_as, handed_early};
-ghost use Rattle.following.specs.Turned.{handed_in, handed_while, state_behind, state_early, turned};
+ghost use Rattle.following.specs.Turned.{answer_in, answers_in, goes_early, handed_as};
+ghost use Rattle.following.specs.Turned.{handed_early, handed_in, handed_while, state_behind};
+ghost use Rattle.following.specs.Turned.{state_early, turned};
 
 use crate::fault::{FrameFault, StreamFault};
 use crate::follower::Follower;
@@ -95,8 +96,8 @@ pub fn follow<S: DatagramSource, A: Allocator, K: FrameSink, O: FollowObserver>(
     take_turns(source, follower, buf, limit, false, frame, sink, observer)
 }
 
-/// The same, where after each datagram the oldest frames are shown too, up to one of which something
-/// is missing: early, before they are due.
+/// The same, where after each datagram the oldest frames are shown too, up to one of which
+/// something is missing: early, before they are due.
 ///
 /// What comes of a timestamp whose frame went is late. So a caller that counts late datagrams
 /// counts the repeats of frames that went early among them. Where the sink failed, the complete
@@ -236,8 +237,8 @@ fn take_turns<S: DatagramSource, A: Allocator, K: FrameSink, O: FollowObserver>(
     })
 }
 
-/// Takes a datagram in its turn, tells the answer, and shows the frames that are handed out. Answers
-/// the timestamp of one at which the sink failed; the complete ones behind it are in then.
+/// Takes a datagram in its turn, tells the answer, and shows the frames that are handed out.
+/// Answers the timestamp of one at which the sink failed; the complete ones behind it are in then.
 fn show_turn<A: Allocator, K: FrameSink, O: FollowObserver>(
     follower: &mut Follower<A>,
     octets: &[u8],

@@ -1,5 +1,5 @@
-//! What `run_convert` and `run_picture` write and tell with each growth refused, and with each call of
-//! a device failing.
+//! What `run_convert` and `run_picture` write and tell with each growth refused, and with each call
+//! of a device failing.
 use crate::checks::met;
 use crate::form_calls::{Call, Failing, NONE, Run, conversions, make_call, views};
 use refusing::Refusing;
@@ -84,8 +84,8 @@ fn has_failed(run: &Run, call: &Call, device: Device, nth: u64) -> bool {
     is_told && is_part && call.text.starts_with(held) && failures(run, device) == 1
 }
 
-/// Whether a device has this many calls, or more, and each that fails is told, and the next run is as
-/// if none had.
+/// Whether a device has this many calls, or more, and each that fails is told, and the next run is
+/// as if none had.
 fn fails_in_each(alloc: Global, call: &Call, device: Device, least: u64) -> Result<bool, Fail> {
     for nth in 1..200u64 {
         let failed = make_call(alloc, alloc, call, failing_at(device, nth))?;

@@ -1,5 +1,5 @@
-//! What no text of the program shows of frames, pictures and receivers: the words of faults, a device
-//! that fails, and refused growths. Tests, with values that are worked out by hand.
+//! What no text of the program shows of frames, pictures and receivers: the words of faults, a
+//! device that fails, and refused growths. Tests, with values that are worked out by hand.
 #![tactic(auto)]
 
 #[cfg(test)]

@@ -33,8 +33,8 @@ impl Wanting for Engine {
 
 /// Of `import` for the SDP text, for the flows of each file, for a capture's text, for a packet of
 /// each recording, and for a record of the capture; of `inspect` for a packet, and for the table of
-/// flows and its index; of `export` for a record, and for a packet; of streams for the SDP text, the
-/// rooms, the tables and their indexes, and the text.
+/// flows and its index; of `export` for a record, and for a packet; of streams for the SDP text,
+/// the rooms, the tables and their indexes, and the text.
 #[test]
 fn of_each_engine(rt: HostRuntime) -> Result<(), Fail> {
     met(&rt, grows(rt.alloc(), &Engine::Import, 6)?);

@@ -42,8 +42,8 @@ struct PacedRun {
     told: MemorySink,
 }
 
-/// A run of `run_export_paced` on the capture, to one flow, from 1.000000001 seconds on, over devices
-/// of seven octets a call.
+/// A run of `run_export_paced` on the capture, to one flow, from 1.000000001 seconds on, over
+/// devices of seven octets a call.
 fn paced(global: Global, failing: Failing) -> Result<PacedRun, AllocError> {
     let mut ahead = MemorySource::new(Vec::from_slice(global, CAPTURE)?, 7, failing.ahead);
     let mut second = MemorySource::new(Vec::from_slice(global, CAPTURE)?, 7, failing.second);
