@@ -203,7 +203,7 @@ pub takes_planes : {K A : Type 0} (took : K → List ℕ) (k l : FormSink K A) (
     → took sink ≡ took k.sink
     ++ (head_for k.format h.frame.format ++ frame_text (picture_of fill None h.frame))
     → l.sink ≡ sink → l.format ≡ Some f → l.settling ≡ k.settling → SinkTakes took k h l
-takes_planes took k l sink fill f h by none ycc same given written sunk begun kept = record {
+takes_planes {A = A} took k l sink fill f h by none ycc same given written sunk begun kept = record {
   written =
       ap took sunk ∙ written
       ∙ ap (λ (t : List ℕ). took k.sink ++ t) (given_text_is k fill h given none ycc);
