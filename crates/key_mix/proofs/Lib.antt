@@ -10,3 +10,4 @@ pub mod Steps
 pub mod Alone
 pub mod MadeParts
 pub mod MadePictures
+pub mod Prepared

@@ -21,25 +21,6 @@ use Rattle.key_mix.specs.Sending.{IsSendFault, Puts, Sends, input_formats, settl
 use Rattle.key_mix.specs.declared.sending.JobInput.{JobInput}
 use Rattle.key_mix.proofs.Refused.{err, ok}
 
-pub sends_as : (Are Were : List (List ℕ) → Type 0) (first : ℕ) (old new : Option (List (List ℕ)))
-    (r : Result ℕ SendJobFault) → ((ds : List (List ℕ)) → Were ds → Are ds)
-    → Sends Were first old new r → Sends Are first old new r
-sends_as Are Were first old new (Ok next) each h = (h.0, each h.0 h.1, h.2, h.3)
-sends_as Are Were first old new (Err (fault.Sink sent)) each h = (h.0, each h.0 h.1, h.2, h.3)
-sends_as Are Were first old new (Err (fault.Job e)) each h = h
-sends_as Are Were first old new (Err fault.BadPacketSize) each h = h
-
-pub puts_as : {S : Type 0} (takes fails : S → List ℕ → S → Type 0)
-    (Are Were : List (List ℕ) → Type 0) (first : ℕ) (old new : S) (r : Result ℕ SendJobFault)
-    → ((ds : List (List ℕ)) → Were ds → Are ds) → Puts takes fails Were first old new r
-    → Puts takes fails Are first old new r
-puts_as {S} takes fails Are Were first old new (Ok next) each h =
-    (h.0, each h.0 h.1, h.2, h.3, h.4)
-puts_as {S} takes fails Are Were first old new (Err (fault.Sink sent)) each h =
-    (h.0, each h.0 h.1, h.2)
-puts_as {S} takes fails Are Were first old new (Err (fault.Job e)) each h = h
-puts_as {S} takes fails Are Were first old new (Err fault.BadPacketSize) each h = h
-
 -- a size that isn't refused, and one that is
 pub size_fits : (f : Format) (size : ℕ)
     → ((size < 20 + group_octets f) ⊎ (9000 < size) → ⊥) → IsSize size f

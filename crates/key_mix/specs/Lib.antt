@@ -3,3 +3,4 @@ pub mod Jobs
 pub mod Sending
 pub mod Rows
 pub mod Made
+pub mod Preparing

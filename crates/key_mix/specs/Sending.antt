@@ -111,9 +111,3 @@ abbrev pub IsEarly : SendJobFault → Type 0
 IsEarly (fault.Job e) = Unit {0}
 IsEarly fault.BadPacketSize = Unit {0}
 IsEarly (fault.Sink sent) = ⊥
-
--- the faults that come after its plan was made
-abbrev pub IsLate : SendJobFault → Type 0
-IsLate (fault.Job e) = e ≡ NoMemory
-IsLate fault.BadPacketSize = ⊥
-IsLate (fault.Sink sent) = Unit {0}

@@ -6,6 +6,7 @@ mod formats;
 mod jobs;
 mod keys;
 mod making;
+mod preparing;
 mod rows;
 mod sending;
 mod source;
@@ -15,6 +16,7 @@ use bt709_fixed::RangeKind;
 pub use faults::{JobFault, SendJobFault};
 pub use jobs::run_job;
 pub use keys::key;
+pub use preparing::PreparedJob;
 pub use sending::{JobInput, send_job};
 pub use wipes::wipe;
 

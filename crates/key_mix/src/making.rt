@@ -74,6 +74,7 @@ impl<'a, A: Allocator> MadePicture<'a, A> {
         requires bases { AllByRecursion HasBase inputs.now }
         requires format { IsJobFormat format job.now (input_formats inputs.now) }
         ensures made { IfSome result (λ p. IsJobPicture p job.now (settled_inputs inputs.now)) }
+        ensures whole { IfSome result (λ p. IsPicture p) }
         ensures format { IfSome result (λ p. p.format ≡ format) }
     {
         match (job, inputs) {
@@ -197,6 +198,7 @@ fn keyed<'a, A: Allocator>(
     requires format { format ≡ a.now.frame.now.format }
     ensures made { IfSome result (λ p.
         IsJobPicture p Key (settled a.now ∷ settled b.now ∷ settled by.now ∷ [])) }
+    ensures whole { IfSome result (λ p. IsPicture p) }
     ensures format { IfSome result (λ p. p.format ≡ format) }
 {
     if !format.same(&b.frame.format()) || !format.same(&by.frame.format()) {
@@ -216,6 +218,7 @@ fn matrixed<'a, A: Allocator>(rgb: &JobInput<'a, A>, format: Format) -> Option<M
     requires base { HasBase rgb.now }
     requires format { IsResampled format rgb.now.frame.now.format Ycc444 }
     ensures made { IfSome result (λ p. IsJobPicture p ToYcc444 (settled rgb.now ∷ [])) }
+    ensures whole { IfSome result (λ p. IsPicture p) }
     ensures format { IfSome result (λ p. p.format ≡ format) }
 {
     let Sampling::Rgb = rgb.frame.format().sampling() else {

@@ -101,7 +101,8 @@ pub mod process {
         scale_of, to_ycc422, to_ycc444,
     };
     pub use key_mix::{
-        Axis, Job, JobFault, JobInput, SendJobFault, WipeShape, key, run_job, send_job, wipe,
+        Axis, Job, JobFault, JobInput, PreparedJob, SendJobFault, WipeShape, key, run_job,
+        send_job, wipe,
     };
 }
 

@@ -35,3 +35,13 @@ returns-clause-made g c =
     (keyed_made c.new.result c.new-2.result c.new-3.result c.args.a.now c.args.b.now c.args.by.now
     c.args.format c.new.ensures c.new-2.ensures c.new-3.ensures of_a of_b of_by
     c.settled_facts.ensures c.settled_facts-2.ensures).1
+
+pub returns-clause-whole : goal.returns-clause-whole
+returns-clause-whole g c =
+    let of_a = c.requires.format in
+    let of_b = c.if-not-same.ensures.value.0 refl ∙ c.format.ensures.format in
+    let of_by =
+    c.if-not-same-2.ensures.value.0 refl ∙ c.format-else-not-same.ensures.format in
+    (keyed_made c.new.result c.new-2.result c.new-3.result c.args.a.now c.args.b.now c.args.by.now
+    c.args.format c.new.ensures c.new-2.ensures c.new-3.ensures of_a of_b of_by
+    c.settled_facts.ensures c.settled_facts-2.ensures).0

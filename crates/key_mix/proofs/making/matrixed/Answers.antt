@@ -35,3 +35,10 @@ returns-clause-made g c =
       (matrixed_made c.new.result c.args.rgb.now c.args.format c.new.ensures is c.requires.format
           c.settled_facts.ensures).1,
     )
+
+pub returns-clause-whole : goal.returns-clause-whole
+returns-clause-whole g c =
+    let is = sym (c.sampling.ensures ∙ ap (λ (f : Format). f.sampling) c.format.ensures.format)
+    ∙ c.in-Rgb.is in
+    (matrixed_made c.new.result c.args.rgb.now c.args.format c.new.ensures is c.requires.format
+    c.settled_facts.ensures).0

@@ -1,7 +1,7 @@
 use Rattle.std.proofs.lemmas.Result.{err_from_is_err_and}
 use Rattle.key_mix.specs.Sending.{input_formats}
 use Rattle.key_mix.proofs.Sent.{plan_fault, plan_fits}
-use Rattle.key_mix.proofs.sending.job_plan.Goals as goal
+use Rattle.key_mix.proofs.preparing.job_plan.Goals as goal
 
 pub returns-in_err-new-clause-fault : goal.returns-in_err-new-clause-fault
 returns-in_err-new-clause-fault g c =

@@ -2,7 +2,7 @@ use Rattle.std.proofs.Common.{◌≡◌, IfErr, ap, subst, ◌∙◌}
 use Rattle.key_mix.specs.Jobs.{IsFault, formats_of}
 use Rattle.key_mix.specs.Sending.{input_formats}
 use Rattle.key_mix.proofs.Sent.{only_if, settled_formats}
-use Rattle.key_mix.proofs.sending.job_picture.Goals as goal
+use Rattle.key_mix.proofs.preparing.job_picture.Goals as goal
 
 pub returns-clause-only : goal.returns-clause-only
 returns-clause-only g c =

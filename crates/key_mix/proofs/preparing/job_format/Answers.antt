@@ -1,7 +1,7 @@
 use Rattle.std.proofs.Common.{IfErr, IfOk, OnOk, arith, subst}
 use Rattle.key_mix.specs.Jobs.{IsJobFormat, IsRefusal, IsSoundJob}
 use Rattle.key_mix.proofs.Inputs.{map_one, map_three, map_two}
-use Rattle.key_mix.proofs.sending.job_format.Goals as goal
+use Rattle.key_mix.proofs.preparing.job_format.Goals as goal
 
 pub returns-in-len1-clause-format : goal.returns-in-len1-clause-format
 returns-in-len1-clause-format g c =

@@ -3,7 +3,7 @@ use Rattle.std.proofs.lemmas.List.{take_all}
 use Rattle.frame_assembly.specs.Settled.{settled_picture}
 use Rattle.key_mix.specs.Sending.{HasBase, settled_inputs}
 use Rattle.key_mix.proofs.Inputs.{map_more, of_item}
-use Rattle.key_mix.proofs.sending.settle_inputs.Goals as goal
+use Rattle.key_mix.proofs.preparing.settle_inputs.Goals as goal
 
 pub loop-input-init : goal.loop-input-init
 loop-input-init g c = c.new-pictures.ensures.items
