@@ -6,7 +6,6 @@ pub mod Lists
 pub mod Settling
 pub mod Refusals
 pub mod FileRefusals
-pub mod Late
-pub mod LateTakings
+pub mod Captures
 pub mod Meaning
 pub mod Parts

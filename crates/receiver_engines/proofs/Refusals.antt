@@ -1,18 +1,19 @@
 -- Which refusal ends a run.
 use Rattle.std.proofs.Common.{◌≡◌, ℕ, ◌<◌, zero, suc, inl, inr, List, [], ◌∷◌, length}
 use Rattle.std.proofs.Common.{get_or, Option, None, Some, Result, Ok, Err, IfOk}
-use Rattle.std.proofs.Common.{refl, ap, arith, subst, sym, ◌∙◌, ◌↔◌, IsSome, OnOk}
+use Rattle.std.proofs.Common.{refl, ap, arith, subst, sym, ◌∙◌, ◌↔◌, IfErr, IsSome, OnOk}
 use Rattle.std.proofs.lemmas.Bool.{false≢true}
 use Rattle.std.specs.List.{AllByRecursion}
 use Rattle.std.specs.Borrow.{Bor}
 use Rattle.std.specs.Str.Parse.{digits_value}
+use Rattle.run_outcome.specs.Fault.{Blames, IfRefused, counts}
 use Rattle.run_outcome.specs.Refusing.{OfRefusal}
 use Rattle.run_outcome.specs.declared.fault.Fault.{Fault}
-use Rattle.run_outcome.specs.declared.fault.Fault.TheVariants.{Refused}
+use Rattle.run_outcome.specs.declared.fault.Fault.TheVariants.{Refused, Device, Memory}
 use Rattle.run_outcome.specs.declared.refusal.Refusal.{Refusal}
 use Rattle.run_outcome.specs.declared.refusal.Refusal.TheVariants as why
-use Rattle.run_outcome.proofs.Refusals.{either}
-use Rattle.key_mix.specs.Sending.{IsSendFault}
+use Rattle.run_outcome.proofs.Refusals.{either, if_err_map}
+use Rattle.key_mix.specs.Sending.{IsEarly, IsSendFault}
 use Rattle.key_mix.specs.declared.Job.{Job}
 use Rattle.key_mix.specs.declared.faults.JobFault.TheVariants as job_fault
 use Rattle.key_mix.specs.declared.faults.SendJobFault.{SendJobFault}
@@ -205,3 +206,36 @@ read_refused told states hold w why.ProcessJob is = absurd is.refused.holds.hold
 read_refused told states hold w (why.State f) is = absurd is.refused.holds.holds
 read_refused told states hold w (why.Picture f) is = absurd is.refused.holds.holds
 read_refused told states hold w r is = is
+
+-- ---- what the sending leaves
+
+-- where nothing was touched it holds of a refusal too
+pub if_refused : (f : Fault) (P : Type 0) → P → IfRefused f P
+if_refused (Refused r) P is = is
+if_refused Device P is = tt
+if_refused Memory P is = tt
+
+-- what fails by the device alone is refused nothing
+pub device_alone_refused : {V : Type 0} (r : Result V Fault) (P : Type 0)
+    → IfErr r (λ f. f ≡ Device) → IfErr r (λ f. IfRefused f P)
+device_alone_refused r P device =
+    if_err_map r (λ f is. subst (λ (g : Fault). IfRefused g P) (sym is) tt) device
+
+pub device_alone_refusal : {V : Type 0} (r : Result V Fault) (Is : Refusal → Type 0)
+    → IfErr r (λ f. f ≡ Device) → IfErr r (λ f. OfRefusal f Is)
+device_alone_refusal r Is device =
+    if_err_map r (λ f is. subst (λ (g : Fault). OfRefusal g Is) (sym is) tt) device
+
+-- before the sink was asked it had not failed
+pub early_blames : (e : SendJobFault) (n : ℕ) → IsEarly e
+    → Blames (counts n n ∷ []) (of_send_job e)
+early_blames (sending.Job job_fault.NoMemory) n early = refl
+early_blames (sending.Job job_fault.FormatsDiffer) n early = refl
+early_blames (sending.Job job_fault.KeyNotYcc) n early = refl
+early_blames (sending.Job job_fault.BadWipe) n early = refl
+early_blames (sending.Job job_fault.NotRgb) n early = refl
+early_blames (sending.Job job_fault.NotYcc444) n early = refl
+early_blames (sending.Job job_fault.WrongInputCount) n early = refl
+early_blames (sending.Job job_fault.BadGain) n early = refl
+early_blames sending.BadPacketSize n early = refl
+early_blames (sending.Sink sent) n early = absurd early

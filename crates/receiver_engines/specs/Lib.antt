@@ -8,7 +8,6 @@ pub mod Inputs
 pub mod Reading
 pub mod MergedAll
 pub mod MergeAllRefused
-pub mod Late
 pub mod Processing
 pub mod Refused
 pub mod Offered

@@ -1,6 +1,5 @@
 -- What `process` sends (own).
-use Rattle.std.specs.Prelude.{◌≡◌, ℕ, ◌+◌, ◌^◌, ◌%◌, List, [], ◌∷◌, ◌++◌, Option, length, take, ◌<◌}
-use Rattle.std.specs.Prelude.{Result, Ok, Err}
+use Rattle.std.specs.Prelude.{◌≡◌, ℕ, ◌^◌, ◌%◌, List, [], ◌∷◌, ◌++◌, Option, length, take, ◌<◌}
 use Rattle.run_outcome.specs.Line.{line_text}
 use Rattle.run_outcome.specs.declared.line.Line.TheVariants.{Sent}
 use Rattle.run_outcome.specs.LowerFaults.{of_job, of_plan}
@@ -12,14 +11,14 @@ use Rattle.packet_plan.specs.declared.plan.PlanFault.TheVariants as plan
 use Rattle.key_mix.specs.Sending.{IsSendable, IsSentJob}
 use Rattle.key_mix.specs.declared.Job.{Job}
 use Rattle.packet_plan.specs.declared.stamp.Stamp.{Stamp}
+use Rattle.media_file.specs.Writer.{written_text}
+use Rattle.media_file.specs.declared.paths.Paths.TheVariants.{OnlyA}
 use Rattle.path_receiver.specs.Frames.{State}
-use Rattle.st_format.specs.Device.{CountsOne, GrowsPart}
 use Rattle.st_format.specs.Picture.{Values}
 use Rattle.st_format.specs.Raster.{Raster}
 use Rattle.receiver_engines.specs.Inputs.{AreFramesAt, IsFill, IsHeldFor, raster_formats}
 use Rattle.receiver_engines.specs.Inputs.{settled_frames}
 use Rattle.receiver_engines.specs.JobText.{IsJobText}
-use Rattle.receiver_engines.specs.Late.{late_text}
 use Rattle.receiver_engines.specs.Reading.{SayReceivers, SaysHeld}
 
 -- A sink of octets was written the capture of a text and of the datagrams of a job's picture of
@@ -28,24 +27,8 @@ pub record TakesSaid (text : List ℕ) (job : Job) (pictures : List Values) (siz
     (old new : List ℕ) (count : ℕ) : Type 0 where
   pub datagrams : List (List ℕ)
   pub spell : IsSentJob datagrams job pictures size stamp
-  pub written : new ≡ old ++ late_text text datagrams
+  pub written : new ≡ old ++ written_text OnlyA text datagrams
   pub count_is : count ≡ length datagrams % 2 ^ 32
-
--- What became of a sink of octets: it was written the capture of a text and such datagrams, and
--- didn't fail; or it failed once, and was written a first part of that and not all; and else it is
--- as it was. The first packet has the number `first`.
-abbrev pub WritesJob : {K : Type 0} → (List (List ℕ) → Type 0) → (K → List ℕ) → (K → ℕ)
-    → List ℕ → ℕ → K → K → Result ℕ SendJobFault → Type 0
-WritesJob Are took failures text first old new (Ok next) =
-    (datagrams : List (List ℕ)) × Are datagrams
-    × (took new ≡ took old ++ late_text text datagrams) × (failures new ≡ failures old)
-    × (next ≡ (first + length datagrams) % 2 ^ 32)
-WritesJob Are took failures text first old new (Err (sending.Sink sent)) =
-    CountsOne (failures old) (failures new)
-    × ((datagrams : List (List ℕ)) × Are datagrams
-    × GrowsPart (took old) (took new) (late_text text datagrams))
-WritesJob Are took failures text first old new (Err (sending.Job e)) = new ≡ old
-WritesJob Are took failures text first old new (Err sending.BadPacketSize) = new ≡ old
 
 -- It was written that of receivers' frames of a timestamp, each settled. Nothing speaks against the
 -- job, and the size is one for the format of its picture.
@@ -98,7 +81,7 @@ pub record SendsSaidPart (text : List ℕ) (size : ℕ) (stamp : Stamp) (old new
   pub datagrams : List (List ℕ)
   pub count : ℕ
   pub spell : 0 < count → IsSentJob datagrams job pictures size stamp
-  pub written : new ≡ old ++ take count (late_text text datagrams)
+  pub written : new ≡ old ++ take count (written_text OnlyA text datagrams)
 
 -- so with an empty text
 abbrev pub SendsUnsaidPart : ℕ → Stamp → List ℕ → List ℕ → Type 0

@@ -6,13 +6,13 @@ mod fill_text;
 mod inputs;
 mod job_offers;
 mod job_text;
-mod late_capture;
 mod merging;
 mod merging_all;
 mod processing;
 mod reading;
 mod reporting;
 mod states;
+mod untold;
 
 pub use fill_text::read_fill;
 pub use job_offers::offered_by_job;

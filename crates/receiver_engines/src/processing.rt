@@ -5,24 +5,26 @@ ghost use Rattle.std.specs.List.{AllByRecursion, zip};
 ghost use Rattle.run_outcome.specs.Moments.{WasRead, pair};
 ghost use Rattle.run_outcome.specs.Fault.{Accounts, IfRefused, counts, failures_in};
 ghost use Rattle.run_outcome.specs.Refusing.{OfRefusal};
-ghost use Rattle.key_mix.specs.Sending.{HasBase, IsSendFault, IsSendable, IsSentJob, input_formats};
-ghost use Rattle.key_mix.specs.Sending.{settled_inputs};
+ghost use Rattle.key_mix.specs.Preparing.{IsPreparedJob};
+ghost use Rattle.key_mix.specs.Sending.{HasBase, IsSendable, input_formats, settled_inputs};
 ghost use Rattle.key_mix.specs.declared.Job.{Job};
-ghost use Rattle.run_outcome.specs.declared.fault.Fault.TheVariants.{Refused};
+ghost use Rattle.st_format.specs.Picture.{Values};
+ghost use Rattle.run_outcome.specs.declared.fault.Fault.TheVariants.{Device, Refused};
 ghost use Rattle.run_outcome.specs.declared.refusal.Refusal.TheVariants.{ProcessJob};
 ghost use Rattle.run_outcome.specs.TextRefusals.{SaysText};
 ghost use Rattle.receiver_engines.specs.JobText.{IsJobText};
 ghost use Rattle.receiver_engines.specs.Processing.{PrintsSent, SendsFiles, SendsUnsaidPart};
 ghost use Rattle.receiver_engines.specs.Processing.{SendsSaidFiles, SendsSaidJob, SendsSaidPart};
-ghost use Rattle.receiver_engines.specs.Processing.{TakesSaid, WritesJob, of_send_job};
+ghost use Rattle.receiver_engines.specs.Processing.{TakesSaid, of_send_job};
 ghost use Rattle.receiver_engines.specs.Refused.{IsJobOrPlanRefusal, IsJobRefusal, IsRunRefusal};
 ghost use Rattle.receiver_engines.specs.Refused.{IsSaidRunRefusal};
 
 use crate::inputs::{check_held, fill_for, frames_at, inputs_of};
 use crate::job_text::read_job;
-use crate::late_capture::LateCapture;
 use crate::reading::{read_held, read_receivers};
-use key_mix::{Job, JobInput, SendJobFault, send_job};
+use crate::untold::Untold;
+use key_mix::{Job, JobInput, PreparedJob, SendJobFault};
+use media_file::{CaptureWriter, Paths};
 use packet_plan::{PlanFault, Stamp};
 use path_receiver::Receiver;
 use run_outcome::{Fault, Line, Refusal, print, read_if_given};
@@ -237,7 +239,8 @@ fn send_frames<A: Allocator + Copy, K: ByteSink>(
     send(alloc, job, &inputs, wanted, said, sink)
 }
 
-/// Writes the capture of the job's picture, and answers how many datagrams that is.
+/// Writes the capture of the job's picture, and answers how many datagrams that is. The capture is
+/// begun once nothing but the sink can fail.
 fn send<A: Allocator + Copy, K: ByteSink>(
     alloc: A,
     job: &Job,
@@ -260,39 +263,45 @@ fn send<A: Allocator + Copy, K: ByteSink>(
         IsJobOrPlanRefusal job.now wanted.entry.max_octets r (input_formats inputs.now))) }
     ensures failures { Accounts result (counts (K.failures sink.old) (K.failures sink.new) ∷ []) }
 {
-    let stamp = wanted.stamp;
-    match send_capture(alloc, job, inputs, wanted.max_octets, stamp, said, sink) {
-        Ok(next) => Ok(next.wrapping_sub(stamp.first)),
-        Err(fault) => Err(send_job_fault(fault)),
-    }
+    let mut prepared = match PreparedJob::new(alloc, job, inputs, wanted.max_octets) {
+        Ok(prepared) => prepared,
+        Err(fault) => return Err(send_job_fault(fault)),
+    };
+    send_capture(&mut prepared, wanted.stamp, said, sink)
 }
 
-/// Sends the job's picture into a capture of this text, which is begun at the first datagram: a run
-/// that is refused doesn't touch the sink. Answers as [`send_job`] does.
+/// Sends a prepared job's picture into a capture of this text, and answers how many datagrams that
+/// is. An `Err` is the sink's one failure.
 fn send_capture<A: Allocator + Copy, K: ByteSink>(
-    alloc: A,
-    job: &Job,
-    inputs: &[JobInput<'_, A>],
-    max_octets: u32,
+    prepared: &mut PreparedJob<'_, A, A>,
     stamp: Stamp,
     said: &[u8],
     sink: &mut K,
-) -> Result<u32, SendJobFault>
-    requires bases { AllByRecursion HasBase inputs.now }
+) -> Result<u32, Fault>
     requires payload_type { stamp.payload_type ≤ 127 }
     requires text { length said.now ≤ 65535 }
-    ensures written { WritesJob
-        (λ ds. IsSentJob ds job.now (settled_inputs inputs.now) max_octets stamp)
-        K.took K.failures said.now stamp.first sink.old sink.new result }
-    ensures sendable { OnOk result
-        (IsSendable job.now (input_formats inputs.now) max_octets) }
-    ensures fault { IfErr result
-        (λ e. IsSendFault e job.now (input_formats inputs.now) max_octets) }
+    ensures sent { IfOk result (λ n. (job : Job) (pictures : List Values) (size : ℕ)
+        → IsPreparedJob prepared.old job pictures size
+        → TakesSaid said.now job pictures size stamp (K.took sink.old) (K.took sink.new) n) }
+    ensures part { OnErr result ((job : Job) (pictures : List Values) (size : ℕ)
+        → IsPreparedJob prepared.old job pictures size
+        → SendsSaidPart said.now size stamp (K.took sink.old) (K.took sink.new)) }
+    ensures device { IfErr result (λ f. f ≡ Device) }
+    ensures failures { Accounts result (counts (K.failures sink.old) (K.failures sink.new) ∷ []) }
 {
-    let mut capture = LateCapture::new(&mut *sink, said);
-    let answer = send_job(alloc, job, inputs, max_octets, stamp, &mut capture);
-    let _ = capture.into_inner();
-    answer
+    let mut capture = match CaptureWriter::open(Untold::new(&mut *sink), Paths::OnlyA, said) {
+        Ok(capture) => capture,
+        Err(failed) => {
+            let _ = failed.1.into_inner();
+            return Err(Fault::Device);
+        }
+    };
+    let sent = prepared.send(stamp, &mut capture);
+    let _ = capture.into_inner().into_inner();
+    match sent {
+        Ok(next) => Ok(next.wrapping_sub(stamp.first)),
+        Err(_) => Err(Fault::Device),
+    }
 }
 
 /// A fault of the sending as one that ends a run: the sink's is a device's.

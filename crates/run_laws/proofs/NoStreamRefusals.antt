@@ -17,7 +17,8 @@ use Rattle.run_outcome.specs.Moments.{WasRead}
 use Rattle.run_outcome.specs.declared.refusal.Refusal.{Refusal}
 use Rattle.run_outcome.specs.declared.refusal.Refusal.TheVariants as why
 use Rattle.capture_engines.specs.declared.sender.Sending.{Sending}
-use Rattle.stream_sending.specs.Sent.{IsFramesRefusal, IsSentBy, IsSentStreamFault}
+use Rattle.capture_engines.specs.Typed.{IsSentBy}
+use Rattle.stream_sending.specs.Sent.{IsFramesRefusal, IsSentStreamFault}
 use Rattle.stream_sending.specs.Sent.{IsSentStreamRefusal, SendsStream}
 use Rattle.stream_sending.specs.Streams.{BeginsFrames, HasFrames, HasStreamFrameFault, IsStreamOf}
 use Rattle.run_laws.specs.Received.{read_of}

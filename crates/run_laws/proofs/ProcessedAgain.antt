@@ -17,7 +17,7 @@ use Rattle.st_format.proofs.Places.{place-is_position}
 use Rattle.key_mix.specs.declared.Job.{Job}
 use Rattle.media_file.specs.Fronts.{front_text}
 use Rattle.media_file.specs.Records.{Entry, record_text, records_text}
-use Rattle.media_file.specs.Writer.{entries_from, entry, moment_behind}
+use Rattle.media_file.specs.Writer.{entries_from, entry, moment_behind, written_text}
 use Rattle.media_file.specs.declared.front.Version.TheVariants.{Two}
 use Rattle.media_file.specs.declared.paths.Paths.TheVariants.{OnlyA}
 use Rattle.packet_plan.specs.Plan.{IsFullPlan}
@@ -26,7 +26,6 @@ use Rattle.packet_plan.specs.declared.run.PacketRun.{PacketRun}
 use Rattle.packet_plan.specs.declared.stamp.Stamp.{Stamp}
 use Rattle.run_outcome.specs.Moments.{WasRead}
 use Rattle.receiver_engines.specs.Inputs.{settled_frames}
-use Rattle.receiver_engines.specs.Late.{late_text}
 use Rattle.receiver_engines.specs.Processing.{SendsSaidFiles, TakesSaid}
 use Rattle.run_laws.specs.Received.{all_read, read_of}
 use Rattle.run_laws.specs.Sent.{AreOnePicture}
@@ -52,12 +51,11 @@ records_small moment (d ∷ ds) all =
       records_small (moment_behind OnlyA moment) ds (small_behind (record_text e) later all),
     )
 
-late_small : (text : List ℕ) (ds : List (List ℕ)) → Small (late_text text ds)
+written_small : (text : List ℕ) (ds : List (List ℕ)) → Small (written_text OnlyA text ds)
     → AllByRecursion Small ds
-late_small text [] all = tt
-late_small text (d ∷ ds) all =
-    records_small 0 (d ∷ ds)
-    (small_behind (front_text Two text) (records_text (entries_from OnlyA 0 (d ∷ ds))) all)
+written_small text ds all =
+    records_small 0 ds
+    (small_behind (front_text Two text) (records_text (entries_from OnlyA 0 ds)) all)
 
 -- ---- one picture has one value for each sample
 
@@ -84,11 +82,11 @@ module _ (text : List ℕ) (job : Job) (pictures : List Values) (size : ℕ) (st
     abbrev q : Values
     q = second.spell.picture
 
-    wrote : since old new ≡ late_text text first.datagrams
-    wrote = since_is old new (late_text text first.datagrams) first.written
+    wrote : since old new ≡ written_text OnlyA text first.datagrams
+    wrote = since_is old new (written_text OnlyA text first.datagrams) first.written
 
-    wrote_again : since old' new' ≡ late_text text second.datagrams
-    wrote_again = since_is old' new' (late_text text second.datagrams) second.written
+    wrote_again : since old' new' ≡ written_text OnlyA text second.datagrams
+    wrote_again = since_is old' new' (written_text OnlyA text second.datagrams) second.written
 
     one : AreOnePicture p q
     one = job_once job pictures p q first.spell.made second.spell.made
@@ -101,12 +99,12 @@ module _ (text : List ℕ) (job : Job) (pictures : List Values) (size : ℕ) (st
 
     small : AllByRecursion Small first.datagrams
     small =
-        late_small text first.datagrams
+        written_small text first.datagrams
         (subst Small wrote (all_octets (since old new) octets))
 
     small_again : AllByRecursion Small second.datagrams
     small_again =
-        late_small text second.datagrams
+        written_small text second.datagrams
         (subst Small wrote_again (all_octets (since old' new') others))
 
     same_datagrams : first.datagrams ≡ second.datagrams
@@ -119,7 +117,7 @@ module _ (text : List ℕ) (job : Job) (pictures : List Values) (size : ℕ) (st
 
     pub taken_again : (since old new ≡ since old' new') × (count ≡ count')
     taken_again = (
-      wrote ∙ ap (late_text text) same_datagrams ∙ sym wrote_again,
+      wrote ∙ ap (written_text OnlyA text) same_datagrams ∙ sym wrote_again,
       first.count_is ∙ ap (λ (ds : List (List ℕ)). length ds % 2 ^ 32) same_datagrams
           ∙ sym second.count_is,
     )

@@ -24,6 +24,7 @@ ghost use Rattle.st_format.specs.Position.{Position};
 ghost use Rattle.st_format.specs.declared.format.Format.{Format};
 ghost use Rattle.media_file.specs.Writer.{written_text};
 ghost use Rattle.media_file.specs.declared.paths.Paths.{Paths};
+ghost use Rattle.media_file.specs.declared.paths.Paths.TheVariants.{OnlyA};
 ghost use Rattle.packet_plan.specs.declared.stamp.Stamp.{Stamp};
 ghost use Rattle.path_receiver.specs.Frames.{cell_in, frame_at};
 ghost use Rattle.path_receiver.specs.Sender.{AreAmong, IsSendersCell, picture_raster};
@@ -37,7 +38,6 @@ ghost use Rattle.capture_engines.specs.Looping.{Link, Loops};
 ghost use Rattle.capture_engines.specs.Migrating.{Migrates};
 ghost use Rattle.capture_engines.specs.Sending.{SendsAll, run_sender};
 ghost use Rattle.capture_engines.specs.declared.sender.Sending.{Sending};
-ghost use Rattle.receiver_engines.specs.Late.{late_text};
 ghost use Rattle.receiver_engines.specs.Offered.{OffersJob};
 ghost use Rattle.receiver_engines.specs.Processing.{SendsSaidFiles, TakesSaid};
 ghost use Rattle.run_laws.specs.Processed.{HavePictures, HaveSentPictures};
@@ -113,7 +113,7 @@ pub fn sent_received_and_processed<S: ByteSource>()
         (old new : List ℕ) (count : ℕ) (pictures : List Values)
         (run : SendsSaidFiles text (WasRead S.gave S.ended) states hold job timestamp fill size
         stamp old new count) → HaveSentPictures timestamp (all_read S.gave states) pictures
-        → (datagrams : List (List ℕ)) × (new ≡ old ++ late_text text datagrams)
+        → (datagrams : List (List ℕ)) × (new ≡ old ++ written_text OnlyA text datagrams)
         × OffersJob datagrams run.job pictures stamp }
     ensures frames { (text : List ℕ) (states : List (S × S)) (hold : Option (S × S))
         (job : List ℕ) (timestamp : ℕ) (fill : List ℕ) (size : ℕ) (stamp : Stamp)
