@@ -8,6 +8,7 @@ pub mod FirstRefused
 pub mod MigrateRefusals
 pub mod LoopRefusals
 pub mod Sendings
+pub mod SentParts
 pub mod Printed
 pub mod Leaving
 pub mod Passing

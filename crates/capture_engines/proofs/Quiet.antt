@@ -1,6 +1,7 @@
--- What holds where a run is refused, of one that isn't.
-use Rattle.std.proofs.Common.{Result, Ok, Err}
-use Rattle.std.specs.Prelude.{IfErr}
+-- What holds where a run is refused, of one that isn't; and what it printed where it fails.
+use Rattle.std.proofs.Common.{List, Result, Ok, Err, inl, inr, ℕ}
+use Rattle.std.specs.Prelude.{IfErr, OnErr}
+use Rattle.run_outcome.specs.AtFault.{PrintedAtFault}
 use Rattle.run_outcome.specs.Fault.{IfRefused}
 use Rattle.run_outcome.specs.declared.fault.Fault.{Fault}
 use Rattle.run_outcome.specs.declared.fault.Fault.TheVariants.{Refused, Device, Memory}
@@ -11,3 +12,13 @@ never_refused Q (Ok v) never = tt
 never_refused Q (Err (Refused x)) never = absurd never
 never_refused Q (Err Device) never = tt
 never_refused Q (Err Memory) never = tt
+
+-- what a text that was begun is
+pub printed_so : {V O : Type 0} (r : Result V Fault) (took : O → List ℕ) (failures : O → ℕ)
+    (P Q : List ℕ → Type 0) (old new : O) → ((text : List ℕ) → P text → Q text)
+    → OnErr r (PrintedAtFault took failures P old new)
+    → OnErr r (PrintedAtFault took failures Q old new)
+printed_so (Ok v) took failures P Q old new so printed = tt
+printed_so (Err f) took failures P Q old new so (inl none) = inl none
+printed_so (Err f) took failures P Q old new so (inr (failed, (text, is, part))) =
+    inr (failed, (text, so text is, part))

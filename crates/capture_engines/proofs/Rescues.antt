@@ -8,7 +8,9 @@ use Rattle.flow.specs.declared.flows.Flows.{Flows}
 use Rattle.media_file.specs.StateFile.{state_text}
 use Rattle.path_receiver.specs.Frames.{State}
 use Rattle.receiver_file.specs.Saved.{kept_of}
-use Rattle.run_outcome.specs.Fault.{IfRefused}
+use Rattle.st_format.specs.Device.{Failed}
+use Rattle.capture_engines.specs.Receiving.{ShowsPart}
+use Rattle.run_outcome.specs.Fault.{Blames, IfRefused, counts as one_counts}
 use Rattle.run_outcome.specs.Moments.{WasRead}
 use Rattle.run_outcome.specs.Refusing.{OfRefusal}
 use Rattle.run_outcome.specs.Sources.{IsSourceText}
@@ -111,6 +113,26 @@ pub maybe_part : {X : Type 0} (o : Option X) (P : State → Type 0) (receiver : 
     → MatchOption o (SavesPart P old new) (λ _. ⊤)
 maybe_part None P receiver old new is part = part_of P receiver old new is part
 maybe_part (Some x) P receiver old new is part = tt
+
+pub maybe_so : {X : Type 0} (o : Option X) (P Q : Type 0) → (P → Q)
+    → MatchOption o P (λ _. ⊤) → MatchOption o Q (λ _. ⊤)
+maybe_so None P Q then p = then p
+maybe_so (Some x) P Q then p = tt
+
+-- ---- what is printed where a run fails
+
+-- what the receiver is whose lines were begun
+pub shows_so : {O : Type 0} (took : O → List ℕ) (failures : O → ℕ) (wanted : Bool)
+    (P Q : State → Type 0) (old new : O) → ((s : State) → P s → Q s)
+    → ShowsPart took failures wanted P old new → ShowsPart took failures wanted Q old new
+shows_so took failures wanted P Q old new then (inl none) = inl none
+shows_so took failures wanted P Q old new then (inr (s, is, lines)) = inr (s, then s is, lines)
+
+-- the output failed
+pub failed_device : (f : Fault) (old new : ℕ) → f ≡ Device → Blames (one_counts old new ∷ []) f
+    → Failed old new
+failed_device f old new is blames =
+    subst (λ (g : Fault). Blames (one_counts old new ∷ []) g) is blames
 
 pub never : IsTrue false → ⊥
 never e = absurd cc

@@ -19,7 +19,8 @@ use Rattle.capture_engines.specs.Taking.{IsOpenedHolding, IsOpeningText, IsRecei
 use Rattle.capture_engines.specs.Taking.{IsShortText, Receives}
 use Rattle.capture_engines.specs.Taking.{ReceivesFiles, SavesHolding, said_behind}
 use Rattle.capture_engines.proofs.FirstRefused.{first_given}
-use Rattle.capture_engines.proofs.Rescues.{never, part_map}
+use Rattle.capture_engines.specs.Receiving.{ShowsPart}
+use Rattle.capture_engines.proofs.Rescues.{never, part_map, shows_so}
 use Rattle.capture_engines.proofs.Untaken.{records_alone}
 
 -- a receiver is opened by the text that was read of the source
@@ -116,6 +117,27 @@ said_part (Err e) None window source sdp said gave ended captures old new Is is 
     (said_holding window source sdp said gave ended captures is) part
 said_part (Err e) (Some x) window source sdp said gave ended captures old new Is is part rescued =
     absurd (never rescued.0)
+
+-- so it is of what was printed
+pub said_shown : {V E S X O : Type 0} (r : Result V E) (o : Option X) (window source : List ℕ)
+    (sdp : Option (S × S)) (said : Option (List ℕ)) (gave : S → List ℕ) (ended : S → Type 0)
+    (captures : List (S × S)) (took : O → List ℕ) (failures : O → ℕ) (wanted : Bool) (old new : O)
+    (Is : E → X → Type 0) → IsSaidText (WasRead gave ended) sdp said
+    → OnErr r (MatchOption o (ShowsPart took failures wanted
+    (IsReceiverOfAny false window source said [] gave ended captures) old new) (λ _. ⊤))
+    → IfErr r (λ f. MatchOption o ⊤ (λ x. IsTrue false × Is f x))
+    → OnErr r (ShowsPart took failures wanted
+    (IsReceiverOfRun window source sdp (WasRead gave ended) captures) old new)
+said_shown (Ok v) o window source sdp said gave ended captures took failures wanted old new Is is
+    shown rescued = tt
+said_shown (Err e) None window source sdp said gave ended captures took failures wanted old new Is
+    is shown rescued =
+    shows_so took failures wanted
+    (IsReceiverOfAny false window source said [] gave ended captures)
+    (IsReceiverOfRun window source sdp (WasRead gave ended) captures) old new
+    (said_holding window source sdp said gave ended captures is) shown
+said_shown (Err e) (Some x) window source sdp said gave ended captures took failures wanted old new
+    Is is shown rescued = absurd (never rescued.0)
 
 -- memory was wanted for a text that was read of a source
 pub wants_given : {S : Type 0} (gave : S → List ℕ) (sdp : Option S) (source now : S)

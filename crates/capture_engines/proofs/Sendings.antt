@@ -56,7 +56,7 @@ moment-append : (paths : Paths) (m : ℕ) (ds es : List (List ℕ))
 moment-append paths m [] es = refl
 moment-append paths m (d ∷ ds) es = moment-append paths (moment_behind paths m) ds es
 
-records-append : (paths : Paths) (m : ℕ) (ds es : List (List ℕ))
+pub records-append : (paths : Paths) (m : ℕ) (ds es : List (List ℕ))
     → records_text (entries_from paths m ds)
     ++ records_text (entries_from paths (moment_after paths m ds) es)
     ≡ records_text (entries_from paths m (ds ++ es))
@@ -107,7 +107,7 @@ fails_picture held took failures names p stamp plan count old new stands puts =
 -- ---- datagrams of pictures
 
 -- one picture more
-sends_more : (plan : RasterPlan) (s : Sender) (k first next : ℕ) (ps : List Values)
+pub sends_more : (plan : RasterPlan) (s : Sender) (k first next : ℕ) (ps : List Values)
     (ds : List (List ℕ)) (p : Values) (mine : List (List ℕ))
     → SendsTo plan s k ps first ds next → p.format ≡ s.format
     → IsSentPicture mine p (stamp_of s (k + length ps) next) plan.max_octets plan.packets
@@ -291,7 +291,7 @@ pub record SoFar {S A K : Type 0} {G : Ghosts K} (told : S × S → List ℕ →
   pub say : SayPictures told (drop 1 (take k start)) (drop 1 (take k here)) pictures
   pub sent : SendsMore took 1 pictures old now
 
-none_said : {S : Type 0} (told : S × S → List ℕ → Type 0) (xs : List S)
+pub none_said : {S : Type 0} (told : S × S → List ℕ → Type 0) (xs : List S)
     → SayPictures told (drop 1 (take 1 xs)) (drop 1 (take 1 xs)) []
 none_said told [] = tt
 none_said told (x ∷ xs) = tt
@@ -328,7 +328,7 @@ said_more told (a ∷ us) (b ∷ vs) [] x y p say one = absurd say
 said_more told (a ∷ us) (b ∷ vs) (q ∷ qs) x y p say one =
     (say.0, said_more told us vs qs x y p say.1 one)
 
-said_long : {S : Type 0} (told : S × S → List ℕ → Type 0) (xs ys : List S) (ps : List Values)
+pub said_long : {S : Type 0} (told : S × S → List ℕ → Type 0) (xs ys : List S) (ps : List Values)
     → SayPictures told xs ys ps → length ps ≡ length xs
 said_long told [] [] [] say = refl
 said_long told [] [] (q ∷ qs) say = absurd say
@@ -349,6 +349,31 @@ taken_more {S} xs k x rest some at =
     (take-add k 1 xs ∙ ap (λ (l : List S). take k xs ++ take 1 l) (sym at))
     ∙ drop-append-le 1 (take k xs) (x ∷ []) (omega (arith, long, some))
 
+-- the picture that was read of the next source, behind those of the sources before
+pub said_next : {S : Type 0} (told : S × S → List ℕ → Type 0) (k : ℕ) (start now here : List S)
+    (ps : List Values) (p : Values) → 0 < k → drop k now ≡ drop k start
+    → take k here ≡ take k now → FirstIs (λ s. SaysPicture (told s) p) (zip (drop k now) (drop k here))
+    → SayPictures told (drop 1 (take k start)) (drop 1 (take k now)) ps
+    → SayPictures told (drop 1 (take (k + 1) start)) (drop 1 (take (k + 1) here)) (ps ++ p ∷ [])
+said_next {S} told k start now here ps p some behind before first say =
+    at (drop k start) (drop k here) refl refl
+    (subst (λ (l : List S). FirstIs (λ s. SaysPicture (told s) p) (zip l (drop k here))) behind
+    first)
+  where
+    at : (us vs : List S) → us ≡ drop k start → vs ≡ drop k here
+        → FirstIs (λ s. SaysPicture (told s) p) (zip us vs)
+        → SayPictures told (drop 1 (take (k + 1) start)) (drop 1 (take (k + 1) here)) (ps ++ p ∷ [])
+    at [] vs is same one = absurd one
+    at (a ∷ us) [] is same one = absurd one
+    at (a ∷ us) (b ∷ vs) is same one =
+        subst (λ (l : List S). SayPictures told l (drop 1 (take (k + 1) here)) (ps ++ p ∷ []))
+        (sym (taken_more start k a us some is))
+        (subst (λ (l : List S). SayPictures told (drop 1 (take k start) ++ a ∷ []) l (ps ++ p ∷ []))
+        (sym (taken_more here k b vs some same))
+        (said_more told (drop 1 (take k start)) (drop 1 (take k here)) ps a b p
+        (subst (λ (l : List S). SayPictures told (drop 1 (take k start)) (drop 1 l) ps)
+        (sym before) say) one))
+
 pub more_so_far : {S A K : Type 0} {G : Ghosts K} (told : S × S → List ℕ → Type 0)
     (took : K → List ℕ) (k : ℕ) (start now here : List S) (p : Values) (old mid new : Sends A K G)
     → SoFar told took k start now old mid → drop k now ≡ drop k start → take k here ≡ take k now
@@ -358,10 +383,8 @@ more_so_far {S} {A} {K} {G} told took k start now here p old mid new so_far behi
     sends = record {
       pictures = so_far.pictures ++ p ∷ [];
       count = omega (arith, so_far.count, length-append so_far.pictures (p ∷ []));
-      say = at (drop k start) (drop k here) refl refl
-          (subst (λ (l : List S). FirstIs (λ s. SaysPicture (told s) p) (zip l (drop k here)))
-          behind
-          first);
+      say = said_next told k start now here so_far.pictures p (omega (arith, so_far.count)) behind
+          before first so_far.say;
       sent = record {
         sent = λ wanted text from ps count has.
             let sent : HasSent took wanted text from (ps ++ so_far.pictures) mid =
@@ -372,24 +395,6 @@ more_so_far {S} {A} {K} {G} told took k start now here p old mid new so_far behi
             (omega (arith, count, so_far.count, length-append ps so_far.pictures)) sent sends);
       };
     }
-  where
-    some : 0 < k
-    some = omega (arith, so_far.count)
-
-    at : (us vs : List S) → us ≡ drop k start → vs ≡ drop k here
-        → FirstIs (λ s. SaysPicture (told s) p) (zip us vs)
-        → SayPictures told (drop 1 (take (k + 1) start)) (drop 1 (take (k + 1) here))
-        (so_far.pictures ++ p ∷ [])
-    at [] vs is same one = absurd one
-    at (a ∷ us) [] is same one = absurd one
-    at (a ∷ us) (b ∷ vs) is same one =
-        subst (λ (l : List S). SayPictures told l (drop 1 (take (k + 1) here))
-        (so_far.pictures ++ p ∷ [])) (sym (taken_more start k a us some is))
-        (subst (λ (l : List S). SayPictures told (drop 1 (take k start) ++ a ∷ []) l
-        (so_far.pictures ++ p ∷ [])) (sym (taken_more here k b vs some same))
-        (said_more told (drop 1 (take k start)) (drop 1 (take k here)) so_far.pictures a b p
-        (subst (λ (l : List S). SayPictures told (drop 1 (take k start)) (drop 1 l)
-        so_far.pictures) (sym before) so_far.say) one))
 
 pub rest_sent : {S A K : Type 0} {G : Ghosts K} (told : S × S → List ℕ → Type 0)
     (took : K → List ℕ) (k : ℕ) (start here : List S) (old now : Sends A K G)

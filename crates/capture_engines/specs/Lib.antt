@@ -16,3 +16,4 @@ pub mod Looped
 pub mod Coming
 pub mod Counted
 pub mod Rescued
+pub mod SentPart

@@ -28,6 +28,11 @@ pub record IsTypedBy (wanted : Sending) (text : List ℕ) (typed : Sending) : Ty
   pub described : IsDescribed (video_sections (lines text)) sdp
   pub typed_is : typed ≡ with_type wanted sdp.leg.payload_type
 
+-- it is what is asked for, or the same with the payload type that the text says
+abbrev pub IsSentBy : Bool → Sending → List ℕ → Sending → Type 0
+IsSentBy true wanted text sending = IsTypedBy wanted text sending
+IsSentBy false wanted text sending = sending ≡ wanted
+
 -- A sink took the SDP's text and pictures, sent with the payload type that the text says, and to
 -- the output it was printed how many datagrams they are.
 pub record SendsTyped {S : Type 0} (gave : S → List ℕ) (ended : S → Type 0) (wanted : Sending)

@@ -1,8 +1,9 @@
 //! The engine of `loop`.
 ghost use Rattle.std.specs.Prelude.{◌≡◌, ◌≤◌, ◌<◌, ◌+◌, ◌==◌, ◌∷◌, ◌++◌, ℕ, List, [], min};
-ghost use Rattle.std.specs.Prelude.{IfErr, IfOk, OnOk, Some, length, take};
+ghost use Rattle.std.specs.Prelude.{IfErr, IfOk, OnErr, OnOk, Some, length, take};
 ghost use Rattle.st_format.specs.History.{IsRead};
 ghost use Rattle.st_format.specs.declared.path.Path.{Path as By};
+ghost use Rattle.run_outcome.specs.AtFault.{PrintedAtFault};
 ghost use Rattle.run_outcome.specs.Fault.{Accounts, IfRefused, counts};
 ghost use Rattle.run_outcome.specs.Refusing.{OfRefusal};
 ghost use Rattle.run_outcome.specs.declared.fault.Fault.TheVariants.{Device};
@@ -84,6 +85,20 @@ where
         (O.took output.old) (O.took output.new)) }
     ensures refusal { IfErr result (λ f. OfRefusal f (IsLoopRefusal wanted.max_octets
         (IsRead (S.gave source.old) (S.gave source.new) (S.ended source.new)))) }
+    // Where it fails nothing was printed; or a first part of the lines, since the output failed.
+    ensures printed { OnErr result (PrintedAtFault O.took O.failures
+        (Loops wanted.max_octets wanted.limit
+        (IsRead (S.gave source.old) (S.gave source.new) (S.ended source.new))
+        (record {
+          took = L.DatagramSink.took link.old;
+          came = L.DatagramSource.came link.old;
+          delivered = L.DatagramSource.delivered link.old;
+        })
+        (record {
+          took = L.DatagramSink.took link.new;
+          came = L.DatagramSource.came link.new;
+          delivered = L.DatagramSource.delivered link.new;
+        }) []) output.old output.new) }
     // A refusal comes before anything is printed.
     ensures quiet { IfErr result (λ f. IfRefused f (output.new ≡ output.old)) }
     // So memory is wanted.
@@ -214,16 +229,19 @@ fn print_passed<A: Allocator, O: ByteSink>(
     requires { receiver.now.opening.window ≡ STAMP.timestamp ∷ [] }
     ensures printed { OnOk result (Prints passed.sent passed.delivered receiver.now
         (O.took output.old) (O.took output.new)) }
+    ensures part { OnErr result (PrintedAtFault O.took O.failures
+        (Prints passed.sent passed.delivered receiver.now []) output.old output.new) }
     ensures unrefused { IfErr result (λ f. IfRefused f ⊥) }
     // No memory is asked for.
     ensures device { IfErr result (λ f. f ≡ Device) }
     ensures failures { Accounts result (counts (O.failures output.old) (O.failures output.new)
         ∷ []) }
 {
-    print(Line::Sent(u64::from(passed.sent)), output)?;
-    print(Line::Delivered(passed.delivered), output)?;
     let Some(frame) = receiver.frame(STAMP.timestamp) else {
         return Ok(());
     };
-    print(Line::Frame(STAMP.timestamp, frame.counts()), output)
+    let counts = frame.counts();
+    print(Line::Sent(u64::from(passed.sent)), output)?;
+    print(Line::Delivered(passed.delivered), output)?;
+    print(Line::Frame(STAMP.timestamp, counts), output)
 }

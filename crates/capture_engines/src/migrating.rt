@@ -1,5 +1,6 @@
 //! The engine of `migrate`.
-ghost use Rattle.std.specs.Prelude.{◌≡◌, ◌≤◌, ◌∷◌, [], IfErr, IfOk, OnOk, length};
+ghost use Rattle.std.specs.Prelude.{◌≡◌, ◌≤◌, ◌∷◌, [], IfErr, IfOk, OnErr, OnOk, length};
+ghost use Rattle.run_outcome.specs.AtFault.{PrintedAtFault};
 ghost use Rattle.run_outcome.specs.Fault.{Accounts, IfRefused, counts};
 ghost use Rattle.capture_engines.specs.Migrating.{LeavesBy, MovesBy, PrintsMigrated, passed};
 ghost use Rattle.capture_engines.specs.MigrateRefused.{IsCaptureRefusal, IsMigrateRefusal};
@@ -53,6 +54,11 @@ where
         (K.took sink.old) (K.failures sink.old))
         (passed (S.gave source.new) (S.failures source.new)
         (K.took sink.new) (K.failures sink.new))) }
+    // Nothing was printed then; or a first part of the line, since the output failed.
+    ensures printed { OnErr result (PrintedAtFault O.took O.failures (PrintsMigrated
+        (GivesText 65535 (D.gave sdp.old) (D.gave sdp.new) (D.ended sdp.new))
+        (S.gave source.old) (S.gave source.new) (S.ended source.new)
+        (K.took sink.old) (K.took sink.new) []) output.old output.new) }
     // A refusal comes before anything is printed.
     ensures quiet { IfErr result (λ f. IfRefused f (output.new ≡ output.old)) }
     // So memory is wanted.

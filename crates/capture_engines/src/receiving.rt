@@ -15,7 +15,7 @@ ghost use Rattle.capture_engines.specs.Received.{FileOpens, IsBehindWindow, IsFi
 ghost use Rattle.capture_engines.specs.Received.{IsFirstWordRefusal, IsFrontRefusal};
 ghost use Rattle.capture_engines.specs.Received.{IsOpeningRefusal, IsReceiveRefusal, IsTurnRefusal};
 ghost use Rattle.capture_engines.specs.Received.{IsWordRefusal, Opens, SayOpening, WantsOpening};
-ghost use Rattle.capture_engines.specs.Receiving.{SavesShown};
+ghost use Rattle.capture_engines.specs.Receiving.{SavesShown, ShowsPart};
 ghost use Rattle.run_outcome.specs.Refusing.{OfRefusal};
 ghost use Rattle.capture_engines.specs.Sent.{FirstIs};
 ghost use Rattle.capture_engines.specs.Taking.{HoldsBy, IsReceiverOfRun, IsSaidText};
@@ -121,6 +121,11 @@ where
         wanted.entry.ssrc.now (pair sdp.old sdp.new) (WasRead S.gave S.ended)
         (zip captures.old captures.new)) (K.took state.old) (K.took state.new)) }
     ensures refused { IfErr result (λ f. IfRefused f (state.new ≡ state.old)) }
+    // Nothing was printed then; or all lines of such a receiver, or a first part of them, since the
+    // output failed.
+    ensures printed { OnErr result (ShowsPart O.took O.failures wanted.entry.tells_refusals
+        (IsReceiverOfRun wanted.entry.window.now wanted.entry.ssrc.now (pair sdp.old sdp.new)
+        (WasRead S.gave S.ended) (zip captures.old captures.new)) output.old output.new) }
     // A refusal comes before anything is printed.
     ensures quiet { IfErr result (λ f. IfRefused f (output.new ≡ output.old)) }
     // So memory is wanted, and where the words are no refusal.

@@ -2,13 +2,14 @@
 ghost use Rattle.std.specs.Prelude.{◌≡◌, ◌≢◌, ◌⊎◌, ◌∷◌, ◌++◌, [], ⊤, IfErr, IfOk, IsErr, IsFalse};
 ghost use Rattle.std.specs.Prelude.{IsTrue, MatchOption, MatchResult, None, OnErr, OnOk, Some, Err};
 ghost use Rattle.std.specs.Prelude.{length, sum_by};
+ghost use Rattle.st_format.specs.Device.{GrowsPart};
 ghost use Rattle.std.specs.List.{zip};
 ghost use Rattle.std.specs.Option.{option_copied};
 ghost use Rattle.capture_engines.specs.Counted.{CountsReceived};
 ghost use Rattle.capture_engines.specs.Printed.{if_wanted, received_text, tally_text};
 ghost use Rattle.capture_engines.specs.Received.{IsFirstFilesRefusal, IsReceivingRefusal};
 ghost use Rattle.capture_engines.specs.Received.{SayOpening};
-ghost use Rattle.capture_engines.specs.Receiving.{SavesShown};
+ghost use Rattle.capture_engines.specs.Receiving.{SavesShown, ShowsPart};
 ghost use Rattle.capture_engines.specs.Rescued.{IsReceiverOfAny, IsRescue, RescueAccounts, Rescues};
 ghost use Rattle.capture_engines.specs.Taking.{ReceivesFiles};
 ghost use Rattle.media_file.specs.StateFile.{state_text};
@@ -92,6 +93,11 @@ where
         wanted.entry.window.now wanted.entry.ssrc.now (option_copied sdp.entry) ways.now
         S.gave S.ended (zip files.old files.new)) (K.took state.old) (K.took state.new))
         (λ _. ⊤)) }
+    // Nor are all its lines printed, unless its file failed.
+    ensures printed { OnErr result (MatchOption reception.new (ShowsPart O.took O.failures
+        wanted.entry.tells_refusals (IsReceiverOfAny is_sound
+        wanted.entry.window.now wanted.entry.ssrc.now (option_copied sdp.entry) ways.now
+        S.gave S.ended (zip files.old files.new)) output.old output.new) (λ _. ⊤)) }
     ensures refused { IfErr result (λ f. IfRefused f (IsFalse is_sound
         → state.new ≡ state.old)) }
     ensures quiet { IfErr result (λ f. IfRefused f (IsFalse is_sound
@@ -141,6 +147,8 @@ fn put_out<A: Allocator, K: ByteSink, O: ByteSink>(
     ensures none { OnErr result (reception.new ≡ reception.old) }
     ensures part { OnErr result (SavesPart (λ r. r ≡ intake.receiver)
         (K.took state.old) (K.took state.new)) }
+    ensures shown { OnErr result (ShowsPart O.took O.failures tells_refusals
+        (λ r. r ≡ intake.receiver) output.old output.new) }
     ensures refused { IfErr result (λ f. IfRefused f (state.new ≡ state.old)) }
     ensures quiet { IfErr result (λ f. IfRefused f (output.new ≡ output.old)) }
     ensures unrefused { IfErr result (λ f. IfRefused f ⊥) }
@@ -179,6 +187,8 @@ fn put_part<A: Allocator, K: ByteSink, O: ByteSink>(
         (λ _. K.took state.new ≡ K.took state.old ++ state_text (kept_of intake.receiver)) }
     ensures part { MatchOption reception.new (SavesPart (λ r. r ≡ intake.receiver)
         (K.took state.old) (K.took state.new)) (λ _. ⊤) }
+    ensures shown { MatchOption reception.new (ShowsPart O.took O.failures tells_refusals
+        (λ r. r ≡ intake.receiver) output.old output.new) (λ _. ⊤) }
     ensures counted { MatchOption reception.new ⊤
         (λ r. r ≡ record { delivered = intake.delivered; tally = intake.tally }) }
     ensures refused { IfErr result (λ f. IfRefused f (f ≡ fault)) }
@@ -244,6 +254,9 @@ fn print_intake<A: Allocator, O: ByteSink>(
     ensures printed { OnOk result (O.took output.new ≡ O.took output.old
         ++ received_text tells_refusals intake.now.delivered (tally_text intake.now.tally)
         intake.now.receiver) }
+    ensures cut { OnErr result (GrowsPart (O.took output.old) (O.took output.new)
+        (received_text tells_refusals intake.now.delivered (tally_text intake.now.tally)
+        intake.now.receiver)) }
     ensures unrefused { IfErr result (λ f. IfRefused f ⊥) }
     ensures device { IfErr result (λ f. f ≡ Device) }
     ensures failures { Accounts result (counts (O.failures output.old) (O.failures output.new)
@@ -258,6 +271,8 @@ fn print_intake<A: Allocator, O: ByteSink>(
 fn print_wanted<O: ByteSink>(tally: &Tally, is_wanted: bool, output: &mut O) -> Result<(), Fault>
     ensures printed { OnOk result
         (O.took output.new ≡ O.took output.old ++ if_wanted is_wanted (tally_text tally.now)) }
+    ensures cut { OnErr result (GrowsPart (O.took output.old) (O.took output.new)
+        (if_wanted is_wanted (tally_text tally.now))) }
     ensures unrefused { IfErr result (λ f. IfRefused f ⊥) }
     ensures device { IfErr result (λ f. f ≡ Device) }
     ensures failures { Accounts result (counts (O.failures output.old) (O.failures output.new)

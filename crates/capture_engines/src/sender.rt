@@ -43,6 +43,7 @@ pub struct Sender<A: Allocator, K: ByteSink> {
 }
 
 impl<A: Allocator, K: ByteSink> Sender<A, K> {
+    ghost use Rattle.capture_engines.specs.SentPart.{StopsNext};
     ghost use Rattle.capture_engines.specs.Sending.{SendsNext, run_sender};
 
     /// Nothing was sent yet.
@@ -83,6 +84,9 @@ impl<A: Allocator, K: ByteSink> Sender<A, K> {
             × ((R.values picture.now).format ≡ self.old.plan.format → ⊥))) }
         // No memory is asked for.
         ensures others { IfErr result (λ f. (f ≡ Refused SendFormats) ⊎ (f ≡ Device)) }
+        // Where the sink failed, the capture has a first part of these records.
+        ensures part { IfErr result (StopsNext K.took K.failures (R.values picture.now) place
+            self.old self.new) }
         ensures failures { Accounts result (counts (K.failures self.old.writer.sink)
             (K.failures self.new.writer.sink) ∷ []) }
         ensures names { K.names self.new.writer.sink ≡ K.names self.old.writer.sink }

@@ -1,6 +1,6 @@
 //! The engine of `send`.
-ghost use Rattle.std.specs.Prelude.{◌≡◌, ◌+◌, ◌≤◌, ◌<◌, ◌∷◌, [], false, IfErr, IfOk, OnOk, drop};
-ghost use Rattle.std.specs.Prelude.{length, sum_by, take, vec_len};
+ghost use Rattle.std.specs.Prelude.{◌≡◌, ◌+◌, ◌≤◌, ◌<◌, ◌∷◌, [], false, IfErr, IfOk, OnErr, OnOk};
+ghost use Rattle.std.specs.Prelude.{drop, length, sum_by, take, vec_len};
 ghost use Rattle.std.specs.Io.KnownBytes.{IsAtEnd};
 ghost use Rattle.std.specs.List.{zip};
 ghost use Rattle.packet_plan.specs.Plan.{IsSize};
@@ -15,6 +15,11 @@ ghost use Rattle.run_outcome.specs.Pictures.{IsPictureRefusal, SaysPicture};
 ghost use Rattle.run_outcome.specs.TextRefusals.{SaysText};
 ghost use Rattle.capture_engines.specs.Sending.{IsPlanOf, SendsAll, SendsEach, SendsFirstAndRest};
 ghost use Rattle.capture_engines.specs.Sending.{SendsPictures, SendsRest};
+ghost use Rattle.capture_engines.specs.SentPart.{SendsFirstAndPart, SendsSome, SendsUpTo};
+ghost use Rattle.capture_engines.specs.SentPart.{StopsBehind};
+ghost use Rattle.run_outcome.specs.AtFault.{PrintedAtFault};
+ghost use Rattle.st_format.specs.Device.{Failed};
+ghost use Rattle.st_format.specs.Picture.{IsPicture};
 
 use crate::sender::{Sender, Sending};
 use media_file::CaptureWriter;
@@ -62,6 +67,15 @@ where
     ensures sent { OnOk result (SendsAll S.gave S.ended wanted sdp.old sdp.new
         pictures.old pictures.new (K.took sink.old) (K.took sink.new)
         (O.took output.old) (O.took output.new)) }
+    // Where it fails, what was written is nothing; or all or a first part of such a capture, of the
+    // pictures that were read before the fault.
+    ensures part { OnErr result (SendsSome S.gave S.ended
+        (Failed (K.failures sink.old) (K.failures sink.new)) false wanted sdp.old sdp.new
+        pictures.old pictures.new (K.took sink.old) (K.took sink.new)) }
+    // And nothing was printed; or a first part of the line, since the output failed.
+    ensures printed { OnErr result (PrintedAtFault O.took O.failures (SendsAll S.gave S.ended wanted
+        sdp.old sdp.new pictures.old pictures.new (K.took sink.old) (K.took sink.new) [])
+        output.old output.new) }
     // A refusal comes before anything is printed.
     ensures quiet { IfErr result (λ f. IfRefused f (output.new ≡ output.old)) }
     // So memory is wanted.
@@ -132,6 +146,9 @@ pub(crate) fn send_pictures<A: Allocator + Copy, S: ByteSource, K: ByteSink>(
     requires empty { IsAtEnd (K.held sink.old) }
     ensures sent { IfOk result (λ n. SendsPictures (WasRead S.gave S.ended) wanted said.now
         pictures.old pictures.new (K.took sink.old) (K.took sink.new) n) }
+    ensures part { OnErr result (SendsUpTo (WasRead S.gave S.ended)
+        (Failed (K.failures sink.old) (K.failures sink.new)) wanted said.now
+        pictures.old pictures.new (K.took sink.old) (K.took sink.new)) }
     ensures refusal { IfErr result (λ f. OfRefusal f
         (IsPicturesRefusal wanted.max_octets (WasRead S.gave S.ended)
         (zip pictures.old pictures.new))) }
@@ -164,12 +181,16 @@ fn send_first_and_rest<A: Allocator, S: ByteSource, K: ByteSink>(
     requires alike { picture.format ≡ plan.format }
     requires limits { IsSize wanted.max_octets plan.format }
     requires planned { IsPlanOf wanted.max_octets plan }
+    requires whole { IsPicture picture }
     requires empty { IsAtEnd (K.held sink.old) }
     requires room { length buf.old ≡ 65535 }
     ensures front { take 1 pictures.new ≡ take 1 pictures.old }
     ensures sent { IfOk result (λ n. SendsFirstAndRest (WasRead S.gave S.ended) wanted said.now
         picture (drop 1 pictures.old) (drop 1 pictures.new) (K.took sink.old) (K.took sink.new)
         n) }
+    ensures part { OnErr result (SendsFirstAndPart (WasRead S.gave S.ended)
+        (Failed (K.failures sink.old) (K.failures sink.new)) wanted said.now picture
+        (drop 1 pictures.old) (drop 1 pictures.new) (K.took sink.old) (K.took sink.new)) }
     ensures refusal { IfErr result (λ f. OfRefusal f
         (IsRestRefusal plan.format (WasRead S.gave S.ended)
         (zip (drop 1 pictures.old) (drop 1 pictures.new)))) }
@@ -201,6 +222,9 @@ fn send_each<A: Allocator, S: ByteSource, K: ByteSink>(
     ensures front { take 1 pictures.new ≡ take 1 pictures.old }
     ensures sent { OnOk result (SendsEach (WasRead S.gave S.ended) K.took picture
         (drop 1 pictures.old) (drop 1 pictures.new) sender.old sender.new) }
+    ensures part { OnErr result (StopsBehind (WasRead S.gave S.ended) K.took
+        (Failed (K.failures sender.old.writer.sink) (K.failures sender.new.writer.sink)) 0
+        (picture ∷ []) (drop 1 pictures.old) (drop 1 pictures.new) sender.old sender.new) }
     ensures count { IfOk result (λ n. n ≡ sender.new.sent) }
     ensures refusal { IfErr result (λ f. OfRefusal f
         (IsRestRefusal sender.old.plan.format (WasRead S.gave S.ended)
@@ -226,6 +250,7 @@ fn read_first<A: Allocator + Copy, S: ByteSource>(
     ensures alike { IfOk result (λ first. first.0.format ≡ first.1.format) }
     ensures limits { IfOk result (λ first. IsSize max_octets first.1.format) }
     ensures planned { IfOk result (λ first. IsPlanOf max_octets first.1) }
+    ensures whole { IfOk result (λ first. IsPicture first.0) }
     ensures shows { IfOk result
         (λ first. FirstIs (λ s. SaysPicture (WasRead S.gave S.ended s) first.0)
         (zip pictures.old pictures.new)) }
@@ -256,6 +281,9 @@ fn send_rest<A: Allocator, S: ByteSource, K: ByteSink>(
     requires stands { sender.old.writer.place.failed ≡ false }
     ensures front { take 1 pictures.new ≡ take 1 pictures.old }
     ensures sent { OnOk result (SendsRest (WasRead S.gave S.ended) K.took
+        (drop 1 pictures.old) (drop 1 pictures.new) sender.old sender.new) }
+    ensures part { OnErr result (StopsBehind (WasRead S.gave S.ended) K.took
+        (Failed (K.failures sender.old.writer.sink) (K.failures sender.new.writer.sink)) 1 []
         (drop 1 pictures.old) (drop 1 pictures.new) sender.old sender.new) }
     ensures count { IfOk result (λ n. n ≡ sender.new.sent) }
     ensures refusal { IfErr result (λ f. OfRefusal f

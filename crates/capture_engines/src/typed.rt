@@ -1,5 +1,6 @@
 //! The engine of `send --pt sdp`.
-ghost use Rattle.std.specs.Prelude.{◌≡◌, ◌≤◌, ◌∷◌, [], IfErr, IfOk, IsSome, OnOk, length, sum_by};
+ghost use Rattle.std.specs.Prelude.{◌≡◌, ◌≤◌, ◌∷◌, [], true, IfErr, IfOk, IsSome, OnErr};
+ghost use Rattle.std.specs.Prelude.{OnOk, length, sum_by};
 ghost use Rattle.std.specs.Io.KnownBytes.{IsAtEnd};
 ghost use Rattle.std.specs.List.{zip};
 ghost use Rattle.run_outcome.specs.Moments.{WasRead};
@@ -7,7 +8,10 @@ ghost use Rattle.run_outcome.specs.Fault.{Accounts, IfRefused, counts, failures_
 ghost use Rattle.run_outcome.specs.Refusing.{OfRefusal};
 ghost use Rattle.run_outcome.specs.TextRefusals.{IsCaptureText};
 ghost use Rattle.capture_engines.specs.Sent.{IsSendRefusal};
+ghost use Rattle.capture_engines.specs.SentPart.{SendsSome};
 ghost use Rattle.capture_engines.specs.Typed.{IsTypedBy, SendsTyped};
+ghost use Rattle.run_outcome.specs.AtFault.{PrintedAtFault};
+ghost use Rattle.st_format.specs.Device.{Failed};
 
 use crate::sender::Sending;
 use crate::sending::{read_said, send_pictures};
@@ -42,6 +46,15 @@ where
     ensures sent { OnOk result (SendsTyped S.gave S.ended wanted sdp.old sdp.new
         pictures.old pictures.new (K.took sink.old) (K.took sink.new)
         (O.took output.old) (O.took output.new)) }
+    // Where it fails, what was written is nothing; or all or a first part of such a capture, of the
+    // pictures that were read before the fault.
+    ensures part { OnErr result (SendsSome S.gave S.ended
+        (Failed (K.failures sink.old) (K.failures sink.new)) true wanted sdp.old sdp.new
+        pictures.old pictures.new (K.took sink.old) (K.took sink.new)) }
+    // And nothing was printed; or a first part of the line, since the output failed.
+    ensures printed { OnErr result (PrintedAtFault O.took O.failures (SendsTyped S.gave S.ended
+        wanted sdp.old sdp.new pictures.old pictures.new (K.took sink.old) (K.took sink.new) [])
+        output.old output.new) }
     // A refusal comes before anything is printed.
     ensures quiet { IfErr result (λ f. IfRefused f (output.new ≡ output.old)) }
     // So memory is wanted.

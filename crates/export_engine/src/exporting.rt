@@ -1,7 +1,8 @@
 //! The engine of `export`.
-ghost use Rattle.std.specs.Prelude.{◌≡◌, ◌∷◌, [], IfErr, IfOk, OnOk, vec_len};
+ghost use Rattle.std.specs.Prelude.{◌≡◌, ◌∷◌, [], IfErr, IfOk, OnErr, OnOk, vec_len};
 ghost use Rattle.std.specs.Option.{option_copied};
 ghost use Rattle.st_format.specs.History.{IsRead};
+ghost use Rattle.run_outcome.specs.AtFault.{PrintedAtFault};
 ghost use Rattle.run_outcome.specs.Fault.{Accounts, IfRefused, counts};
 ghost use Rattle.run_outcome.specs.Refusing.{OfRefusal};
 ghost use Rattle.run_outcome.specs.declared.fault.Fault.TheVariants.{Refused};
@@ -66,6 +67,11 @@ where
         wanted.entry.a.now (option_copied wanted.entry.b)
         (S.gave capture.old) (S.gave capture.new) (S.ended capture.new)
         (K.took sink.old) (K.took sink.new)) }
+    // What was printed then: nothing; or a first part of the line, since the output failed.
+    ensures printed { OnErr result (PrintedAtFault O.took O.failures (PrintsExported
+        wanted.entry.a.now (option_copied wanted.entry.b)
+        (S.gave capture.old) (S.gave capture.new) (S.ended capture.new)
+        (K.took sink.old) (K.took sink.new) []) output.old output.new) }
     ensures quiet { IfErr result (λ f. IfRefused f (output.new ≡ output.old)) }
     // Memory is wanted where the words are flows, before anything is read, written or printed.
     ensures memory { IfErr result (λ f. f ≡ Fault.Memory

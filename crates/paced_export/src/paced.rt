@@ -3,6 +3,7 @@ ghost use Rattle.std.specs.Prelude.{◌≡◌, ◌<◌, ◌*◌, ◌^◌, ◌∷
 ghost use Rattle.std.specs.Prelude.{unwrap_or, vec_len};
 ghost use Rattle.std.specs.Option.{option_copied};
 ghost use Rattle.st_format.specs.History.{IsRead};
+ghost use Rattle.run_outcome.specs.AtFault.{PrintedAtFault};
 ghost use Rattle.run_outcome.specs.Fault.{Accounts, IfRefused, counts};
 ghost use Rattle.run_outcome.specs.Refusing.{OfRefusal};
 ghost use Rattle.export_engine.specs.ExportRefused.{IsReadRefusal};
@@ -79,6 +80,12 @@ where
         (S.gave ahead.old) (S.gave ahead.new) (S.ended ahead.new)
         (S.gave capture.old) (S.gave capture.new) (S.ended capture.new)
         (K.took sink.old) (K.took sink.new)) }
+    // What was printed then: nothing; or a first part of the line, since the output failed.
+    ensures printed { OnErr result (PrintedAtFault O.took O.failures (PrintsPaced
+        wanted.entry.start wanted.entry.flows.a.now (option_copied wanted.entry.flows.b)
+        (S.gave ahead.old) (S.gave ahead.new) (S.ended ahead.new)
+        (S.gave capture.old) (S.gave capture.new) (S.ended capture.new)
+        (K.took sink.old) (K.took sink.new) []) output.old output.new) }
     ensures quiet { IfErr result (λ f. IfRefused f (output.new ≡ output.old)) }
     // Memory is wanted where the words are flows, before anything is printed.
     ensures memory { IfErr result (λ f. f ≡ Fault.Memory → ((es : Envelopes)

@@ -39,7 +39,7 @@ left_more e (Over f) r = refl
 
 -- ---- what comes next of the others
 
-later : (moment : ℕ) (a : Ahead) (r : Strand) → IsLater moment a
+pub later : (moment : ℕ) (a : Ahead) (r : Strand) → IsLater moment a
     → ComesLater moment (left_by a r).entries (left_by a r).fault
 later moment Unknown r is = absurd is
 later moment (Coming e) r is = is
@@ -53,7 +53,7 @@ no_sooner moment (Coming e) r is = is
 no_sooner moment (Over None) r is = tt
 no_sooner moment (Over (Some f)) r is = absurd is
 
-none_sooner : (moment : ℕ) (ss : List Standing) (rs : List Strand)
+pub none_sooner : (moment : ℕ) (ss : List Standing) (rs : List Strand)
     → AllByRecursion (λ t. IsNoSooner moment t.ahead) ss
     → AllByRecursion (λ t. ComesNoSooner moment t.entries t.fault) (lefts ss rs)
 none_sooner moment [] rs is = tt
@@ -122,7 +122,7 @@ came (s ∷ ss) (s' ∷ ss') e (r ∷ rs) (inr takes) =
     let is = there s s' ss ss' e r rs rest.rs takes.0 takes.1 rest.same rest.next in
     record { rs = r ∷ rest.rs; same = is.0; next = is.1 }
 
-joins_more : (strands left left' : List Strand) (es : List Entry) (e : Entry)
+pub joins_more : (strands left left' : List Strand) (es : List Entry) (e : Entry)
     → JoinsByMoment strands es left → IsJoinedNext left e left'
     → JoinsByMoment strands (es ++ e ∷ []) left'
 joins_more strands left left' [] e joins next =

@@ -10,5 +10,6 @@ pub mod Written
 pub mod Openings
 pub mod Lengths
 pub mod Endings
+pub mod Stopped
 pub mod SaidFlows
 pub mod Quiet

@@ -35,7 +35,7 @@ no_sooner_by moment Ended (Some e) ready later = absurd ready
 no_sooner_by moment (Failed f) None ready later = absurd ready
 no_sooner_by moment (Failed f) (Some e) ready later = absurd ready
 
-next_later : {A S : Type 0} (moment : ℕ) (f : ImportFile A S) → IsReady f
+pub next_later : {A S : Type 0} (moment : ℕ) (f : ImportFile A S) → IsReady f
     → NextIsLater moment (next_entry f) → IsLater moment (standing_of f).ahead
 next_later moment (Closed s) ready later = absurd ready
 next_later moment (Open r) ready later = later_by moment r.standing r.at_hand ready later
@@ -47,7 +47,7 @@ next_no_sooner moment (Closed s) ready later = absurd ready
 next_no_sooner moment (Open r) ready later = no_sooner_by moment r.standing r.at_hand ready later
 next_no_sooner moment Taken ready later = absurd ready
 
-all_no_sooner : {A S : Type 0} (moment : ℕ) (fs : List (ImportFile A S)) → AllReady fs
+pub all_no_sooner : {A S : Type 0} (moment : ℕ) (fs : List (ImportFile A S)) → AllReady fs
     → AllByRecursion (λ f. NextIsNoSooner moment (next_entry f)) fs
     → AllByRecursion (λ s. IsNoSooner moment s.ahead) (standings fs)
 all_no_sooner moment [] ready is = tt

@@ -12,6 +12,7 @@ use Rattle.recording_counts.specs.LeftOut.{left_out_of}
 use Rattle.media_file.specs.Fronts.{front_text}
 use Rattle.media_file.specs.Records.{Entry, records_text}
 use Rattle.media_file.specs.declared.front.Version.TheVariants.{Two}
+use Rattle.run_outcome.specs.AtFault.{WrittenAtFault}
 use Rattle.run_outcome.specs.Line.{line_text}
 use Rattle.run_outcome.specs.TextRefusals.{IsCaptureText, IsTextRefusal}
 use Rattle.run_outcome.specs.declared.fault.Fault.TheVariants.{Refused}
@@ -90,6 +91,32 @@ pub record Imports {S : Type 0} (a b : Option (List ℕ)) (Said : List ℕ → T
     pub printed : (octets : List (List ℕ)) → AllZip told files octets → shown' ≡ shown
         ++ (line_text (line.Recorded (count_of_path A entries) (count_of_path B entries)
         (capped (left_out_in each octets))) ++ 10 ∷ [])
+
+-- What was written where it fails: the text that was read, and behind it the first of the records
+-- to which the files are joined, of recordings by the flows that were asked for, all of it; or the
+-- sink failed, and has a first part.
+pub record ImportsPart {S : Type 0} (a b : Option (List ℕ)) (Said : List ℕ → Type 0)
+    (told : S → List ℕ → Type 0) (Fails : Type 0) (files : List S) (took took' : List ℕ)
+    : Type 0
+  where
+    pub text : List ℕ
+    pub flows : Flows
+    pub each : List (Option Flows)
+    pub entries : List Entry
+    pub said : Said text
+    pub described : IsCaptureText text
+    pub asked : AsksFlows a b text flows
+    pub taken_by : TakesBy flows (length files) each
+    pub joined : (octets : List (List ℕ)) → AllZip told files octets
+        → JoinsTo (λ left. ⊤) (strands_in each octets) entries
+    pub few : length entries ≤ 16777216
+    pub taken : WrittenAtFault Fails took took' (front_text Two text ++ records_text entries)
+
+-- so much, or nothing
+abbrev pub ImportsUpTo : {S : Type 0} → Option (List ℕ) → Option (List ℕ) → (List ℕ → Type 0)
+    → (S → List ℕ → Type 0) → Type 0 → List S → List ℕ → List ℕ → Type 0
+ImportsUpTo a b Said told Fails files took took' =
+    (took' ≡ took) ⊎ ImportsPart a b Said told Fails files took took'
 
 -- ---- refusals
 

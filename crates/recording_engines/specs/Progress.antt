@@ -1,6 +1,6 @@
 -- What a run of `import` does from one record to the next.
 use Rattle.std.specs.Prelude.{◌≡◌, ℕ, ◌+◌, ◌<◌, ◌≤◌, ◌⊎◌, List, [], ◌∷◌, ◌++◌, length}
-use Rattle.std.specs.Prelude.{None, Some}
+use Rattle.std.specs.Prelude.{None, Some, ⊤}
 use Rattle.std.specs.List.{AllByRecursion, count_by}
 use Rattle.media_file.specs.Records.{Entry, records_text}
 use Rattle.st_format.specs.Turns.{is_path}
@@ -11,8 +11,10 @@ use Rattle.run_outcome.specs.declared.fault.Fault.TheVariants.{Device, Refused}
 use Rattle.run_outcome.specs.declared.refusal.Refusal.{Refusal}
 use Rattle.run_outcome.specs.declared.refusal.Refusal.TheVariants.{ImportRecords}
 use Rattle.run_outcome.specs.LowerFaults.{reading_fault}
-use Rattle.recording_engines.specs.Files.{IsFailedAt, IsReady, next_entry, standings}
-use Rattle.recording_engines.specs.Steps.{Coming, HasJoined, Standing, TakesEarliest}
+use Rattle.recording_engines.specs.Files.{IsFailedAt, IsReady, next_entry, standing_of, standings}
+use Rattle.recording_engines.specs.Steps.{Coming, HasJoined, Standing, TakesEarliest, lefts, wholes}
+use Rattle.recording_engines.specs.Joining.{IsJoinedNext, JoinsByMoment, Strand}
+use Rattle.run_outcome.specs.AtFault.{WrittenAtFault}
 use Rattle.recording_engines.specs.declared.file.ImportFile.{ImportFile}
 use Rattle.recording_engines.specs.declared.joining.Written.{Written}
 use Rattle.recording_reader.specs.declared.fault.ReadingFault.{ReadingFault}
@@ -128,3 +130,39 @@ StopsJoining r files' old new =
     ((f : ReadingFault) × (reading_fault f ≡ Refused r)
     × EndsJoining (HasStopped f) files' old new)
     ⊎ ((r ≡ ImportRecords) × EndsJoining HasOneTooMany files' old new)
+
+-- ---- where it fails
+
+-- A file stands so, read on; or a record was to come next of it, and behind that it is at a fault.
+abbrev pub StandsStill : {X S : Type 0} → ImportFile X S → Standing → Type 0
+StandsStill f s =
+    (IsReady f × (s ≡ standing_of f))
+    ⊎ ((e : Entry) × (g : ReadingFault) × (s.ahead ≡ Coming e) × IsFailedAt g f
+    × ((standing_of f).entries ≡ s.entries))
+
+-- so does each of some files
+abbrev pub AllStandStill : {X S : Type 0} → List (ImportFile X S) → List Standing → Type 0
+AllStandStill [] [] = ⊤
+AllStandStill (f ∷ fs) (s ∷ ss) = StandsStill f s × AllStandStill fs ss
+AllStandStill fs ss = ⊥
+
+-- The earliest record was to be written: it was, or the sink failed at it.
+pub record StopsEarliest {X S : Type 0} (Fails : Type 0) (files files' : List (ImportFile X S))
+    (old new : List ℕ) : Type 0 where
+  pub entry : Entry
+  pub next : (rs : List Strand)
+      → (left : List Strand) × IsJoinedNext (lefts (standings files) rs) entry left
+  pub still : AllStandStill files' (standings files)
+  pub text : WrittenAtFault Fails old new (records_text (entry ∷ []))
+
+-- Files that stand so are joined to these records, which were to be written: they were, or the sink
+-- failed at one.
+pub record StopsUpTo {X S : Type 0} (Fails : Type 0) (files : List (ImportFile X S))
+    (old new : List ℕ) : Type 0 where
+  pub stood : List Standing
+  pub still : AllStandStill files stood
+  pub entries : List Entry
+  pub joined : (rs : List Strand)
+      → (left : List Strand) × JoinsByMoment (wholes stood rs) entries left
+  pub few : length entries ≤ 16777216
+  pub text : WrittenAtFault Fails old new (records_text entries)

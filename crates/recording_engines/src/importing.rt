@@ -1,11 +1,12 @@
 //! The engine of `import`.
 ghost use Rattle.std.specs.Prelude.{◌≡◌, ◌∷◌, [], None, Some, length, map, slice_get, IfErr, IfOk};
-ghost use Rattle.std.specs.Prelude.{◌≢◌, ◌⊎◌, List};
+ghost use Rattle.std.specs.Prelude.{◌≢◌, ◌⊎◌, List, OnErr};
 ghost use Rattle.std.specs.List.{AllByRecursion, sum_by, zip};
 ghost use Rattle.std.specs.Option.{option_copied};
 ghost use Rattle.flow.specs.Flow.{IsOnePlace};
 ghost use Rattle.recording_counts.specs.LeftOut.{left_out_of};
 ghost use Rattle.recording_counts.specs.declared.omission.Omission.{Omission as Reason};
+ghost use Rattle.run_outcome.specs.AtFault.{PrintedAtFault};
 ghost use Rattle.run_outcome.specs.Fault.{Accounts, IfRefused, counts};
 ghost use Rattle.run_outcome.specs.Moments.{WasRead};
 ghost use Rattle.run_outcome.specs.Refusing.{OfRefusal};
@@ -15,14 +16,16 @@ ghost use Rattle.st_format.specs.History.{IsRead};
 ghost use Rattle.recording_engines.specs.Files.{AllClosed, AllReady, AreLeftOut, HasKnownOctets};
 ghost use Rattle.recording_engines.specs.Files.{IsReadByFlows, begun_of, ended_by, failures_by};
 ghost use Rattle.recording_engines.specs.Files.{gave_by, standings};
-ghost use Rattle.recording_engines.specs.Imported.{AsksFlows, Imports, IsAsked};
+ghost use Rattle.recording_engines.specs.Imported.{AsksFlows, Imports, ImportsUpTo, IsAsked};
 ghost use Rattle.recording_engines.specs.Imported.{IsImportFlowsRefusal};
 ghost use Rattle.recording_engines.specs.Imported.{IsImportRefusal, IsPlacesRefusal};
 ghost use Rattle.recording_engines.specs.Imported.{IsSdpFlowsRefusal, IsNoFlowRefusal, SaysFlows};
 ghost use Rattle.recording_engines.specs.Progress.{HasWrittenAll, IsDeviceOrFile};
-ghost use Rattle.recording_engines.specs.Progress.{StopsJoining};
+ghost use Rattle.recording_engines.specs.Progress.{StopsJoining, StopsUpTo};
+ghost use Rattle.st_format.specs.Device.{Failed};
 ghost use Rattle.recording_engines.specs.Steps.{AllFresh};
 ghost use Rattle.recording_engines.specs.Strands.{TakesBy, TellsPaths, only_a, only_b};
+ghost use Rattle.recording_engines.specs.declared.importing.ImportCounts.{ImportCounts as Sums};
 
 use crate::file::ImportFile;
 use crate::files::{know_all, left_out};
@@ -92,6 +95,20 @@ where
         (GivesText 65535 (D.gave sdp.old) (D.gave sdp.new) (D.ended sdp.new))
         (WasRead (gave_by S.gave) (ended_by S.ended)) (zip files.old files.new)
         (K.took capture.old) (K.took capture.new))) }
+    // Where it fails, nothing was written; or the text, and behind it the first of the records, all
+    // of that or a first part, where the capture failed.
+    ensures part { OnErr result (ImportsUpTo
+        (option_copied wanted.entry.a) (option_copied wanted.entry.b)
+        (GivesText 65535 (D.gave sdp.old) (D.gave sdp.new) (D.ended sdp.new))
+        (WasRead (gave_by S.gave) (ended_by S.ended))
+        (Failed (K.failures capture.old) (K.failures capture.new)) (zip files.old files.new)
+        (K.took capture.old) (K.took capture.new)) }
+    // And nothing was printed; or a first part of the line, since the output failed.
+    ensures printed { OnErr result (PrintedAtFault O.took O.failures (λ text. (n : Sums)
+        × Imports (option_copied wanted.entry.a) (option_copied wanted.entry.b)
+        (GivesText 65535 (D.gave sdp.old) (D.gave sdp.new) (D.ended sdp.new))
+        (WasRead (gave_by S.gave) (ended_by S.ended)) (zip files.old files.new)
+        (K.took capture.old) (K.took capture.new) [] text n) output.old output.new) }
     // A refusal comes before anything is printed.
     ensures quiet { IfErr result (λ f. IfRefused f (output.new ≡ output.old)) }
     // So memory is wanted, for a text that isn't too long; and, unless a file's reader says so,
@@ -147,6 +164,9 @@ fn join_all<A: Allocator, S: ByteSource, K: ByteSink>(
         → r.left_out ≡ left_out_of omissions) }
     ensures stopped { IfErr result (λ f. OfRefusal f (λ r. StopsJoining r files.new
         (K.took capture.old) (K.took capture.new))) }
+    ensures part { OnErr result (StopsUpTo
+        (Failed (K.failures capture.old) (K.failures capture.new)) files.new
+        (K.took capture.old) (K.took capture.new)) }
     // No memory is asked for.
     ensures only { IfErr result (λ f. IsDeviceOrFile files.new f
         ⊎ (f ≡ Fault.Refused ImportRecords)) }

@@ -1,6 +1,6 @@
 //! Writing the records of files to a capture, the earliest first.
 ghost use Rattle.std.specs.Prelude.{◌≡◌, ◌<◌, ◌≤◌, ◌+◌, ◌⊎◌, ◌∷◌, [], length, map, IfErr, IfOk};
-ghost use Rattle.std.specs.Prelude.{OnOk};
+ghost use Rattle.std.specs.Prelude.{OnErr, OnOk, Some};
 ghost use Rattle.std.specs.List.{sum_by};
 ghost use Rattle.run_outcome.specs.Fault.{Accounts, IfRefused, counts};
 ghost use Rattle.run_outcome.specs.Refusing.{OfRefusal};
@@ -8,8 +8,11 @@ ghost use Rattle.run_outcome.specs.declared.refusal.Refusal.TheVariants.{ImportR
 ghost use Rattle.recording_engines.specs.Files.{AllReady, IsLed, begun_of, failures_by};
 ghost use Rattle.recording_engines.specs.Files.{standings};
 ghost use Rattle.recording_engines.specs.Progress.{CountsPath, HasWrittenAll, IsDeviceOrFile};
-ghost use Rattle.recording_engines.specs.Progress.{StopsBy, StopsJoining, WritesEarliest};
-ghost use Rattle.recording_engines.specs.Progress.{WritesNext};
+ghost use Rattle.recording_engines.specs.Progress.{StopsBy, StopsEarliest, StopsJoining, StopsUpTo};
+ghost use Rattle.recording_engines.specs.Progress.{WritesEarliest, WritesNext};
+ghost use Rattle.recording_engines.specs.Files.{next_entry};
+ghost use Rattle.media_file.specs.Records.{Entry, records_text};
+ghost use Rattle.st_format.specs.Device.{Failed, GrowsPart};
 ghost use Rattle.recording_engines.specs.Steps.{AllFresh};
 
 use crate::file::ImportFile;
@@ -46,6 +49,8 @@ fn write_next<A: Allocator, S: ByteSource, K: ByteSink>(
     requires few { written.old.a + written.old.b < 16777216 }
     ensures written { OnOk result (WritesNext file.now (K.took capture.old) (K.took capture.new)
         written.old written.new) }
+    ensures part { OnErr result ((e : Entry) → next_entry file.now ≡ Some e
+        → GrowsPart (K.took capture.old) (K.took capture.new) (records_text (e ∷ []))) }
     ensures one { OnOk result
         (written.new.a + written.new.b ≤ written.old.a + written.old.b + 1) }
     ensures unrefused { IfErr result (λ f. IfRefused f ⊥) }
@@ -81,6 +86,9 @@ fn take_at<A: Allocator, S: ByteSource, K: ByteSink>(
         (written.new.a + written.new.b ≤ written.old.a + written.old.b + 1) }
     ensures stopped { IfErr result (λ f. OfRefusal f (λ r. StopsBy r
         files.old files.new (K.took capture.old) (K.took capture.new))) }
+    ensures part { OnErr result (StopsEarliest
+        (Failed (K.failures capture.old) (K.failures capture.new))
+        files.old files.new (K.took capture.old) (K.took capture.new)) }
     // No memory is asked for.
     ensures only { IfErr result (IsDeviceOrFile files.new) }
     ensures failures { Accounts result (counts (sum_by (failures_by S.failures) files.old)
@@ -112,6 +120,9 @@ pub(crate) fn join<A: Allocator, S: ByteSource, K: ByteSink>(
         (K.took capture.new) w) }
     ensures stopped { IfErr result (λ f. OfRefusal f (λ r. StopsJoining r files.new
         (K.took capture.old) (K.took capture.new))) }
+    ensures part { OnErr result (StopsUpTo
+        (Failed (K.failures capture.old) (K.failures capture.new)) files.new
+        (K.took capture.old) (K.took capture.new)) }
     // No memory is asked for.
     ensures only { IfErr result (λ f. IsDeviceOrFile files.new f
         ⊎ (f ≡ Fault.Refused ImportRecords)) }

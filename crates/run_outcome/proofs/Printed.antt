@@ -1,7 +1,7 @@
 -- Lines that are printed one after the other.
 use Rattle.std.proofs.Common.{◌≡◌, ℕ, ◌+◌, ◌<◌, ◌≤◌, List, [], ◌∷◌, ◌++◌, length, take, drop, codes}
 use Rattle.std.proofs.Common.{get_or, count_by, Option, Some, ap, append-nil, subst, sym, ◌∙◌}
-use Rattle.std.proofs.Common.{Result, Ok, Err, OnErr, OnOk, arith}
+use Rattle.std.proofs.Common.{Result, Ok, Err, IfErr, OnErr, OnOk, arith, inl, inr, refl}
 use Rattle.std.specs.List.{flat_map}
 use Rattle.std.proofs.lemmas.Grind.{flat_map-append}
 use Rattle.std.proofs.lemmas.List.{length-append, take_all, take_more, take-append-drop}
@@ -12,7 +12,12 @@ use Rattle.path_receiver.specs.Frames.{State, frame_at}
 use Rattle.st_format.specs.Cell.{is_contested, is_missing, is_present}
 use Rattle.st_format.specs.Device.{GrowsPart}
 use Rattle.st_format.specs.Raster.{Raster}
+use Rattle.run_outcome.specs.AtFault.{PrintedAtFault}
+use Rattle.run_outcome.specs.Fault.{Accounts, counts as failures_of}
 use Rattle.run_outcome.specs.Frames.{frame_counts, frame_line, frame_line_at}
+use Rattle.run_outcome.specs.declared.fault.Fault.{Fault}
+use Rattle.run_outcome.specs.declared.fault.Fault.TheVariants as fault
+use Rattle.run_outcome.specs.declared.refusal.Refusal.{Refusal}
 
 -- the texts of the first items
 abbrev pub texts_before : {X : Type 0} → (X → List ℕ) → List X → ℕ → List ℕ
@@ -98,3 +103,31 @@ on_err (Err e) P Q then is = then is
 pub whenever : {V E : Type 0} (r : Result V E) (P : Type 0) → P → OnErr r P
 whenever (Ok v) P p = tt
 whenever (Err e) P p = p
+
+-- ---- what is printed at a fault
+
+-- nothing, whatever a run came to
+pub none_printed : {V O : Type 0} (r : Result V Fault) (took : O → List ℕ) (failures : O → ℕ)
+    (IsText : List ℕ → Type 0) (output : O)
+    → OnErr r (PrintedAtFault took failures IsText output output)
+none_printed r took failures IsText output = whenever r _ (inl refl)
+
+memory_unlike : fault.Memory ≡ fault.Device → ⊥
+memory_unlike is = cc
+
+refusal_unlike : (e : Refusal) → fault.Refused e ≡ fault.Device → ⊥
+refusal_unlike e is = cc
+
+-- a first part of a text, where a run ends by printing it
+pub part_printed : {V O : Type 0} (r : Result V Fault) (took : O → List ℕ) (failures : O → ℕ)
+    (IsText : List ℕ → Type 0) (text : List ℕ) (old new : O) → IsText text
+    → OnErr r (GrowsPart (took old) (took new) text) → IfErr r (λ f. f ≡ fault.Device)
+    → Accounts r (failures_of (failures old) (failures new) ∷ [])
+    → OnErr r (PrintedAtFault took failures IsText old new)
+part_printed (Ok v) took failures IsText text old new is cut device accounts = tt
+part_printed (Err fault.Device) took failures IsText text old new is cut device accounts =
+    inr (accounts, (text, is, cut))
+part_printed (Err fault.Memory) took failures IsText text old new is cut device accounts =
+    absurd (memory_unlike device)
+part_printed (Err (fault.Refused e)) took failures IsText text old new is cut device accounts =
+    absurd (refusal_unlike e device)

@@ -14,3 +14,4 @@ pub mod Text
 pub mod Moments
 pub mod TextRefusals
 pub mod Pictures
+pub mod AtFault

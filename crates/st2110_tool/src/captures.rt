@@ -1,6 +1,6 @@
 //! The engines of captures, each with its status.
 ghost use Rattle.std.specs.Prelude.{◌≡◌, ◌≢◌, ◌+◌, ◌++◌, ◌≤◌, ◌<◌, ◌⊎◌, ◌∷◌, [], length, sum_by};
-ghost use Rattle.std.specs.Prelude.{Option};
+ghost use Rattle.std.specs.Prelude.{Option, false};
 ghost use Rattle.std.specs.Io.KnownBytes.{IsAtEnd};
 ghost use Rattle.std.specs.List.{zip};
 ghost use Rattle.run_outcome.specs.Moments.{WasRead, pair};
@@ -11,9 +11,11 @@ ghost use Rattle.run_outcome.specs.Refusing.{TellsRefusal};
 ghost use Rattle.run_outcome.specs.States.{SavesPart};
 ghost use Rattle.capture_engines.specs.Sent.{IsSendRefusal};
 ghost use Rattle.capture_engines.specs.Sending.{SendsAll};
+ghost use Rattle.capture_engines.specs.SentPart.{SendsSome};
+ghost use Rattle.run_outcome.specs.AtFault.{PrintedAtFault};
 ghost use Rattle.run_outcome.specs.Telling.{device_line, memory_line};
 ghost use Rattle.capture_engines.specs.Received.{IsReceiveRefusal, SayOpening};
-ghost use Rattle.capture_engines.specs.Receiving.{SavesShown};
+ghost use Rattle.capture_engines.specs.Receiving.{SavesShown, ShowsPart};
 ghost use Rattle.capture_engines.specs.Taking.{IsReceiverOfRun, Receives};
 ghost use Rattle.capture_engines.specs.Migrating.{LeavesAt, LeavesOff, PrintsMigrated, passed};
 ghost use Rattle.capture_engines.specs.MigrateRefused.{IsMigrateRefusal};
@@ -75,6 +77,15 @@ where
         → TellsRefusal (IsSendRefusal wanted.max_octets (length pictures.old) sdp.old sdp.new
         (WasRead S.gave S.ended) (zip pictures.old pictures.new))
         (F.took faults.old) (F.took faults.new) }
+    // Unless the status is 0, what was written is nothing; or all or a first part of such a capture,
+    // of the pictures that were read before the fault.
+    ensures part { result ≢ 0 → SendsSome S.gave S.ended
+        (Failed (K.failures sink.old) (K.failures sink.new)) false wanted sdp.old sdp.new
+        pictures.old pictures.new (K.took sink.old) (K.took sink.new) }
+    // And nothing was printed, or a first part of the line, since the output failed.
+    ensures printed { result ≢ 0 → PrintedAtFault O.took O.failures (SendsAll S.gave S.ended wanted
+        sdp.old sdp.new pictures.old pictures.new (K.took sink.old) (K.took sink.new) [])
+        output.old output.new }
     ensures quiet { result ≡ 1 → output.new ≡ output.old }
     ensures silent { result ≡ 0 → faults.new ≡ faults.old }
     ensures blamed { result ≡ 3 → Failed (F.failures faults.old) (F.failures faults.new)
@@ -133,6 +144,11 @@ where
     ensures part { result ≢ 0 → SavesPart (IsReceiverOfRun wanted.entry.window.now
         wanted.entry.ssrc.now (pair sdp.old sdp.new) (WasRead S.gave S.ended)
         (zip captures.old captures.new)) (K.took state.old) (K.took state.new) }
+    // Nor is anything printed then but lines of such a receiver, or a first part of them, since the
+    // output failed.
+    ensures printed { result ≢ 0 → ShowsPart O.took O.failures wanted.entry.tells_refusals
+        (IsReceiverOfRun wanted.entry.window.now wanted.entry.ssrc.now (pair sdp.old sdp.new)
+        (WasRead S.gave S.ended) (zip captures.old captures.new)) output.old output.new }
     ensures refused { result ≡ 1 → state.new ≡ state.old }
     ensures quiet { result ≡ 1 → output.new ≡ output.old }
     // At status 1 a refusal of the words or the files was told by its line.
@@ -206,6 +222,11 @@ where
         (K.took sink.old) (K.failures sink.old))
         (passed (S.gave source.new) (S.failures source.new)
         (K.took sink.new) (K.failures sink.new)) }
+    // Nothing was printed then, or a first part of the line, since the output failed.
+    ensures printed { result ≢ 0 → PrintedAtFault O.took O.failures (PrintsMigrated
+        (GivesText 65535 (D.gave sdp.old) (D.gave sdp.new) (D.ended sdp.new))
+        (S.gave source.old) (S.gave source.new) (S.ended source.new)
+        (K.took sink.old) (K.took sink.new) []) output.old output.new }
     ensures quiet { result ≡ 1 → output.new ≡ output.old }
     ensures silent { result ≡ 0 → faults.new ≡ faults.old }
     ensures blamed { result ≡ 3 → Failed (F.failures faults.old) (F.failures faults.new)
@@ -268,6 +289,21 @@ where
     ensures told { result ≡ 1 → TellsRefusal (IsLoopRefusal wanted.max_octets
         (IsRead (S.gave picture.old) (S.gave picture.new) (S.ended picture.new)))
         (F.took faults.old) (F.took faults.new) }
+    // Unless the status is 0, nothing was printed, or a first part of the lines, since the output
+    // failed.
+    ensures printed { result ≢ 0 → PrintedAtFault O.took O.failures
+        (Loops wanted.max_octets wanted.limit
+        (IsRead (S.gave picture.old) (S.gave picture.new) (S.ended picture.new))
+        (record {
+          took = L.DatagramSink.took link.old;
+          came = L.DatagramSource.came link.old;
+          delivered = L.DatagramSource.delivered link.old;
+        })
+        (record {
+          took = L.DatagramSink.took link.new;
+          came = L.DatagramSource.came link.new;
+          delivered = L.DatagramSource.delivered link.new;
+        }) []) output.old output.new }
     ensures quiet { result ≡ 1 → output.new ≡ output.old }
     ensures silent { result ≡ 0 → faults.new ≡ faults.old }
     ensures blamed { result ≡ 3 → Failed (F.failures faults.old) (F.failures faults.new)

@@ -1,5 +1,5 @@
 //! The engines of recordings, each with its status.
-ghost use Rattle.std.specs.Prelude.{◌≡◌, ◌≢◌, ◌⊎◌, ◌∷◌, ◌++◌, [], false, IfErr, None, OnOk};
+ghost use Rattle.std.specs.Prelude.{◌≡◌, ◌≢◌, ◌⊎◌, ◌∷◌, ◌++◌, [], false, IfErr, None, OnErr, OnOk};
 ghost use Rattle.std.specs.Prelude.{sum_by};
 ghost use Rattle.std.specs.List.{zip};
 ghost use Rattle.std.specs.Option.{option_copied};
@@ -10,9 +10,10 @@ ghost use Rattle.inspect_engine.specs.Told.{IsInspectRefusal, Tells};
 ghost use Rattle.paced_export.specs.PacedExported.{LeavesPaced, PrintsPaced};
 ghost use Rattle.paced_export.specs.PacedRefused.{IsPacedRefusal};
 ghost use Rattle.recording_engines.specs.Files.{AllClosed, ended_by, failures_by, gave_by};
-ghost use Rattle.recording_engines.specs.Imported.{Imports, IsImportRefusal};
+ghost use Rattle.recording_engines.specs.Imported.{Imports, ImportsUpTo, IsImportRefusal};
 ghost use Rattle.recording_engines.specs.Progress.{IsDeviceOrFile};
 ghost use Rattle.recording_engines.specs.declared.importing.ImportCounts.{ImportCounts as Sums};
+ghost use Rattle.run_outcome.specs.AtFault.{PrintedAtFault};
 ghost use Rattle.run_outcome.specs.Fault.{Accounts, IfRefused, StatusBlames, counts};
 ghost use Rattle.run_outcome.specs.Moments.{WasRead};
 ghost use Rattle.run_outcome.specs.Refusing.{OfRefusal, TellsRefusal};
@@ -71,6 +72,20 @@ where
         (GivesText 65535 (D.gave sdp.old) (D.gave sdp.new) (D.ended sdp.new))
         (WasRead (gave_by S.gave) (ended_by S.ended)) (zip files.old files.new)
         (K.took capture.old) (K.took capture.new) (O.took output.old) (O.took output.new) sums }
+    // Unless the status is 0, nothing was written; or the text, and behind it the first of the
+    // records, all of that or a first part, where the capture failed.
+    ensures part { result ≢ 0 → ImportsUpTo
+        (option_copied wanted.entry.a) (option_copied wanted.entry.b)
+        (GivesText 65535 (D.gave sdp.old) (D.gave sdp.new) (D.ended sdp.new))
+        (WasRead (gave_by S.gave) (ended_by S.ended))
+        (Failed (K.failures capture.old) (K.failures capture.new)) (zip files.old files.new)
+        (K.took capture.old) (K.took capture.new) }
+    // And nothing was printed, or a first part of the line, since the output failed.
+    ensures printed { result ≢ 0 → PrintedAtFault O.took O.failures (λ text. (sums : Sums)
+        × Imports (option_copied wanted.entry.a) (option_copied wanted.entry.b)
+        (GivesText 65535 (D.gave sdp.old) (D.gave sdp.new) (D.ended sdp.new))
+        (WasRead (gave_by S.gave) (ended_by S.ended)) (zip files.old files.new)
+        (K.took capture.old) (K.took capture.new) [] text sums) output.old output.new }
     ensures quiet { result ≡ 1 → output.new ≡ output.old }
     // At status 1 a refusal of the words or the files was told by its line.
     ensures told { result ≡ 1 → TellsRefusal (IsImportRefusal
@@ -120,6 +135,17 @@ where
         (GivesText 65535 (D.gave sdp.old) (D.gave sdp.new) (D.ended sdp.new))
         (WasRead (gave_by S.gave) (ended_by S.ended)) (zip files.old files.new)
         (K.took capture.old) (K.took capture.new))) }
+    ensures part { OnErr result (ImportsUpTo
+        (option_copied wanted.entry.a) (option_copied wanted.entry.b)
+        (GivesText 65535 (D.gave sdp.old) (D.gave sdp.new) (D.ended sdp.new))
+        (WasRead (gave_by S.gave) (ended_by S.ended))
+        (Failed (K.failures capture.old) (K.failures capture.new)) (zip files.old files.new)
+        (K.took capture.old) (K.took capture.new)) }
+    ensures printed { OnErr result (PrintedAtFault O.took O.failures (λ text. (sums : Sums)
+        × Imports (option_copied wanted.entry.a) (option_copied wanted.entry.b)
+        (GivesText 65535 (D.gave sdp.old) (D.gave sdp.new) (D.ended sdp.new))
+        (WasRead (gave_by S.gave) (ended_by S.ended)) (zip files.old files.new)
+        (K.took capture.old) (K.took capture.new) [] text sums) output.old output.new) }
     ensures quiet { IfErr result (λ f. IfRefused f (output.new ≡ output.old)) }
     ensures memory { IfErr result (λ f. f ≡ Fault.Memory → (output.new ≡ output.old)
         × GivesFew 65535 (D.gave sdp.old) (D.gave sdp.new)
@@ -165,6 +191,12 @@ where
         wanted.entry.a.now (option_copied wanted.entry.b)
         (S.gave capture.old) (S.gave capture.new) (S.ended capture.new)
         (K.took sink.old) (K.took sink.new) (O.took output.old) (O.took output.new) }
+    // Unless the status is 0, nothing was printed, or a first part of the line, since the output
+    // failed.
+    ensures printed { result ≢ 0 → PrintedAtFault O.took O.failures (PrintsExported
+        wanted.entry.a.now (option_copied wanted.entry.b)
+        (S.gave capture.old) (S.gave capture.new) (S.ended capture.new)
+        (K.took sink.old) (K.took sink.new) []) output.old output.new }
     ensures quiet { result ≡ 1 → output.new ≡ output.old }
     // At status 1 a refusal of the words or the capture was told by its line.
     ensures told { result ≡ 1 → TellsRefusal (IsExportRefusal
@@ -224,6 +256,13 @@ where
         (S.gave ahead.old) (S.gave ahead.new) (S.ended ahead.new)
         (S.gave capture.old) (S.gave capture.new) (S.ended capture.new)
         (K.took sink.old) (K.took sink.new) (O.took output.old) (O.took output.new) }
+    // Unless the status is 0, nothing was printed, or a first part of the line, since the output
+    // failed.
+    ensures printed { result ≢ 0 → PrintedAtFault O.took O.failures (PrintsPaced
+        wanted.entry.start wanted.entry.flows.a.now (option_copied wanted.entry.flows.b)
+        (S.gave ahead.old) (S.gave ahead.new) (S.ended ahead.new)
+        (S.gave capture.old) (S.gave capture.new) (S.ended capture.new)
+        (K.took sink.old) (K.took sink.new) []) output.old output.new }
     ensures quiet { result ≡ 1 → output.new ≡ output.old }
     // What is told is the first refusal that speaks against the words and the capture.
     ensures told { result ≡ 1 → TellsRefusal (IsPacedRefusal

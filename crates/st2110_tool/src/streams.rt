@@ -9,6 +9,7 @@ ghost use Rattle.follow_engine.specs.Opened.{AllClosedSides};
 ghost use Rattle.follow_engine.specs.Refused.{IsFollowRefusal};
 ghost use Rattle.follow_engine.specs.Sides.{SideRead};
 ghost use Rattle.follow_engine.specs.declared.telling.FollowTotals.{FollowTotals as Totals};
+ghost use Rattle.run_outcome.specs.AtFault.{PrintedAtFault};
 ghost use Rattle.run_outcome.specs.Fault.{Accounts, IfRefused, StatusBlames, counts, failures_in};
 ghost use Rattle.run_outcome.specs.Moments.{WasRead};
 ghost use Rattle.run_outcome.specs.Refusing.{OfRefusal, TellsRefusal};
@@ -187,6 +188,12 @@ where
         (IsRead (S.gave stream.old) (S.gave stream.new) (S.ended stream.new))
         (K.took sink.old) (K.took sink.new) (O.took output.old) (O.took output.new) }
     ensures ended { result ≡ 0 → S.ended stream.new }
+    // Unless the status is 0, nothing was printed, or a first part of the line, since the output
+    // failed.
+    ensures printed { result ≢ 0 → PrintedAtFault O.took O.failures (SendsStream S.gave S.ended
+        by_sdp wanted sdp.old sdp.new
+        (IsRead (S.gave stream.old) (S.gave stream.new) (S.ended stream.new))
+        (K.took sink.old) (K.took sink.new) []) output.old output.new }
     ensures quiet { result ≡ 1 → output.new ≡ output.old }
     // What is told is the first refusal that speaks against the text and the stream.
     ensures told { result ≡ 1 → TellsRefusal (IsSentStreamRefusal wanted.max_octets

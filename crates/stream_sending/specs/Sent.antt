@@ -1,7 +1,7 @@
 -- What `send` of a stream writes, and which refusal ends it: the first in the order in which it
 -- looks (own). The octets that were read of the
 -- stream are told by a predicate, as those of a picture's file are.
-use Rattle.std.specs.Prelude.{◌≡◌, ◌<◌, ℕ, ◌⊎◌, Bool, true, false, List, [], ◌∷◌, ◌++◌, length}
+use Rattle.std.specs.Prelude.{◌≡◌, ◌<◌, ℕ, ◌⊎◌, Bool, List, [], ◌∷◌, ◌++◌, length}
 use Rattle.std.specs.Prelude.{Err, Option}
 use Rattle.st_format.specs.Device.{capped}
 use Rattle.st_format.specs.Fields.{fields_of}
@@ -19,7 +19,7 @@ use Rattle.run_outcome.specs.declared.line.Line.TheVariants as line
 use Rattle.run_outcome.specs.declared.refusal.Refusal.{Refusal}
 use Rattle.run_outcome.specs.declared.refusal.Refusal.TheVariants as refusal
 use Rattle.capture_engines.specs.Sending.{ArePlanned, run_sender}
-use Rattle.capture_engines.specs.Typed.{IsTypedBy}
+use Rattle.capture_engines.specs.Typed.{IsSentBy}
 use Rattle.capture_engines.specs.declared.sender.Sending.{Sending}
 use Rattle.stream_sending.specs.Streams.{HasFrames, HasStreamFrameFault, IsStreamOf}
 
@@ -53,11 +53,6 @@ pub record SendsFrames (read : List ℕ → Type 0) (wanted : Sending) (text old
   pub few : length pictures < 4294967296
   pub says : (octets : List ℕ) → read octets → IsStreamOf octets format pictures
   pub taken : TakesFrames wanted text format pictures old new count
-
--- it is what is asked for, or the same with the payload type that the text says
-abbrev pub IsSentBy : Bool → Sending → List ℕ → Sending → Type 0
-IsSentBy true wanted text sending = IsTypedBy wanted text sending
-IsSentBy false wanted text sending = sending ≡ wanted
 
 -- A sink took the SDP's text and the pictures of the stream that was read, and to the output it was
 -- printed how many datagrams they are.

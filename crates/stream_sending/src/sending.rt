@@ -1,12 +1,15 @@
 //! Sending a stream.
-ghost use Rattle.std.specs.Prelude.{◌≡◌, ◌≤◌, ◌∷◌, [], length, IfErr, IfOk, IsSome, IsTrue, OnOk};
+ghost use Rattle.std.specs.Prelude.{◌≡◌, ◌≤◌, ◌∷◌, [], length, IfErr, IfOk, IsSome, IsTrue};
+ghost use Rattle.std.specs.Prelude.{OnErr, OnOk};
 ghost use Rattle.std.specs.Io.KnownBytes.{IsAtEnd};
 ghost use Rattle.st_format.specs.History.{IsRead};
+ghost use Rattle.run_outcome.specs.AtFault.{PrintedAtFault};
 ghost use Rattle.run_outcome.specs.Fault.{Accounts, IfRefused, counts, failures_in};
 ghost use Rattle.run_outcome.specs.Moments.{WasRead};
 ghost use Rattle.run_outcome.specs.Refusing.{OfRefusal};
 ghost use Rattle.run_outcome.specs.TextRefusals.{IsCaptureText};
-ghost use Rattle.stream_sending.specs.Sent.{IsFramesRefusal, IsSentBy, IsSentStreamRefusal};
+ghost use Rattle.capture_engines.specs.Typed.{IsSentBy};
+ghost use Rattle.stream_sending.specs.Sent.{IsFramesRefusal, IsSentStreamRefusal};
 ghost use Rattle.stream_sending.specs.Sent.{SendsFrames, SendsStream};
 
 use crate::frames::send_opened;
@@ -56,6 +59,11 @@ where
         (IsRead (S.gave stream.old) (S.gave stream.new) (S.ended stream.new))
         (K.took sink.old) (K.took sink.new) (O.took output.old) (O.took output.new)) }
     ensures ended { OnOk result (S.ended stream.new) }
+    // Where it fails nothing was printed; or a first part of the line, since the output failed.
+    ensures printed { OnErr result (PrintedAtFault O.took O.failures (SendsStream S.gave S.ended
+        by_sdp wanted sdp.old sdp.new
+        (IsRead (S.gave stream.old) (S.gave stream.new) (S.ended stream.new))
+        (K.took sink.old) (K.took sink.new) []) output.old output.new) }
     // A refusal comes before anything is printed.
     ensures quiet { IfErr result (λ f. IfRefused f (output.new ≡ output.old)) }
     // So memory is wanted.

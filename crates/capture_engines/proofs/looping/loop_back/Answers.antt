@@ -1,6 +1,7 @@
-use Rattle.std.proofs.Common.{◌≡◌, ℕ, ◌++◌, ◌∙◌, Err, ap, refl, subst, sym, take}
+use Rattle.std.proofs.Common.{◌≡◌, ℕ, [], ◌++◌, ◌∙◌, Err, List, ap, refl, subst, sym, take}
 use Rattle.std.proofs.lemmas.Result.{err_from_is_err_and}
-use Rattle.run_outcome.proofs.Printed.{on_ok}
+use Rattle.run_outcome.proofs.Printed.{none_printed, on_ok}
+use Rattle.capture_engines.proofs.Quiet.{printed_so}
 use Rattle.run_outcome.proofs.Refusals.{device_alone, if_none_refused, none_refused}
 use Rattle.run_outcome.specs.Fault.{counts}
 use Rattle.packet_plan.specs.Plan.{IsFullPlan}
@@ -128,3 +129,81 @@ returns-clause-quiet g c =
 
 pub returns-clause-memory : goal.returns-clause-memory
 returns-clause-memory g c = device_alone c.print_passed.result _ c.print_passed.ensures.device
+
+pub returns-in_err-picture-clause-printed : goal.returns-in_err-picture-clause-printed
+returns-in_err-picture-clause-printed g c =
+    none_printed c.from_residual.result g.O.ByteSink.took g.O.ByteSink.failures _
+    c.args.output.now
+
+pub returns-in_err-plan-clause-printed : goal.returns-in_err-plan-clause-printed
+returns-in_err-plan-clause-printed g c =
+    none_printed c.from_residual-in_err-plan.result g.O.ByteSink.took g.O.ByteSink.failures _
+    c.args.output.now
+
+pub returns-in_err-receiver-clause-printed : goal.returns-in_err-receiver-clause-printed
+returns-in_err-receiver-clause-printed g c =
+    none_printed c.from_residual-in_err-receiver.result g.O.ByteSink.took g.O.ByteSink.failures _
+    c.args.output.now
+
+pub returns-in_err-buf-clause-printed : goal.returns-in_err-buf-clause-printed
+returns-in_err-buf-clause-printed g c =
+    none_printed c.from_residual-in_err-buf.result g.O.ByteSink.took g.O.ByteSink.failures _
+    c.args.output.now
+
+pub returns-in_err-passed-clause-printed : goal.returns-in_err-passed-clause-printed
+returns-in_err-passed-clause-printed g c =
+    none_printed c.from_residual-in_err-passed.result g.O.ByteSink.took g.O.ByteSink.failures _
+    c.args.output.now
+
+pub returns-clause-printed : goal.returns-clause-printed
+returns-clause-printed g c =
+    let given =
+    (IsRead (g.S.ByteSource.gave c.args.source.now)
+    (g.S.ByteSource.gave c.read_unpacked.new.source) (g.S.ByteSource.ended
+    c.read_unpacked.new.source)) in
+    let old : List ℕ = [] in
+    let passed = c.in_ok-passed.passed in
+    let plan = c.in_ok-plan.plan in
+    let receiver : State = c.pass.new.receiver in
+    let max = c.args.wanted.max_octets in
+    let sent = c.in_ok-passed.ensures.sent in
+    let before : Link =
+    record {
+      took = g.L.DatagramSink.took c.args.link.now;
+      came = g.L.DatagramSource.came c.args.link.now;
+      delivered = g.L.DatagramSource.delivered c.args.link.now;
+    } in
+    let after : Link =
+    record {
+      took = g.L.DatagramSink.took c.pass.new.link;
+      came = g.L.DatagramSource.came c.pass.new.link;
+      delivered = g.L.DatagramSource.delivered c.pass.new.link;
+    } in
+    printed_so c.print_passed.result g.O.ByteSink.took g.O.ByteSink.failures
+    (Prints passed.sent passed.delivered receiver old)
+    (Loops max c.args.wanted.limit given before after old) c.args.output.now
+    c.print_passed.new.output
+    (λ text printed. record {
+      picture = c.in_ok-picture.picture;
+      packets = plan.packets;
+      delivered = passed.delivered;
+      receiver = receiver;
+      read = c.in_ok-picture.ensures.says;
+      plan =
+          subst (λ (m : ℕ). IsFullPlan plan.packets c.in_ok-picture.picture.format m)
+          c.in_ok-plan.ensures.made.1
+          (subst (λ (f : Format). IsFullPlan plan.packets f plan.max_octets)
+          (c.in_ok-plan.ensures.made.0 ∙ c.format.ensures.value) c.in_ok-passed.ensures.plan);
+      put =
+          subst (λ (n : ℕ). after.took ≡ before.took
+          ++ take n (datagram_texts c.in_ok-picture.picture loop_stamp 0 plan.packets)) sent
+          c.in_ok-passed.ensures.put;
+      opening = c.in_ok-passed.ensures.opening ∙ c.in_ok-receiver.ensures.opening;
+      came =
+          subst (λ (n : ℕ). Came n passed.delivered before.came after.came receiver) sent
+          c.in_ok-passed.ensures.came;
+      counted = c.in_ok-passed.ensures.counted;
+      printed =
+          subst (λ (n : ℕ). Prints n passed.delivered receiver old text) sent printed;
+    })
+    c.print_passed.ensures.part

@@ -1,9 +1,9 @@
-use Rattle.std.proofs.Common.{◌≡◌, ◌∷◌, ◌++◌, []}
+use Rattle.std.proofs.Common.{◌≡◌, ◌∷◌, ◌++◌, [], refl}
 use Rattle.std.proofs.lemmas.Result.{err_from_is_err_and}
 use Rattle.run_outcome.specs.Line.{line_text}
 use Rattle.run_outcome.specs.Text.{GivesText}
 use Rattle.run_outcome.specs.declared.line.Line.TheVariants.{Records}
-use Rattle.run_outcome.proofs.Printed.{on_ok}
+use Rattle.run_outcome.proofs.Printed.{none_printed, on_ok, part_printed}
 use Rattle.run_outcome.proofs.Refusals.{device_alone}
 use Rattle.capture_engines.specs.Migrating.{Passed, PrintsMigrated, passed}
 use Rattle.capture_engines.proofs.Sendings.{on_any}
@@ -76,3 +76,33 @@ returns-clause-described g c = on_any c.print.result _ c.in_ok-said.ensures.says
 
 pub returns-clause-memory : goal.returns-clause-memory
 returns-clause-memory g c = device_alone c.print.result _ c.print.ensures.device
+
+pub returns-in_err-said-clause-printed : goal.returns-in_err-said-clause-printed
+returns-in_err-said-clause-printed g c =
+    none_printed c.from_residual.result g.O.ByteSink.took g.O.ByteSink.failures _ c.args.output.now
+
+pub returns-in_err-records-clause-printed : goal.returns-in_err-records-clause-printed
+returns-in_err-records-clause-printed g c =
+    none_printed c.from_residual-in_err-records.result g.O.ByteSink.took g.O.ByteSink.failures _
+    c.args.output.now
+
+pub returns-clause-printed : goal.returns-clause-printed
+returns-clause-printed g c =
+    let told = g.S.ByteSource in
+    let sink = g.K.ByteSink in
+    let sdp = g.D.ByteSource in
+    part_printed c.print.result g.O.ByteSink.took g.O.ByteSink.failures
+    (PrintsMigrated (GivesText 65535 (sdp.gave c.args.sdp.now)
+    (sdp.gave c.read_checked.new.source) (sdp.ended c.read_checked.new.source))
+    (told.gave c.args.source.now) (told.gave c.move_capture.new.source)
+    (told.ended c.move_capture.new.source) (sink.took c.args.sink.now)
+    (sink.took c.move_capture.new.sink) []) _ c.args.output.now c.print.new.output
+    (record {
+      migrated = record {
+        text = c.in_ok-said.said.items;
+        count = c.in_ok-records.records;
+        read = c.in_ok-said.ensures.read;
+        written = rw c.deref.ensures.value at c.in_ok-records.ensures.migrated;
+      };
+      printed = refl;
+    }) c.print.ensures.cut c.print.ensures.device c.print.ensures.failures

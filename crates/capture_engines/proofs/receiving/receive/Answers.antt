@@ -2,13 +2,13 @@ use Rattle.std.proofs.Common.{inl, refl}
 use Rattle.std.proofs.lemmas.Result.{err_from_is_err_and}
 use Rattle.std.specs.List.{zip}
 use Rattle.run_outcome.specs.Moments.{WasRead, pair}
-use Rattle.run_outcome.proofs.Printed.{on_ok}
+use Rattle.run_outcome.proofs.Printed.{on_ok, whenever}
 use Rattle.run_outcome.proofs.Refusals.{if_err_map, of_refusal_map}
 use Rattle.capture_engines.proofs.Accounting.{accounts_front}
 use Rattle.capture_engines.proofs.FirstRefused.{of_both}
 use Rattle.capture_engines.proofs.Rescues.{if_err_both}
 use Rattle.capture_engines.proofs.Said.{long_refused, said_part, said_receives}
-use Rattle.capture_engines.proofs.Said.{said_refused}
+use Rattle.capture_engines.proofs.Said.{said_refused, said_shown}
 use Rattle.capture_engines.proofs.receiving.receive.Goals as goal
 
 pub returns-in_err-check_words-clause-refusal : goal.returns-in_err-check_words-clause-refusal
@@ -91,3 +91,19 @@ returns-in_err-said-clause-memory g c =
     c.from_residual-in_err-said.ensures.1 in
     let asked = c.in_ok-check_words.ensures in
     rw (p.1) (λ memory. (refl, refl, (asked.window.0, (asked.window.1, asked.source))))
+
+pub returns-in_err-check_words-clause-printed : goal.returns-in_err-check_words-clause-printed
+returns-in_err-check_words-clause-printed g c = whenever c.from_residual.result _ (inl refl)
+
+pub returns-in_err-said-clause-printed : goal.returns-in_err-said-clause-printed
+returns-in_err-said-clause-printed g c =
+    whenever c.from_residual-in_err-said.result _ (inl refl)
+
+pub returns-clause-printed : goal.returns-clause-printed
+returns-clause-printed g c =
+    let told = g.S.ByteSource in
+    said_shown c.receive_files.result c.receive_files.new.reception c.args.wanted.window.now
+    c.args.wanted.ssrc.now (pair c.args.sdp.now c.read_said.new.sdp) _ told.gave told.ended
+    (zip c.args.captures.now c.receive_files.new.files) g.O.ByteSink.took g.O.ByteSink.failures
+    c.args.wanted.tells_refusals _ _ _ c.in_ok-said.ensures.said
+    (rw c.octets_of.ensures at c.receive_files.ensures.printed) c.receive_files.ensures.rescued

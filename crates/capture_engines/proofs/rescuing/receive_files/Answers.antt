@@ -1,4 +1,4 @@
-use Rattle.std.proofs.Common.{inl, inr, refl}
+use Rattle.std.proofs.Common.{inl, inr, refl, subst, sym}
 use Rattle.std.proofs.lemmas.Result.{err_from_is_err_and}
 use Rattle.std.specs.List.{zip}
 use Rattle.std.specs.Option.{option_copied}
@@ -9,8 +9,9 @@ use Rattle.capture_engines.proofs.InOrder.{receives}
 use Rattle.capture_engines.proofs.FirstRefused.{files_said}
 use Rattle.capture_engines.proofs.Rescues.{counted_if, counts, failed_part, none_part, on_ok_both}
 use Rattle.capture_engines.proofs.Rescues.{maybe_part, of_files, of_part, on_ok_each, part_refused}
-use Rattle.capture_engines.proofs.Rescues.{rescued_if, rescues, sound_not, whole_part}
-use Rattle.run_outcome.proofs.Printed.{whenever}
+use Rattle.capture_engines.proofs.Rescues.{maybe_so, rescued_if, rescues, shows_so, sound_not}
+use Rattle.capture_engines.proofs.Rescues.{whole_part}
+use Rattle.run_outcome.proofs.Printed.{on_err, whenever}
 use Rattle.capture_engines.specs.Rescued.{IsReceiverOfAny}
 use Rattle.capture_engines.proofs.rescuing.receive_files.Goals as goal
 
@@ -244,3 +245,65 @@ returns-clause-wanted g c = λ memory. (
   c.in_ok-opening.opening.window.items,
   (c.in_ok-opening.ensures.window, (_, c.in_ok-opening.ensures.source)),
 )
+
+pub returns-in_err-opening-clause-printed : goal.returns-in_err-opening-clause-printed
+returns-in_err-opening-clause-printed g c =
+    whenever c.from_residual.result _
+    (none_part c.args.reception.now c.args.reception.now _ refl c.requires (inl refl))
+
+pub returns-in_err-begun-clause-printed : goal.returns-in_err-begun-clause-printed
+returns-in_err-begun-clause-printed g c =
+    whenever c.from_residual-in_err-begun.result _
+    (none_part c.args.reception.now c.args.reception.now _ refl c.requires (inl refl))
+
+pub returns-in_err-intake-clause-printed : goal.returns-in_err-intake-clause-printed
+returns-in_err-intake-clause-printed g c =
+    whenever c.from_residual-in_err-intake.result _
+    (none_part c.args.reception.now c.args.reception.now _ refl c.requires (inl refl))
+
+pub returns-in-Whole-clause-printed : goal.returns-in-Whole-clause-printed
+returns-in-Whole-clause-printed g c =
+    let told = g.S.ByteSource in
+    let window = c.args.wanted.window.now in
+    let source = c.args.wanted.ssrc.now in
+    let sdp = option_copied c.args.sdp in
+    let files = zip c.args.files.now c.rescue_files.new.files in
+    failed_part c.put_out.result c.put_out.new.reception c.args.reception.now _
+    c.put_out.ensures.none c.requires
+    (on_err c.put_out.result _ _
+    (shows_so g.O.ByteSink.took g.O.ByteSink.failures c.args.wanted.tells_refusals _
+    (IsReceiverOfAny c.args.is_sound window source sdp c.args.ways.now told.gave told.ended files)
+    _ _ (λ s same. subst (IsReceiverOfAny c.args.is_sound window source sdp c.args.ways.now
+    told.gave told.ended files) (sym same)
+    (inl (of_files c.in_ok-opening.opening window source sdp c.args.ways.now
+    (WasRead told.gave told.ended) files c.in_ok-begun.begun c.in-Whole.intake
+    c.in_ok-opening.ensures.window c.in_ok-opening.ensures.source c.in_ok-begun.ensures.begun
+    (rw c.in-Whole.is at c.in_ok-intake.ensures.taken)))))
+    c.put_out.ensures.shown)
+
+pub returns-in-Part-clause-printed : goal.returns-in-Part-clause-printed
+returns-in-Part-clause-printed g c =
+    let told = g.S.ByteSource in
+    let window = c.args.wanted.window.now in
+    let source = c.args.wanted.ssrc.now in
+    let sdp = option_copied c.args.sdp in
+    let files = zip c.args.files.now c.rescue_files.new.files in
+    let taken = rw c.in-Part.is at c.in_ok-intake.ensures.taken in
+    whenever c.put_part.result _
+    (maybe_so c.put_part.new.reception _ _
+    (shows_so g.O.ByteSink.took g.O.ByteSink.failures c.args.wanted.tells_refusals _
+    (IsReceiverOfAny c.args.is_sound window source sdp c.args.ways.now told.gave told.ended files)
+    _ _ (λ s same. subst (IsReceiverOfAny c.args.is_sound window source sdp c.args.ways.now
+    told.gave told.ended files) (sym same)
+    (inr (
+      c.if-is_sound.true,
+      of_part c.in_ok-opening.opening window source sdp c.args.ways.now told.gave told.ended
+          c.in-Part.fault files c.in_ok-begun.begun c.in-Part.intake
+          c.in_ok-opening.ensures.window c.in_ok-opening.ensures.source
+          c.in_ok-begun.ensures.begun taken.0,
+    ))))
+    c.put_part.ensures.shown)
+
+pub returns-clause-printed : goal.returns-clause-printed
+returns-clause-printed g c =
+    none_part c.args.reception.now c.args.reception.now _ refl c.requires (inl refl)

@@ -1,11 +1,14 @@
-use Rattle.std.proofs.Common.{ap, arith, drop, drop-drop, refl, sym, ◌∙◌}
+use Rattle.std.proofs.Common.{ℕ, ap, arith, drop, drop-drop, refl, subst, sym, ◌∙◌}
 use Rattle.std.proofs.lemmas.Result.{err_from_is_err_and}
 use Rattle.run_outcome.specs.Moments.{WasRead}
+use Rattle.run_outcome.proofs.Printed.{whenever}
 use Rattle.run_outcome.proofs.Refusals.{of_refusal_map}
+use Rattle.st_format.specs.Device.{Failed}
 use Rattle.capture_engines.proofs.OneOf.{front_stays}
 use Rattle.capture_engines.proofs.SentRefusals.{next_refused, none_are, one_more}
 use Rattle.capture_engines.proofs.SentRefusals.{other_refused}
 use Rattle.capture_engines.proofs.Sendings.{more_so_far, none_so_far, rest_sent}
+use Rattle.capture_engines.proofs.SentParts.{rest_ended, rest_stopped}
 use Rattle.capture_engines.proofs.sending.send_rest.Goals as goal
 
 pub returns-in_err-picture-clause-refusal : goal.returns-in_err-picture-clause-refusal
@@ -98,3 +101,28 @@ returns-in_err-send-clause-front g c =
     let l = c.loop-place in
     front_stays l.place c.args.pictures.now l.pictures _ (omega (arith, l.auto.place))
     c.in_ok-picture.ensures.before l.invariant.front
+
+pub returns-in_err-picture-clause-part : goal.returns-in_err-picture-clause-part
+returns-in_err-picture-clause-part g c =
+    let l = c.loop-place in
+    let start = c.args.pictures.now in
+    whenever c.from_residual.result _
+    (rest_stopped (WasRead g.S.ByteSource.gave g.S.ByteSource.ended) g.K.ByteSink.took _ l.place
+    start l.pictures _ c.args.sender.now l.sender l.invariant.sent c.in_err-picture.ensures.before
+    (c.in_err-picture.ensures.behind ∙ sym (drop-drop 1 l.place l.pictures)
+    ∙ ap (drop 1) l.invariant.behind ∙ drop-drop 1 l.place start))
+
+pub returns-in_err-send-clause-part : goal.returns-in_err-send-clause-part
+returns-in_err-send-clause-part g c =
+    let l = c.loop-place in
+    let start = c.args.pictures.now in
+    let failed = g.K.ByteSink.failures in
+    whenever c.from_residual-in_err-send.result _
+    (rest_ended (WasRead g.S.ByteSource.gave g.S.ByteSource.ended) g.K.ByteSink.took failed _
+    l.place start l.pictures _ c.in_ok-picture.picture c.args.sender.now l.sender c.send.new.self
+    c.in_err-send.field-0.0
+    (λ fails. subst (λ (n : ℕ). Failed n (failed c.send.new.self.writer.sink)) l.invariant.sink
+    fails) l.invariant.sent l.invariant.behind c.in_ok-picture.ensures.before
+    (c.in_ok-picture.ensures.behind ∙ sym (drop-drop 1 l.place l.pictures)
+    ∙ ap (drop 1) l.invariant.behind ∙ drop-drop 1 l.place start) c.in_ok-picture.ensures.shows
+    c.in_err-send.ensures.part)

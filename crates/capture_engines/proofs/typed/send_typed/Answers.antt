@@ -1,13 +1,14 @@
-use Rattle.std.proofs.Common.{◌∙◌, List, inr, subst, sym, ℕ}
+use Rattle.std.proofs.Common.{◌∙◌, List, [], inl, inr, refl, subst, sym, true, ℕ}
 use Rattle.std.proofs.lemmas.Result.{err_from_is_err_and}
 use Rattle.std.specs.List.{zip}
 use Rattle.run_outcome.specs.Moments.{WasRead}
 use Rattle.run_outcome.proofs.Refusals.{device_alone, of_refusal_map}
 use Rattle.run_outcome.proofs.SaidTexts.{text_says}
 use Rattle.capture_engines.specs.Sent.{IsPicturesRefusal}
-use Rattle.run_outcome.proofs.Printed.{on_ok}
+use Rattle.run_outcome.proofs.Printed.{none_printed, on_ok, part_printed, whenever}
 use Rattle.run_outcome.specs.TextRefusals.{IsCaptureText, SaysText}
-use Rattle.capture_engines.specs.Typed.{IsTypedBy}
+use Rattle.capture_engines.specs.Typed.{IsTypedBy, SendsTyped}
+use Rattle.capture_engines.proofs.SentParts.{all_part, some_of}
 use Rattle.capture_engines.proofs.TypedTexts.{text_given}
 use Rattle.capture_engines.proofs.typed.send_typed.Goals as goal
 
@@ -52,3 +53,71 @@ returns-in_err-sent-clause-refusal g c =
 
 pub returns-clause-memory : goal.returns-clause-memory
 returns-clause-memory g c = device_alone c.print.result _ c.print.ensures.device
+
+pub returns-in_err-said-clause-part : goal.returns-in_err-said-clause-part
+returns-in_err-said-clause-part g c = whenever c.from_residual.result _ (inl (refl, refl))
+
+pub returns-in_err-typed-clause-part : goal.returns-in_err-typed-clause-part
+returns-in_err-typed-clause-part g c =
+    whenever c.from_residual-in_err-typed.result _ (inl (refl, refl))
+
+pub returns-in_err-sent-clause-part : goal.returns-in_err-sent-clause-part
+returns-in_err-sent-clause-part g c =
+    let told = g.S.ByteSource in
+    whenever c.from_residual-in_err-sent.result _
+    (some_of told.gave told.ended _ true c.args.wanted c.in_ok-typed.typed c.args.sdp.now
+    c.read_said.new.sdp c.deref-2.result.now c.args.pictures.now c.send_pictures.new.pictures _ _
+    (subst (λ (l : List ℕ). SaysText told.gave told.ended c.args.sdp.now c.read_said.new.sdp l)
+    (sym c.deref-2.ensures.value) c.in_ok-said.ensures.says)
+    (subst (λ (l : List ℕ). IsTypedBy c.args.wanted l c.in_ok-typed.typed)
+    (c.deref.ensures.value ∙ sym c.deref-2.ensures.value) c.in_ok-typed.ensures.typed)
+    c.in_err-sent.ensures.part)
+
+pub returns-clause-part : goal.returns-clause-part
+returns-clause-part g c =
+    let told = g.S.ByteSource in
+    whenever c.print.result _
+    (some_of told.gave told.ended _ true c.args.wanted c.in_ok-typed.typed c.args.sdp.now
+    c.read_said.new.sdp c.deref-2.result.now c.args.pictures.now c.send_pictures.new.pictures _ _
+    (subst (λ (l : List ℕ). SaysText told.gave told.ended c.args.sdp.now c.read_said.new.sdp l)
+    (sym c.deref-2.ensures.value) c.in_ok-said.ensures.says)
+    (subst (λ (l : List ℕ). IsTypedBy c.args.wanted l c.in_ok-typed.typed)
+    (c.deref.ensures.value ∙ sym c.deref-2.ensures.value) c.in_ok-typed.ensures.typed)
+    (all_part (WasRead told.gave told.ended) _ c.in_ok-typed.typed c.deref-2.result.now
+    c.args.pictures.now c.send_pictures.new.pictures _ _ _ c.in_ok-said.ensures.few
+    c.in_ok-sent.ensures.sent))
+
+pub returns-in_err-said-clause-printed : goal.returns-in_err-said-clause-printed
+returns-in_err-said-clause-printed g c =
+    none_printed c.from_residual.result g.O.ByteSink.took g.O.ByteSink.failures _ c.args.output.now
+
+pub returns-in_err-typed-clause-printed : goal.returns-in_err-typed-clause-printed
+returns-in_err-typed-clause-printed g c =
+    none_printed c.from_residual-in_err-typed.result g.O.ByteSink.took g.O.ByteSink.failures _
+    c.args.output.now
+
+pub returns-in_err-sent-clause-printed : goal.returns-in_err-sent-clause-printed
+returns-in_err-sent-clause-printed g c =
+    none_printed c.from_residual-in_err-sent.result g.O.ByteSink.took g.O.ByteSink.failures _
+    c.args.output.now
+
+pub returns-clause-printed : goal.returns-clause-printed
+returns-clause-printed g c =
+    let told = g.S.ByteSource in
+    part_printed c.print.result g.O.ByteSink.took g.O.ByteSink.failures
+    (SendsTyped told.gave told.ended c.args.wanted c.args.sdp.now c.read_said.new.sdp
+    c.args.pictures.now c.send_pictures.new.pictures (g.K.ByteSink.took c.args.sink.now)
+    (g.K.ByteSink.took c.send_pictures.new.sink) []) _ c.args.output.now c.print.new.output
+    (record {
+      text = c.deref-2.result.now;
+      says =
+          subst (λ (l : List ℕ). SaysText told.gave told.ended c.args.sdp.now c.read_said.new.sdp l)
+          (sym c.deref-2.ensures.value) c.in_ok-said.ensures.says;
+      typed = c.in_ok-typed.typed;
+      typed_is =
+          subst (λ (l : List ℕ). IsTypedBy c.args.wanted l c.in_ok-typed.typed)
+          (c.deref.ensures.value ∙ sym c.deref-2.ensures.value) c.in_ok-typed.ensures.typed;
+      count = c.in_ok-sent.sent;
+      pictures = c.in_ok-sent.ensures.sent;
+      line = refl;
+    }) c.print.ensures.cut c.print.ensures.device c.print.ensures.failures

@@ -3,7 +3,7 @@ use Rattle.std.specs.Option.{option_copied}
 use Rattle.std.proofs.lemmas.Result.{err_from_is_err_and}
 use Rattle.run_outcome.specs.Line.{line_text}
 use Rattle.run_outcome.specs.declared.line.Line.TheVariants.{Exported}
-use Rattle.run_outcome.proofs.Printed.{on_ok}
+use Rattle.run_outcome.proofs.Printed.{none_printed, on_ok, part_printed}
 use Rattle.run_outcome.proofs.Refusals.{device_alone}
 use Rattle.export_engine.specs.Exported.{PrintsExported}
 use Rattle.export_engine.proofs.ExportRefusals.{run_left, run_refused, unsaid_left, untouched_by}
@@ -78,3 +78,26 @@ returns-in_err-counts-clause-memory g c =
 
 pub returns-clause-memory : goal.returns-clause-memory
 returns-clause-memory g c = device_alone c.print.result _ c.print.ensures.device
+
+pub returns-in_err-counts-clause-printed : goal.returns-in_err-counts-clause-printed
+returns-in_err-counts-clause-printed g c =
+    none_printed c.from_residual.result g.O.ByteSink.took g.O.ByteSink.failures _ c.args.output.now
+
+pub returns-clause-printed : goal.returns-clause-printed
+returns-clause-printed g c =
+    let told = g.S.ByteSource in
+    let sink = g.K.ByteSink in
+    part_printed c.print.result g.O.ByteSink.took g.O.ByteSink.failures
+    (PrintsExported c.args.wanted.a.now (option_copied c.args.wanted.b)
+    (told.gave c.args.capture.now) (told.gave c.export_capture.new.capture)
+    (told.ended c.export_capture.new.capture) (sink.took c.args.sink.now)
+    (sink.took c.export_capture.new.sink) []) _ c.args.output.now c.print.new.output
+    (record {
+      counts = c.in_ok-counts.counts;
+      exported = record {
+        envelopes = c.in-Some.envelopes;
+        are = c.in-Some.ensures;
+        exported = c.in_ok-counts.ensures.exported;
+      };
+      printed = refl;
+    }) c.print.ensures.cut c.print.ensures.device c.print.ensures.failures

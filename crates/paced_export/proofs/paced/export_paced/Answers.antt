@@ -3,7 +3,7 @@ use Rattle.std.specs.Option.{option_copied}
 use Rattle.std.proofs.lemmas.Result.{err_from_is_err_and}
 use Rattle.run_outcome.specs.Line.{line_text}
 use Rattle.run_outcome.specs.declared.line.Line.TheVariants.{Exported}
-use Rattle.run_outcome.proofs.Printed.{on_ok, whenever}
+use Rattle.run_outcome.proofs.Printed.{none_printed, on_ok, part_printed, whenever}
 use Rattle.run_outcome.proofs.Refusals.{device_alone}
 use Rattle.paced_export.specs.PacedExported.{PrintsPaced}
 use Rattle.paced_export.specs.PacedExported.LeavesPaced.{Partly, Unsaid}
@@ -124,3 +124,44 @@ returns-in_err-counts-clause-memory g c =
 
 pub returns-clause-memory : goal.returns-clause-memory
 returns-clause-memory g c = device_alone c.print.result _ c.print.ensures.device
+
+pub returns-in_err-told-clause-printed : goal.returns-in_err-told-clause-printed
+returns-in_err-told-clause-printed g c =
+    none_printed c.from_residual.result g.O.ByteSink.took g.O.ByteSink.failures _ c.args.output.now
+
+pub returns-in_err-counts-clause-printed : goal.returns-in_err-counts-clause-printed
+returns-in_err-counts-clause-printed g c =
+    none_printed c.from_residual-in_err-counts.result g.O.ByteSink.took g.O.ByteSink.failures _
+    c.args.output.now
+
+pub returns-clause-printed : goal.returns-clause-printed
+returns-clause-printed g c =
+    let source = g.S.ByteSource in
+    let sink = g.K.ByteSink in
+    let told = c.in_ok-told.told in
+    let ahead = c.in_ok-told.ensures.read in
+    let pace = c.pace_from-pace.result in
+    let is = c.pace_from-pace.ensures in
+    part_printed c.print.result g.O.ByteSink.took g.O.ByteSink.failures
+    (PrintsPaced c.args.wanted.start c.args.wanted.flows.a.now
+    (option_copied c.args.wanted.flows.b) (source.gave c.args.ahead.now)
+    (source.gave c.read_ahead.new.source) (source.ended c.read_ahead.new.source)
+    (source.gave c.args.capture.now) (source.gave c.export_capture.new.capture)
+    (source.ended c.export_capture.new.capture) (sink.took c.args.sink.now)
+    (sink.took c.export_capture.new.sink) []) _ c.args.output.now c.print.new.output
+    (record {
+      counts = c.in_ok-counts.counts;
+      paces = record {
+        envelopes = c.in-Some.envelopes;
+        are = c.in-Some.ensures;
+        whole = ahead.content;
+        first_read = ahead.read;
+        pace = pace;
+        pace_is =
+            pace_of c.args.wanted.start told.active pace told.counts _ _ _ ahead is.start is.first
+            is.active;
+        paces = paces_all c.in-Some.envelopes pace told.counts ahead.content.records
+            c.in_ok-counts.counts _ _ _ _ _ ahead.counts c.in_ok-counts.ensures.exported;
+      };
+      printed = refl;
+    }) c.print.ensures.cut c.print.ensures.device c.print.ensures.failures

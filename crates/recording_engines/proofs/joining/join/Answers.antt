@@ -1,8 +1,12 @@
-use Rattle.std.proofs.Common.{◌∙◌, arith, inl, inr, refl}
+use Rattle.std.proofs.Common.{◌∙◌, ℕ, arith, inl, inr, refl, subst}
 use Rattle.std.proofs.lemmas.Result.{err_from_is_err_and}
 use Rattle.run_outcome.proofs.Refusals.{of_refusal_map}
 use Rattle.recording_engines.specs.Progress.{none_written}
 use Rattle.recording_engines.proofs.Earliest.{leads_within}
+use Rattle.run_outcome.proofs.Printed.{whenever}
+use Rattle.st_format.specs.Device.{Failed}
+use Rattle.recording_engines.specs.Progress.{StopsEarliest}
+use Rattle.recording_engines.proofs.Stopped.{stops_full, stops_up_to}
 use Rattle.recording_engines.proofs.Written.{many_joined, stops_joining, written_more, written_none}
 use Rattle.recording_engines.proofs.joining.join.Goals as goal
 
@@ -68,3 +72,22 @@ returns-in_err-take_at-clause-only g c =
 
 pub returns-in-Some-earliest-clause-only : goal.returns-in-Some-earliest-clause-only
 returns-in-Some-earliest-clause-only g c = inr refl
+
+pub returns-in_err-take_at-clause-part : goal.returns-in_err-take_at-clause-part
+returns-in_err-take_at-clause-part g c =
+    let l = c.loop-turn in
+    let took = g.K.ByteSink.took in
+    let failures = g.K.ByteSink.failures in
+    let new = c.take_at.new.capture in
+    whenever c.from_residual.result _
+    (stops_up_to _ l.files c.take_at.new.files (took c.args.capture.now) (took l.capture)
+    (took new) none_written l.written l.turn l.invariant.writes (omega (arith, c.loop-turn-test.true))
+    (subst (λ (n : ℕ). StopsEarliest (Failed n (failures new)) l.files c.take_at.new.files
+    (took l.capture) (took new)) l.invariant.sink_failures c.in_err-take_at.ensures.part))
+
+pub returns-in-Some-earliest-clause-part : goal.returns-in-Some-earliest-clause-part
+returns-in-Some-earliest-clause-part g c =
+    let l = c.loop-turn in
+    let took = g.K.ByteSink.took in
+    stops_full _ l.files (took c.args.capture.now) (took l.capture) none_written l.written l.turn
+    l.invariant.writes (omega (arith, c.loop-turn-test.false, l.auto.turn-end)) l.invariant.ready

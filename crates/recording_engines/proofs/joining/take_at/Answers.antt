@@ -7,6 +7,8 @@ use Rattle.recording_engines.specs.declared.file.ImportFile.{ImportFile}
 use Rattle.recording_engines.proofs.Blames.{blames_first, blames_second}
 use Rattle.recording_engines.proofs.FileFaults.{of_each}
 use Rattle.recording_engines.proofs.Taken.{at_set, led_reading, map_set, set_same}
+use Rattle.run_outcome.proofs.Printed.{whenever}
+use Rattle.recording_engines.proofs.Stopped.{cut_at, failed_alone, left_at}
 use Rattle.recording_engines.proofs.Written.{stops_at, takes_at}
 use Rattle.recording_engines.proofs.joining.take_at.Goals as goal
 
@@ -89,3 +91,23 @@ returns-in_err-go_on-clause-only g c =
       at_set stops.reading c.args.place c.args.files.now c.go_on.new.self c.requires.place
           c.requires.ready stops.at,
     ))
+
+pub returns-in_err-write_next-clause-part : goal.returns-in_err-write_next-clause-part
+returns-in_err-write_next-clause-part g c =
+    let took = g.K.ByteSink.took in
+    whenever c.from_residual.result _
+    (cut_at _ c.args.files.now c.args.place c.requires.led.0 c.index-files-place.result
+    (took c.args.capture.now) (took c.write_next.new.capture) c.requires.place c.requires.ready
+    c.requires.led.1
+    (failed_alone c.in_err-write_next.field-0.0 _ _ c.in_err-write_next.ensures.device
+    c.in_err-write_next.ensures.failures) c.in_err-write_next.ensures.part)
+
+pub returns-in_err-go_on-clause-part : goal.returns-in_err-go_on-clause-part
+returns-in_err-go_on-clause-part g c =
+    let took = g.K.ByteSink.took in
+    whenever c.from_residual-in_err-go_on.result _
+    (left_at _ c.args.files.now c.args.place c.requires.led.0 c.index-files-place.result
+    c.go_on.new.self c.in_err-go_on.field-0.0 (took c.args.capture.now)
+    (took c.write_next.new.capture) c.args.written.now c.write_next.new.written c.requires.place
+    c.requires.ready c.requires.led.1 c.in_ok-write_next.ensures.written
+    c.in_err-go_on.ensures.stopped)

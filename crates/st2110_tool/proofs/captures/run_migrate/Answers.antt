@@ -8,7 +8,7 @@ use Rattle.run_outcome.specs.declared.refusal.Refusal.{Refusal}
 use Rattle.run_outcome.proofs.Ended.{blamed, on_done, on_refused}
 use Rattle.capture_engines.proofs.Leaving.{refused_left, run_left}
 use Rattle.run_outcome.proofs.Refusals.{outcome_told}
-use Rattle.st2110_tool.proofs.Unfinished.{on_memory}
+use Rattle.st2110_tool.proofs.Unfinished.{on_memory, unfinished}
 use Rattle.st2110_tool.proofs.captures.run_migrate.Goals as goal
 
 pub returns-clause-failures : goal.returns-clause-failures
@@ -86,3 +86,8 @@ pub returns-clause-wanted : goal.returns-clause-wanted
 returns-clause-wanted g c =
     let run = c.migrate-outcome in
     λ is. on_memory _ run.result (c.end.ensures.wanted is) run.ensures.memory
+
+pub returns-clause-printed : goal.returns-clause-printed
+returns-clause-printed g c =
+    let run = c.migrate-outcome in
+    λ not. unfinished run.result _ c.end.result c.end.ensures.finished not run.ensures.printed

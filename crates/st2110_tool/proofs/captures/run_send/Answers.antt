@@ -5,7 +5,7 @@ use Rattle.capture_engines.specs.Sent.{IsSendRefusal}
 use Rattle.run_outcome.specs.Fault.{Failures, counts, failures_in}
 use Rattle.run_outcome.proofs.Ended.{blamed, on_done, on_refused}
 use Rattle.run_outcome.proofs.Refusals.{outcome_told}
-use Rattle.st2110_tool.proofs.Unfinished.{on_memory}
+use Rattle.st2110_tool.proofs.Unfinished.{on_memory, unfinished}
 use Rattle.st2110_tool.proofs.captures.run_send.Goals as goal
 
 pub returns-clause-failures : goal.returns-clause-failures
@@ -48,3 +48,13 @@ pub returns-clause-wanted : goal.returns-clause-wanted
 returns-clause-wanted g c =
     let run = c.send-outcome in
     λ is. on_memory _ run.result (c.end.ensures.wanted is) run.ensures.memory
+
+pub returns-clause-part : goal.returns-clause-part
+returns-clause-part g c =
+    let run = c.send-outcome in
+    λ not. unfinished run.result _ c.end.result c.end.ensures.finished not run.ensures.part
+
+pub returns-clause-printed : goal.returns-clause-printed
+returns-clause-printed g c =
+    let run = c.send-outcome in
+    λ not. unfinished run.result _ c.end.result c.end.ensures.finished not run.ensures.printed

@@ -5,7 +5,7 @@ use Rattle.run_outcome.specs.Fault.{Failures, counts}
 use Rattle.run_outcome.proofs.Ended.{blamed, on_done, on_refused}
 use Rattle.run_outcome.proofs.Refusals.{outcome_told}
 use Rattle.st_format.specs.History.{IsRead}
-use Rattle.st2110_tool.proofs.Unfinished.{on_memory, stopped}
+use Rattle.st2110_tool.proofs.Unfinished.{on_memory, stopped, unfinished}
 use Rattle.st2110_tool.proofs.recordings.run_export.Goals as goal
 
 pub returns-clause-failures : goal.returns-clause-failures
@@ -50,3 +50,8 @@ pub returns-clause-wanted : goal.returns-clause-wanted
 returns-clause-wanted g c =
     let run = c.export-outcome in
     λ is. on_memory _ run.result (c.end.ensures.wanted is) run.ensures.memory
+
+pub returns-clause-printed : goal.returns-clause-printed
+returns-clause-printed g c =
+    let run = c.export-outcome in
+    λ not. unfinished run.result _ c.end.result c.end.ensures.finished not run.ensures.printed

@@ -11,7 +11,7 @@ use Rattle.run_outcome.specs.Text.{GivesFew, GivesText}
 use Rattle.run_outcome.proofs.Ended.{blamed, on_done, on_refused}
 use Rattle.run_outcome.proofs.Refusals.{outcome_told}
 use Rattle.st_format.specs.History.{IsRead}
-use Rattle.st2110_tool.proofs.Unfinished.{on_memory}
+use Rattle.st2110_tool.proofs.Unfinished.{on_memory, unfinished}
 use Rattle.st2110_tool.proofs.recordings.run_import.Goals as goal
 
 pub returns-clause-failures : goal.returns-clause-failures
@@ -62,3 +62,13 @@ returns-clause-wanted g c =
     × GivesFew 65535 (sdp.gave c.args.sdp.now) (sdp.gave run.new.sdp)
     × ((run.new.capture ≡ c.args.capture.now) ⊎ IsDeviceOrFile run.new.files f) in
     λ is. on_memory Holds run.result (c.end.ensures.wanted is) run.ensures.memory
+
+pub returns-clause-part : goal.returns-clause-part
+returns-clause-part g c =
+    let run = c.import_all-outcome in
+    λ not. unfinished run.result _ c.end.result c.end.ensures.finished not run.ensures.part
+
+pub returns-clause-printed : goal.returns-clause-printed
+returns-clause-printed g c =
+    let run = c.import_all-outcome in
+    λ not. unfinished run.result _ c.end.result c.end.ensures.finished not run.ensures.printed

@@ -1,13 +1,14 @@
-use Rattle.std.proofs.Common.{List, inr, subst, sym, ℕ, ◌∙◌}
+use Rattle.std.proofs.Common.{List, [], inr, refl, subst, sym, ℕ, ◌∙◌}
 use Rattle.std.proofs.lemmas.Result.{err_from_is_err_and}
 use Rattle.st_format.specs.History.{IsRead}
-use Rattle.run_outcome.proofs.Printed.{on_ok}
+use Rattle.run_outcome.proofs.Printed.{none_printed, on_ok, part_printed}
 use Rattle.run_outcome.proofs.Refusals.{device_alone, of_refusal_map}
 use Rattle.run_outcome.proofs.SaidTexts.{text_says}
 use Rattle.run_outcome.specs.TextRefusals.{IsCaptureText, SaysText}
 use Rattle.capture_engines.proofs.Sendings.{on_any}
 use Rattle.capture_engines.proofs.TypedTexts.{text_given}
-use Rattle.stream_sending.specs.Sent.{IsFramesRefusal, IsSentBy}
+use Rattle.capture_engines.specs.Typed.{IsSentBy}
+use Rattle.stream_sending.specs.Sent.{IsFramesRefusal, SendsStream}
 use Rattle.stream_sending.proofs.sending.send_stream.Goals as goal
 
 pub returns-clause-sent : goal.returns-clause-sent
@@ -56,3 +57,38 @@ returns-clause-ended g c = on_any c.print.result _ c.in_ok-sent.ensures.ended
 
 pub returns-clause-memory : goal.returns-clause-memory
 returns-clause-memory g c = device_alone c.print.result _ c.print.ensures.device
+
+pub returns-in_err-said-clause-printed : goal.returns-in_err-said-clause-printed
+returns-in_err-said-clause-printed g c =
+    none_printed c.from_residual.result g.O.ByteSink.took g.O.ByteSink.failures _ c.args.output.now
+
+pub returns-in_err-sending-clause-printed : goal.returns-in_err-sending-clause-printed
+returns-in_err-sending-clause-printed g c =
+    none_printed c.from_residual-in_err-sending.result g.O.ByteSink.took g.O.ByteSink.failures _ c.args.output.now
+
+pub returns-in_err-sent-clause-printed : goal.returns-in_err-sent-clause-printed
+returns-in_err-sent-clause-printed g c =
+    none_printed c.from_residual-in_err-sent.result g.O.ByteSink.took g.O.ByteSink.failures _ c.args.output.now
+
+pub returns-clause-printed : goal.returns-clause-printed
+returns-clause-printed g c =
+    let told = g.S.ByteSource in
+    part_printed c.print.result g.O.ByteSink.took g.O.ByteSink.failures
+    (SendsStream told.gave told.ended c.args.by_sdp c.args.wanted c.args.sdp.now
+    c.read_if_given.new.sdp (IsRead (told.gave c.args.stream.now)
+    (told.gave c.send_frames.new.stream) (told.ended c.send_frames.new.stream))
+    (g.K.ByteSink.took c.args.sink.now) (g.K.ByteSink.took c.send_frames.new.sink) []) _
+    c.args.output.now c.print.new.output
+    (record {
+      text = c.deref-2.result.now;
+      says =
+          subst (λ (l : List ℕ). SaysText told.gave told.ended c.args.sdp.now
+          c.read_if_given.new.sdp l) (sym c.deref-2.ensures.value) c.in_ok-said.ensures.says;
+      sending = c.in_ok-sending.sending;
+      sending_is =
+          subst (λ (l : List ℕ). IsSentBy c.args.by_sdp c.args.wanted l c.in_ok-sending.sending)
+          (c.deref.ensures.value ∙ sym c.deref-2.ensures.value) c.in_ok-sending.ensures.sent;
+      count = c.in_ok-sent.sent;
+      frames = c.in_ok-sent.ensures.sent;
+      line = refl;
+    }) c.print.ensures.cut c.print.ensures.device c.print.ensures.failures
