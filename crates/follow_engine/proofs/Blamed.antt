@@ -1,14 +1,12 @@
 -- What a fault says of three devices: files, pictures and the output.
 use Rattle.std.proofs.Common.{◌≡◌, ◌∙◌, ◌<◌, ℕ, suc, Bool, true, false, not, inl, inr, List, []}
-use Rattle.std.proofs.Common.{◌∷◌, OnOk, Option, Some, Result, Ok, Err, ap, arith, eqb, length, refl}
+use Rattle.std.proofs.Common.{◌∷◌, OnOk, Result, Ok, Err, ap, arith, eqb, length, refl}
 use Rattle.std.proofs.Common.{subst, sym}
 use Rattle.std.proofs.lemmas.Bool.{eq-eqb, eqb-true}
 use Rattle.recording_reader.specs.declared.fault.ReadingFault.{ReadingFault}
 use Rattle.run_outcome.specs.Fault.{Accounts, Blames, counts}
 use Rattle.run_outcome.specs.declared.fault.Fault.{Fault}
 use Rattle.run_outcome.specs.declared.fault.Fault.TheVariants.{Refused, Device, Memory}
-use Rattle.follow_engine.specs.Refused.{fault_in}
-use Rattle.follow_engine.proofs.Whole.{same_fault}
 use Rattle.run_outcome.specs.LowerFaults.{reading_fault}
 use Rattle.recording_engines.proofs.Blames.{blames_second}
 
@@ -56,15 +54,13 @@ blames_first (Refused r) a a' b b' c c' second third is = (is, (second, third))
 blames_first Device a a' b b' c c' second third is = inl is
 blames_first Memory a a' b b' c c' second third is = (is, (second, third))
 
--- so a fault of a file, at which a source stays
-pub fails_by : (f : Fault) (at : Option ReadingFault) (reading : ReadingFault)
-    (a m a' b b' c c' : ℕ) → f ≡ fault_in at → at ≡ Some reading → m ≡ a → b' ≡ b → c' ≡ c
+-- so a fault of a file
+pub fails_by : (f : Fault) (reading : ReadingFault) (a m a' b b' c c' : ℕ)
+    → f ≡ reading_fault reading → m ≡ a → b' ≡ b → c' ≡ c
     → Blames (counts m a' ∷ []) (reading_fault reading)
     → Blames (counts a a' ∷ counts b b' ∷ counts c c' ∷ []) f
-fails_by f at reading a m a' b b' c c' told stays first second third is =
-    let by : reading_fault reading ≡ f =
-    sym (told ∙ ap fault_in stays ∙ same_fault reading) in
-    subst (λ (x : Fault). Blames (counts a a' ∷ counts b b' ∷ counts c c' ∷ []) x) by
+fails_by f reading a m a' b b' c c' told first second third is =
+    subst (λ (x : Fault). Blames (counts a a' ∷ counts b b' ∷ counts c c' ∷ []) x) (sym told)
     (blames_first (reading_fault reading) a a' b b' c c' second third
     (subst (λ (n : ℕ). Blames (counts n a' ∷ []) (reading_fault reading)) first is))
 

@@ -25,13 +25,13 @@ use Rattle.run_outcome.specs.declared.refusal.Refusal.{Refusal}
 use Rattle.run_outcome.specs.declared.refusal.Refusal.TheVariants as refusal
 use Rattle.st_format.specs.History.{IsRead}
 use Rattle.side_by_side.specs.Side.{Begun, begun_at}
-use Rattle.side_by_side.specs.Sides.{FirstSideAt, IsFaultOfFiles, SideGave, begun_each, strands_of}
+use Rattle.side_by_side.specs.Sides.{FirstSideAt, SideGave, begun_each, strands_of}
 use Rattle.side_by_side.specs.declared.side.Side.{Side}
 use Rattle.side_by_side.specs.declared.steering.Steering.{Steering}
 use Rattle.follow_engine.specs.Opened.{AreOpened, IsFirstText}
 use Rattle.follow_engine.specs.Order.{GoesToFault, GoesToMost}
 use Rattle.follow_engine.specs.Refused.{FirstRefuses, IsFileRefusal, IsFirstRefusal}
-use Rattle.follow_engine.specs.Refused.{StopsFollowing, StopsReadSides, fault_in}
+use Rattle.follow_engine.specs.Refused.{StopsFollowing, StopsReadSides}
 use Rattle.follow_engine.specs.Sides.{SideRead}
 use Rattle.follow_engine.proofs.Whole.{begun_by, first_said, same_fault}
 use Rattle.run_outcome.specs.LowerFaults.{reading_fault}
@@ -66,20 +66,13 @@ first_by gave ended ways (Some t) text olds news r opened first is = absurd is
 
 -- ---- the fault of one
 
-stops_by : {A S : Type 0} (f : Fault) (reading : ReadingFault) (sides : List (Side A S))
+-- a source stays at the fault of one
+pub stops_by : {A S : Type 0} (f : Fault) (reading : ReadingFault) (sides : List (Side A S))
     (count : ℕ) → f ≡ reading_fault reading → FirstSideAt reading sides
     → OfRefusal f (StopsFollowing count sides)
 stops_by (Refused r) reading sides count told at = inl (reading, sym told, at)
 stops_by Device reading sides count told at = tt
 stops_by Memory reading sides count told at = tt
-
--- a source stays at the fault of one
-pub stops_at : {A S : Type 0} (f : Fault) (at : Option ReadingFault) (reading : ReadingFault)
-    (sides : List (Side A S)) (count : ℕ) → f ≡ fault_in at → at ≡ Some reading
-    → IsFaultOfFiles at sides → OfRefusal f (StopsFollowing count sides)
-stops_at f at reading sides count told stays stopped =
-    stops_by f reading sides count (told ∙ ap fault_in stays)
-    (subst (λ (x : Option ReadingFault). IsFaultOfFiles x sides) stays stopped)
 
 fault_reader : {S : Type 0} (gave : S → List ℕ) (ended : S → Type 0) (b : Begun)
     (octets : List ℕ) (r : FileReader S) (f : ReadingFault) (why : Refusal)

@@ -8,6 +8,8 @@ use Rattle.path_receiver.specs.Grammar.{Datagram}
 use Rattle.path_receiver.specs.Sliding.{with_window}
 use Rattle.path_receiver.specs.Took.{datagrams_since}
 use Rattle.path_receiver.specs.declared.answer.Refusal.{Refusal}
+use Rattle.recording_reader.specs.FileReader.{octets_at_hand}
+use Rattle.side_by_side.specs.Sides.{ComesAt, Sides, hand_at}
 use Rattle.following.specs.Follower.{Following, IsFollower, joined, read_in, reading_of}
 use Rattle.following.specs.Follower.{standing_of, state_after}
 use Rattle.following.specs.Follower.{taken_in, without_oldest}
@@ -321,6 +323,16 @@ pub so_quiet : {K : Type 0} (takes : K → Handed → K → Type 0) (eager : Boo
 so_quiet takes eager before now then r r' old new took took' so comes =
     subst (λ (l : List (Path × List ℕ)). FollowedSo takes eager before l r r' old new took took')
     (sym (comes ∙ append-nil now)) so
+
+-- the datagram that is lent came
+pub lent_came : {A S : Type 0} (old new : Sides A S) (place : ℕ) (octets : List ℕ)
+    → (came : ComesAt place new.sides old.came new.came)
+    → octets ≡ octets_at_hand (hand_at new.sides place)
+    → new.came ≡ old.came ++ (came.entry.path, octets) ∷ []
+lent_came old new place octets came lent =
+    came.came
+    ∙ ap (λ (o : List ℕ). old.came ++ (came.entry.path, o) ∷ [])
+    (sym (lent ∙ ap octets_at_hand came.hand))
 
 -- a datagram more came
 came_more : (before now then rest : List (Path × List ℕ)) (path : Path) (octets : List ℕ)

@@ -1,6 +1,6 @@
 -- Which refusal ends a run of `follow` (own): one that holds, and none before it, in the order in
 -- which it looks.
-use Rattle.std.specs.Prelude.{◌≡◌, ◌≤◌, ℕ, ◌⊎◌, ⊤, List, [], ◌∷◌, Option, None, Some, MatchOption}
+use Rattle.std.specs.Prelude.{◌≡◌, ◌≤◌, ℕ, ◌⊎◌, ⊤, List, [], ◌∷◌, Option, Some, MatchOption}
 use Rattle.std.specs.Prelude.{Result}
 use Rattle.std.specs.List.{AllZip}
 use Rattle.flow.specs.declared.flows.Flows.{Flows}
@@ -15,8 +15,7 @@ use Rattle.recording_reader.specs.Files.{IsFileFault, text_of_file}
 use Rattle.recording_reader.specs.declared.fault.ReadingFault.{ReadingFault}
 use Rattle.run_outcome.specs.Sources.{IsSourceText}
 use Rattle.run_outcome.specs.TextRefusals.{IsDescriptionRefusal, IsSdp}
-use Rattle.run_outcome.specs.declared.fault.Fault.{Fault}
-use Rattle.run_outcome.specs.declared.fault.Fault.TheVariants.{Device, Refused}
+use Rattle.run_outcome.specs.declared.fault.Fault.TheVariants.{Refused}
 use Rattle.run_outcome.specs.declared.refusal.Refusal.{Refusal}
 use Rattle.run_outcome.specs.declared.refusal.Refusal.TheVariants as refusal
 use Rattle.side_by_side.specs.Sides.{FirstSideAt, SideGave, strands_of}
@@ -68,11 +67,6 @@ FirstDescribes told [] = ⊥
 FirstDescribes told (s ∷ ss) = (octets : List ℕ) → told s octets → IsSdp (text_of_file octets)
 
 -- ---- files
-
--- a fault of a file as what ends a run; where there is none, a device's
-abbrev pub fault_in : Option ReadingFault → Fault
-fault_in None = Device
-fault_in (Some f) = reading_fault f
 
 -- what stops files that are read, behind so many datagrams: the fault of the first that is at one;
 -- or no more are counted

@@ -92,12 +92,12 @@ where
     let ssrc = read_words(asked)?;
     let given = begin(alloc, asked, ssrc, sdp)?;
     let mut said = room(alloc)?;
-    let mut datagram = room(alloc)?;
+    let mut others = room(alloc)?;
     let text = said.as_mut_slice();
-    let buf = datagram.as_mut_slice();
-    let count = open_files(alloc, ways, sides, text, buf)?;
+    let rest = others.as_mut_slice();
+    let count = open_files(alloc, ways, sides, text, rest)?;
     let mut run = begin_or(alloc, asked, ssrc, sdp, given, &text[..count])?;
-    follow_opened(&mut run, alloc, sides, seen, buf, pictures, output)?;
+    follow_opened(&mut run, alloc, sides, seen, pictures, output)?;
     let totals = end_stream(&mut run, pictures, output)?;
     Ok(totals)
 }
@@ -217,11 +217,9 @@ fn follow_opened<A: Allocator + Copy, S: ByteSource + Drop, P: PictureSink, O: B
     alloc: A,
     sides: &mut Vec<Side<A, S>, A>,
     seen: &mut [Seen],
-    buf: &mut [u8],
     pictures: &mut P,
     output: &mut O,
 ) -> Result<(), Fault>
-    requires room { 65535 ≤ length buf.old }
     requires run { IsSoundRun run.old }
     requires begun { AllByRecursion IsUnreadSide sides.old.items }
     ensures len { length sides.new.items ≡ length sides.old.items }
@@ -246,7 +244,7 @@ fn follow_opened<A: Allocator + Copy, S: ByteSource + Drop, P: PictureSink, O: B
 {
     let taken = mem::replace(sides, Vec::new(alloc));
     let mut source = SideBySide::new(run.steering, taken);
-    let followed = follow_sides(&mut source, run, buf, pictures, output);
+    let followed = follow_sides(&mut source, run, pictures, output);
     source.history();
     *sides = source.into_sides();
     note_all(sides, seen);

@@ -1,24 +1,24 @@
 //! Following the datagrams of files that are read side by side.
-ghost use Rattle.std.specs.Prelude.{◌≡◌, ◌≤◌, ◌∷◌, [], IfErr, OnErr, OnOk, length};
+ghost use Rattle.std.specs.Prelude.{◌≡◌, ◌∷◌, [], IfErr, OnErr, OnOk, length};
 ghost use Rattle.follow_engine.specs.Events.{events_in};
-ghost use Rattle.follow_engine.specs.Refused.{StopsFollowing, fault_in};
+ghost use Rattle.follow_engine.specs.Refused.{StopsFollowing};
 ghost use Rattle.follow_engine.specs.Running.{IsSoundRun, TellsEvents, TellsSome, running_of};
 ghost use Rattle.follow_engine.specs.Sides.{FollowsSides};
 ghost use Rattle.path_receiver.specs.Took.{datagrams_since};
 ghost use Rattle.run_outcome.specs.Fault.{Accounts, IfRefused, counts};
 ghost use Rattle.run_outcome.specs.Refusing.{OfRefusal};
-ghost use Rattle.side_by_side.specs.Sides.{AllUnfailed, IsFaultOfFiles, begun_each, failures_each};
+ghost use Rattle.side_by_side.specs.Sides.{AllUnfailed, begun_each, failures_each};
 
 use crate::pictures::PictureSink;
 use crate::running::Run;
 use media_file::FileFault;
 use run_outcome::{Fault, of_capture, of_reading};
 use side_by_side::SideBySide;
-use st_format::{ByteSink, ByteSource, DatagramSource, Turn};
+use st_format::{ByteSink, ByteSource};
 use std::alloc::Allocator;
 
-/// Takes all datagrams of files, in the order in which they go side by side: what leaves is shown
-/// and told. What is in at the end stays in. `buf` has room for any datagram.
+/// Takes all datagrams of files, in the order in which they go side by side, each where its reader
+/// has it: what leaves is shown and told. What is in at the end stays in.
 ///
 /// # Errors
 ///
@@ -27,14 +27,11 @@ use std::alloc::Allocator;
 pub(crate) fn follow_sides<A: Allocator + Copy, S: ByteSource, P: PictureSink, O: ByteSink>(
     source: &mut SideBySide<A, S>,
     run: &mut Run<A>,
-    buf: &mut [u8],
     pictures: &mut P,
     output: &mut O,
 ) -> Result<(), Fault>
-    requires room { 65535 ≤ length buf.old }
     requires run { IsSoundRun run.old }
     requires unfailed { AllUnfailed source.old.sides }
-    ensures room { length buf.new ≡ length buf.old }
     ensures eager { run.new.is_eager ≡ run.old.is_eager }
     ensures steering { source.new.steering ≡ source.old.steering }
     ensures begun { begun_each source.new.sides ≡ begun_each source.old.sides }
@@ -56,26 +53,11 @@ pub(crate) fn follow_sides<A: Allocator + Copy, S: ByteSource, P: PictureSink, O
         ∷ counts (O.failures output.old) (O.failures output.new) ∷ []) }
 {
     for _ in 0..u64::MAX {
-        match source.next(buf) {
-            Ok(Turn::Datagram(_, count)) => {
-                run.take(&buf[..count], pictures, output)?;
-                continue;
-            }
-            Ok(Turn::Quiet) => continue,
-            Ok(Turn::End) => return Ok(()),
-            Err(_) => return Err(fault_of(source)),
+        match source.advance() {
+            Ok(Some(place)) => run.take(source.octets_at(place), pictures, output)?,
+            Ok(None) => return Ok(()),
+            Err(fault) => return Err(of_reading(fault)),
         }
     }
     Err(of_capture(FileFault::TooManyRecords))
-}
-
-/// The fault of a file at which a source stays; where there is none, a device's.
-fn fault_of<A: Allocator, S: ByteSource>(source: &SideBySide<A, S>) -> Fault
-    ensures fault { result ≡ fault_in source.now.fault }
-    ensures stopped { IsFaultOfFiles source.now.fault source.now.sides }
-{
-    match source.fault() {
-        Some(fault) => of_reading(fault),
-        None => Fault::Device,
-    }
 }

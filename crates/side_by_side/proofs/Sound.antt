@@ -1,6 +1,6 @@
 -- A source over files, from one call to the next.
 use Rattle.std.proofs.Common.{◌≡◌, ℕ, inl, inr, List, [], ◌∷◌, ◌++◌, Option, None, Some, refl}
-use Rattle.std.proofs.Common.{sym, ap, ◌∙◌, arith, drop, length, take, append-nil}
+use Rattle.std.proofs.Common.{sym, ap, subst, ◌∙◌, arith, drop, length, take, append-nil}
 use Rattle.std.proofs.lemmas.List.{take_at}
 use Rattle.std.specs.List.{AllByRecursion}
 use Rattle.media_file.specs.Records.{Entry}
@@ -8,20 +8,19 @@ use Rattle.recording_engines.specs.Files.{IsFailedAt}
 use Rattle.recording_engines.specs.declared.file.ImportFile.{ImportFile}
 use Rattle.recording_engines.specs.declared.file.ImportFile.TheVariants.{Closed, Open, Taken}
 use Rattle.recording_reader.proofs.Telling.{datagrams_more}
-use Rattle.recording_reader.specs.FileReader.{fault_of}
+use Rattle.recording_reader.specs.FileReader.{TellsTurn, fault_of}
 use Rattle.recording_reader.specs.Files.{datagrams_of}
 use Rattle.recording_reader.specs.declared.fault.ReadingFault.{ReadingFault}
 use Rattle.recording_reader.specs.declared.way.Standing.{Standing as Stand}
 use Rattle.st_format.specs.Device.{CountsOne}
-use Rattle.st_format.specs.Turns.{CountsTurn}
 use Rattle.st_format.specs.declared.device.Turn.{Turn}
 use Rattle.st_format.specs.declared.device.Turn.TheVariants.{Datagram, Quiet, End}
 use Rattle.st_format.specs.declared.path.Path.{Path}
 use Rattle.side_by_side.specs.Side.{IsUnfailedFile}
-use Rattle.side_by_side.specs.Sides.{AllUnfailed, FirstSideAt, IsFaultOfFiles, IsSideBySide}
-use Rattle.side_by_side.specs.Sides.{IsUnreadSide, Sides, StopsAll, StopsSides, TellsNextSide}
-use Rattle.side_by_side.specs.Sides.{TellsSide}
-use Rattle.side_by_side.specs.Sides.{TellsSides, given_of, standings}
+use Rattle.side_by_side.specs.Sides.{AllUnfailed, CountsPlace, FirstSideAt, GivesNextSide}
+use Rattle.side_by_side.specs.Sides.{GivesSide, IsFaultOfFiles, IsSideBySide, IsUnreadSide}
+use Rattle.side_by_side.specs.Sides.{LendsSides, Sides, StopsAll, StopsSides, TellsSides, given_of}
+use Rattle.side_by_side.specs.Sides.{hand_at, standings}
 use Rattle.side_by_side.specs.Steps.{HasGone}
 use Rattle.side_by_side.specs.declared.side.Side.{Side}
 use Rattle.side_by_side.specs.declared.steering.Steering.{Steering}
@@ -62,17 +61,14 @@ sound_new st sides begun = record {
   stopped = tt;
 }
 
-given_more : {A S : Type 0} (st : Steering) (path : Path) (count : ℕ) (buf : List ℕ)
-    (olds news : List (Side A S)) (es : List Entry) → HasGone st (standings olds) es
-    → (tells : TellsSide st path count buf olds news)
-    → given_of st news ≡ given_of st olds ++ (path, take count buf) ∷ []
-given_more st path count buf olds news es gone tells =
-    let e = tells.entry in
-    given_is st news (es ++ e ∷ []) (tells.gone es gone) ∙ datagrams_more es e
+given_more : {A S : Type 0} (st : Steering) (place : ℕ) (olds news : List (Side A S))
+    (es : List Entry) → HasGone st (standings olds) es → (gives : GivesSide st place olds news)
+    → given_of st news ≡ given_of st olds ++ (gives.entry.path, gives.entry.octets) ∷ []
+given_more st place olds news es gone gives =
+    let e = gives.entry in
+    given_is st news (es ++ e ∷ []) (gives.gone es gone) ∙ datagrams_more es e
     ∙ ap (λ (l : List (Path × List ℕ)). l ++ (e.path, e.octets) ∷ [])
     (sym (given_is st olds es gone))
-    ∙ ap (λ (by : Path). given_of st olds ++ (by, e.octets) ∷ []) (sym tells.by)
-    ∙ ap (λ (o : List ℕ). given_of st olds ++ (path, o) ∷ []) (sym tells.octets)
 
 given_same : {A S : Type 0} (st : Steering) (olds news : List (Side A S)) (es : List Entry)
     → HasGone st (standings olds) es → HasGone st (standings news) es
@@ -101,59 +97,100 @@ stopped_none : {A S : Type 0} (fault : Option ReadingFault) (olds news : List (S
 stopped_none None olds news stopped unfailed = tt
 stopped_none (Some f) olds news stopped unfailed = absurd (one_unfailed f olds stopped unfailed)
 
--- ---- a turn
+-- ---- going on
 
-pub sound_told : {A S : Type 0} (st : Steering) (t : Turn) (buf : List ℕ)
-    (olds news : List (Side A S)) (delivered delivered' failures : ℕ)
-    (fault : Option ReadingFault) → IsSideBySide (seen st olds delivered failures fault)
-    → TellsNextSide st t buf olds news → AllUnfailed olds
-    → IsSideBySide (seen st news delivered' failures fault)
-sound_told st (Datagram path count) buf olds news delivered delivered' failures fault is tells were =
-    record {
-      sound = tells.sound;
-      entries = is.entries ++ tells.entry ∷ [];
-      gone = tells.gone is.entries is.gone;
-      came_is = given_is st news (is.entries ++ tells.entry ∷ []) (tells.gone is.entries is.gone);
-      stopped = stopped_none fault olds news is.stopped were;
-    }
-sound_told st Quiet buf olds news delivered delivered' failures fault is tells were = absurd tells
-sound_told st End buf olds news delivered delivered' failures fault is tells were = record {
-  sound = tells.sound;
+pub sound_next : {A S : Type 0} (st : Steering) (at : Option ℕ) (olds news : List (Side A S))
+    (delivered delivered' failures : ℕ) (fault : Option ReadingFault)
+    → IsSideBySide (seen st olds delivered failures fault) → GivesNextSide st at olds news
+    → AllUnfailed olds → IsSideBySide (seen st news delivered' failures fault)
+sound_next st None olds news delivered delivered' failures fault is gives were = record {
+  sound = gives.sound;
   entries = is.entries;
-  gone = tells.gone is.entries is.gone;
-  came_is = given_is st news is.entries (tells.gone is.entries is.gone);
+  gone = gives.gone is.entries is.gone;
+  came_is = given_is st news is.entries (gives.gone is.entries is.gone);
+  stopped = stopped_none fault olds news is.stopped were;
+}
+sound_next st (Some place) olds news delivered delivered' failures fault is gives were = record {
+  sound = gives.sound;
+  entries = is.entries ++ gives.entry ∷ [];
+  gone = gives.gone is.entries is.gone;
+  came_is = given_is st news (is.entries ++ gives.entry ∷ []) (gives.gone is.entries is.gone);
   stopped = stopped_none fault olds news is.stopped were;
 }
 
-pub tells_turn : {A S : Type 0} (st : Steering) (t : Turn) (buf : List ℕ)
-    (olds news : List (Side A S)) (delivered delivered' failures : ℕ)
-    (fault : Option ReadingFault) → IsSideBySide (seen st olds delivered failures fault)
-    → TellsNextSide st t buf olds news → AllUnfailed news → CountsTurn t delivered delivered'
-    → TellsSides t buf (seen st olds delivered failures fault)
+a_place : (place : ℕ) → Some place ≡ None → ⊥
+a_place place is = absurd cc
+
+pub lends_next : {A S : Type 0} (st : Steering) (at : Option ℕ) (olds news : List (Side A S))
+    (delivered delivered' failures : ℕ) (fault : Option ReadingFault)
+    → IsSideBySide (seen st olds delivered failures fault) → GivesNextSide st at olds news
+    → AllUnfailed news → CountsPlace at delivered delivered'
+    → LendsSides at (seen st olds delivered failures fault)
     (seen st news delivered' failures fault)
-tells_turn st (Datagram path count) buf olds news delivered delivered' failures fault is tells are one =
-    record {
-      tells = tt;
-      within = tells.few;
-      came = given_more st path count buf olds news is.entries is.gone tells;
-      delivered = one;
-      failures = refl;
-      fault = refl;
-      over = (λ over. tells.left over, λ never. absurd never);
-      unfailed = are;
-    }
-tells_turn st Quiet buf olds news delivered delivered' failures fault is tells are one =
-    absurd tells
-tells_turn st End buf olds news delivered delivered' failures fault is tells are one = record {
-  tells = tt;
-  within = tt;
-  came = given_same st olds news is.entries is.gone (tells.gone is.entries is.gone)
-      ∙ sym (append-nil (given_of st olds));
+lends_next st None olds news delivered delivered' failures fault is gives are one = record {
+  came = given_same st olds news is.entries is.gone (gives.gone is.entries is.gone);
   delivered = one;
   failures = refl;
   fault = refl;
-  over = (λ _. tt, λ _. tells.over);
+  over = (λ _. refl, λ _. gives.over);
   unfailed = are;
+}
+lends_next st (Some place) olds news delivered delivered' failures fault is gives are one = record {
+  came =
+      record {
+        entry = gives.entry;
+        hand = gives.hand;
+        came = given_more st place olds news is.entries is.gone gives;
+      };
+  delivered = one;
+  failures = refl;
+  fault = refl;
+  over = (λ over. absurd (gives.left over), λ never. absurd (a_place place never));
+  unfailed = are;
+}
+
+-- ---- a turn, of what was lent
+
+tells_entry : {A S : Type 0} (t : Turn) (buf : List ℕ) (old new : Sides A S) (place : ℕ)
+    (e : Entry) → LendsSides (Some place) old new
+    → new.came ≡ old.came ++ (e.path, e.octets) ∷ [] → TellsTurn (Some e) t buf
+    → TellsSides t buf old new
+tells_entry (Datagram path count) buf old new place e lends came told = record {
+  tells = tt;
+  within = told.2;
+  came =
+      came
+      ∙ ap (λ (by : Path). old.came ++ (by, e.octets) ∷ []) (sym told.0)
+      ∙ ap (λ (o : List ℕ). old.came ++ (path, o) ∷ []) (sym told.1);
+  delivered = lends.delivered;
+  failures = lends.failures;
+  fault = lends.fault;
+  over = (λ over. a_place place (lends.over.0 over), λ never. absurd never);
+  unfailed = lends.unfailed;
+}
+tells_entry Quiet buf old new place e lends came told = absurd told
+tells_entry End buf old new place e lends came told = absurd told
+
+-- the datagram that is lent was copied
+pub tells_lent : {A S : Type 0} (t : Turn) (buf : List ℕ) (old new : Sides A S) (place : ℕ)
+    → LendsSides (Some place) old new → TellsTurn (hand_at new.sides place) t buf
+    → TellsSides t buf old new
+tells_lent t buf old new place lends told =
+    tells_entry t buf old new place lends.came.entry lends lends.came.came
+    (subst (λ (h : Option Entry). TellsTurn h t buf) lends.came.hand told)
+
+-- none was lent
+pub tells_end : {A S : Type 0} (buf : List ℕ) (old new : Sides A S) → LendsSides None old new
+    → TellsSides End buf old new
+tells_end buf old new lends = record {
+  tells = tt;
+  within = tt;
+  came = lends.came ∙ sym (append-nil old.came);
+  delivered = lends.delivered;
+  failures = lends.failures;
+  fault = lends.fault;
+  over = (λ _. tt, λ _. lends.over.1 refl);
+  unfailed = lends.unfailed;
 }
 
 -- ---- a fault
@@ -179,6 +216,7 @@ pub stops_sides : {A S : Type 0} (st : Steering) (f : ReadingFault)
     → StopsSides f (seen st olds delivered failures fault)
     (seen st news delivered failures' (Some f))
 stops_sides st f olds news delivered failures failures' fault is stops one = record {
+  stopped = stops.stopped;
   came = given_same st olds news is.entries is.gone
       (gone_on st (standings olds) (standings news) is.entries stops.goes_on is.gone);
   delivered = refl;

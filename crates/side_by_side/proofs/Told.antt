@@ -1,6 +1,6 @@
 -- The datagram of the file that goes first, which is given.
-use Rattle.std.proofs.Common.{◌≡◌, ℕ, zero, suc, ◌<◌, true, false, List, [], ◌∷◌}
-use Rattle.std.proofs.Common.{◌++◌, Option, None, Some, refl, sym, ap, subst, ◌∙◌, arith}
+use Rattle.std.proofs.Common.{◌≡◌, ℕ, zero, suc, ◌<◌, ◌≤◌, true, false, List, [], ◌∷◌}
+use Rattle.std.proofs.Common.{Option, None, Some, refl, sym, ap, subst, ◌∙◌, arith}
 use Rattle.std.proofs.Common.{get_or, set, length, inl, inr}
 use Rattle.std.specs.List.{AllByRecursion}
 use Rattle.std.specs.Prelude.{IfSome}
@@ -9,24 +9,21 @@ use Rattle.recording_engines.specs.Files.{next_entry}
 use Rattle.recording_engines.specs.Steps.{Ahead, AllFresh, Coming, IsFresh, Over, Standing, Unknown}
 use Rattle.recording_engines.specs.declared.file.ImportFile.{ImportFile}
 use Rattle.recording_engines.specs.declared.file.ImportFile.TheVariants.{Closed, Open, Taken}
-use Rattle.recording_reader.specs.FileReader.{TellsTurn, fault_of}
+use Rattle.recording_reader.specs.FileReader.{fault_of}
 use Rattle.recording_reader.specs.declared.way.Standing.{Standing as Stand}
 use Rattle.recording_reader.specs.declared.way.Standing.TheVariants.{Reads, Ended, Failed}
 use Rattle.side_by_side.specs.Going.{IsReadBy, first_place, going_by, goes, is_later}
 use Rattle.side_by_side.specs.Side.{GivesDatagram, IsSoundSide, ahead_by, ahead_of_hand, goings}
 use Rattle.side_by_side.specs.Side.{IsUnfailedFile, standing_by, standing_of}
 use Rattle.side_by_side.specs.Sides.{AllOver, AllRead, AllSound, AllUnfailed, GivesHand}
-use Rattle.side_by_side.specs.Sides.{IsFreshFile, IsUnreadSide, ReadsAll, TellsNextSide}
-use Rattle.side_by_side.specs.Sides.{TellsNoSide}
-use Rattle.side_by_side.specs.Sides.{standings}
+use Rattle.side_by_side.specs.Sides.{GivesNoSide, GivesSide, IsFreshFile, IsUnreadSide, ReadsAll}
+use Rattle.side_by_side.specs.Sides.{hand_at, standings}
 use Rattle.side_by_side.specs.Steering.{stamp_of}
-use Rattle.side_by_side.specs.Steps.{GivesAt, HasGone, HasReadOn, HaveReadOn}
+use Rattle.side_by_side.specs.Steps.{GivesAt, HasReadOn, HaveReadOn}
 use Rattle.side_by_side.specs.declared.going.Going.{Going}
 use Rattle.side_by_side.specs.declared.going.Going.TheVariants.{Unread, AtOnce, By, Never}
 use Rattle.side_by_side.specs.declared.side.Side.{Side}
 use Rattle.side_by_side.specs.declared.steering.Steering.{Steering}
-use Rattle.st_format.specs.declared.device.Turn.{Turn}
-use Rattle.st_format.specs.declared.device.Turn.TheVariants.{Datagram, Quiet, End}
 use Rattle.side_by_side.proofs.Chosen.{chosen, none_first}
 use Rattle.side_by_side.proofs.Gone.{AllKnownAhead, IsKnownAhead, going_ahead, gone_more, gone_on}
 use Rattle.side_by_side.proofs.Reading.{IsKnownSide, all_get, all_known, all_set, goings_are}
@@ -153,54 +150,68 @@ not_over (s ∷ ss) zero s' lt unknown over =
 not_over (s ∷ ss) (suc k) s' lt unknown over =
     not_over ss k s' (omega (arith, lt)) unknown over.1
 
--- ---- the turn
+-- ---- the record that one has at hand
 
-told_hand : {A S : Type 0} (st : Steering) (t : Turn) (buf : List ℕ) (e : Entry)
-    (olds news : List (Side A S)) → TellsTurn (Some e) t buf → AllSound st news
-    → ((es : List Entry) → HasGone st (standings olds) es
-    → HasGone st (standings news) (es ++ e ∷ [])) → (AllOver news → ⊥)
-    → TellsNextSide st t buf olds news
-told_hand st (Datagram path count) buf e olds news turn sound gone left = record {
-  entry = e;
-  by = turn.0;
-  octets = turn.1;
-  few = turn.2;
-  sound = sound;
-  gone = gone;
-  left = left;
-}
-told_hand st Quiet buf e olds news turn sound gone left = absurd turn
-told_hand st End buf e olds news turn sound gone left = absurd turn
+-- it is that of the file of the place
+hand_within : {A S : Type 0} (sides : List (Side A S)) (k : ℕ) (d : Side A S) → k < length sides
+    → hand_at sides k ≡ next_entry (get_or sides k d).file
+hand_within [] k d lt = absurd (omega (arith, lt))
+hand_within (s ∷ ss) zero d lt = refl
+hand_within (s ∷ ss) (suc k) d lt = hand_within ss k d (omega (arith, lt))
+
+pub hand_there : {A S : Type 0} (sides : List (Side A S)) (k : ℕ) (s : Side A S)
+    → k < length sides → s ≡ get_or sides k s → hand_at sides k ≡ next_entry s.file
+hand_there sides k s lt is =
+    hand_within sides k s lt ∙ sym (ap (λ (x : Side _ _). next_entry x.file) is)
+
+-- where there is no file there is none
+pub hand_past : {A S : Type 0} (sides : List (Side A S)) (k : ℕ) → length sides ≤ k
+    → hand_at sides k ≡ None
+hand_past [] zero past = refl
+hand_past [] (suc k) past = refl
+hand_past (s ∷ ss) zero past = absurd (omega (arith, past))
+hand_past (s ∷ ss) (suc k) past = hand_past ss k (omega (arith, past))
+
+-- of the one that was set
+hand_set : {A S : Type 0} (sides : List (Side A S)) (k : ℕ) (s' : Side A S) → k < length sides
+    → hand_at (set sides k s') k ≡ next_entry s'.file
+hand_set [] k s' lt = absurd (omega (arith, lt))
+hand_set (s ∷ ss) zero s' lt = refl
+hand_set (s ∷ ss) (suc k) s' lt = hand_set ss k s' (omega (arith, lt))
+
+-- ---- the place
 
 -- files that were read on, of which the one that goes first is given
-pub told_first : {A S : Type 0} (st : Steering) (t : Turn) (buf : List ℕ)
-    (olds mids : List (Side A S)) (k : ℕ) (w : Going) (d s' : Side A S) → ReadsAll st olds mids
-    → first_place (goings mids) ≡ Some (k, w)
-    → TellsTurn (next_entry (get_or mids k d).file) t buf → GivesDatagram (get_or mids k d) s'
-    → TellsNextSide st t buf olds (set mids k s')
-told_first st t buf olds mids k w d s' reads first turn given =
+given_first : {A S : Type 0} (st : Steering) (olds mids : List (Side A S)) (k : ℕ) (w : Going)
+    (d s' : Side A S) → ReadsAll st olds mids → first_place (goings mids) ≡ Some (k, w)
+    → GivesDatagram (get_or mids k d) s' → GivesSide st k olds (set mids k s')
+given_first st olds mids k w d s' reads first given =
     let has = has_hand st mids k w d reads.sound reads.read first in
     let lt : k < length mids = within_first mids k w d.going first in
     let e = has.entry in
     let stands = given_standing (get_or mids k d) s' e has.coming given in
-    told_hand st t buf e olds (set mids k s')
-    (subst (λ (h : Option Entry). TellsTurn h t buf) has.hand turn)
-    (all_set (λ x. IsSoundSide st x) mids k s' reads.sound (sound_given st s' given.unread))
-    (λ es gone. gone_more st k w (standings mids) (standings (set mids k s')) es e
-    (all_known st mids reads.sound reads.read)
-    (ap first_place (sym (goings_are st mids reads.sound reads.read)) ∙ first)
-    (gives_at mids k d s' e lt has.coming given)
-    (gone_on st (standings olds) (standings mids) es reads.goes_on gone))
-    (not_over mids k s' lt (ap (λ (x : Standing). x.ahead) stands))
+    record {
+      entry = e;
+      hand = hand_set mids k s' lt ∙ ap (λ (f : ImportFile _ _). next_entry f) given.file
+          ∙ has.hand;
+      sound = all_set (λ x. IsSoundSide st x) mids k s' reads.sound
+          (sound_given st s' given.unread);
+      gone = λ es gone.
+          gone_more st k w (standings mids) (standings (set mids k s')) es e
+          (all_known st mids reads.sound reads.read)
+          (ap first_place (sym (goings_are st mids reads.sound reads.read)) ∙ first)
+          (gives_at mids k d s' e lt has.coming given)
+          (gone_on st (standings olds) (standings mids) es reads.goes_on gone);
+      left = not_over mids k s' lt (ap (λ (x : Standing). x.ahead) stands);
+    }
 
 -- the same of the one of that place
-pub told_at : {A S : Type 0} (st : Steering) (t : Turn) (buf : List ℕ)
-    (olds mids news : List (Side A S)) (k : ℕ) (w : Going) → ReadsAll st olds mids
-    → first_place (goings mids) ≡ Some (k, w) → GivesHand k t buf mids news
-    → TellsNextSide st t buf olds news
-told_at st t buf olds mids news k w reads first gives =
-    subst (λ (l : List (Side _ _)). TellsNextSide st t buf olds l) (sym gives.now)
-    (told_first st t buf olds mids k w gives.other gives.given reads first gives.told gives.is)
+pub given_place : {A S : Type 0} (st : Steering) (olds mids news : List (Side A S)) (k : ℕ)
+    (w : Going) → ReadsAll st olds mids → first_place (goings mids) ≡ Some (k, w)
+    → GivesHand k mids news → GivesSide st k olds news
+given_place st olds mids news k w reads first gives =
+    subst (λ (l : List (Side _ _)). GivesSide st k olds l) (sym gives.now)
+    (given_first st olds mids k w gives.other gives.given reads first gives.is)
 
 -- none goes: each is at its end
 it_goes : (x : Option ℕ) → goes (going_by x) ≡ false → ⊥
@@ -225,9 +236,9 @@ all_end st (s ∷ ss) sound read none =
       all_end st ss sound.1 read.1 is.rest,
     )
 
-pub told_end : {A S : Type 0} (st : Steering) (olds news : List (Side A S)) → ReadsAll st olds news
-    → first_place (goings news) ≡ None → TellsNoSide st olds news
-told_end st olds news reads none = record {
+pub given_end : {A S : Type 0} (st : Steering) (olds news : List (Side A S))
+    → ReadsAll st olds news → first_place (goings news) ≡ None → GivesNoSide st olds news
+given_end st olds news reads none = record {
   sound = reads.sound;
   gone = λ es gone. gone_on st (standings olds) (standings news) es reads.goes_on gone;
   over = all_end st news reads.sound reads.read none;

@@ -1,6 +1,6 @@
 -- What is known of files that are read side by side (own).
-use Rattle.std.specs.Prelude.{◌≡◌, ℕ, ◌<◌, ◌⊎◌, ◌↔◌, ⊤, List, [], ◌∷◌, ◌++◌, get_or, map, set, take}
-use Rattle.std.specs.Prelude.{Option, None, Some}
+use Rattle.std.specs.Prelude.{◌≡◌, ℕ, ◌⊎◌, ◌↔◌, ⊤, List, [], ◌∷◌, ◌++◌, get_or, map, set}
+use Rattle.std.specs.Prelude.{Option, None, Some, MatchOption}
 use Rattle.std.specs.List.{AllByRecursion, AllZip, sum_by}
 use Rattle.std.specs.Option.{option_map}
 use Rattle.media_file.specs.Records.{Entry}
@@ -10,7 +10,6 @@ use Rattle.recording_engines.specs.declared.file.ImportFile.{ImportFile}
 use Rattle.recording_engines.specs.declared.file.ImportFile.TheVariants.{Closed, Open, Taken}
 use Rattle.recording_engines.specs.Joining.{Strand}
 use Rattle.recording_engines.specs.Strands.{strand_in}
-use Rattle.recording_reader.specs.FileReader.{TellsTurn}
 use Rattle.recording_reader.specs.Files.{datagrams_of, source_fault}
 use Rattle.recording_reader.specs.declared.fault.ReadingFault.{ReadingFault}
 use Rattle.recording_reader.specs.declared.way.Standing.TheVariants.{Reads}
@@ -46,6 +45,10 @@ begun_each sides = map (λ s. begun_at s.file) sides
 -- how often their sources failed, all together
 abbrev pub failures_each : {A S : Type 0} → (S → ℕ) → List (Side A S) → ℕ
 failures_each failures sides = sum_by (λ s. failures_by failures s.file) sides
+
+-- the record that the file of a place has at hand, whether it was given or goes next
+abbrev pub hand_at : {A S : Type 0} → List (Side A S) → ℕ → Option Entry
+hand_at sides place = get_or (map (λ s. next_entry s.file) sides) place None
 
 -- each file goes next by its own datagram at hand
 abbrev pub AllSound : {A S : Type 0} → Steering → List (Side A S) → Type 0
@@ -95,43 +98,37 @@ pub record StopsAll {A S : Type 0} (steering : Steering) (f : ReadingFault)
   pub stopped : FirstSideAt f news
   pub goes_on : HaveReadOn (standings olds) (standings news)
 
--- The datagram that the one of a place has at hand was given by a turn, whose octets stand at the
--- front of a buffer.
-pub record GivesHand {A S : Type 0} (place : ℕ) (t : Turn) (buf : List ℕ)
-    (olds news : List (Side A S)) : Type 0 where
+-- The datagram that the one of a place has at hand was given.
+pub record GivesHand {A S : Type 0} (place : ℕ) (olds news : List (Side A S)) : Type 0 where
   pub other : Side A S
   pub given : Side A S
-  pub told : TellsTurn (next_entry (get_or olds place other).file) t buf
   pub is : GivesDatagram (get_or olds place other) given
   pub now : news ≡ set olds place given
 
--- The datagram of the one that goes first was told, whose octets stand at the front of a buffer.
-pub record TellsSide {A S : Type 0} (steering : Steering) (path : Path) (count : ℕ) (buf : List ℕ)
-    (olds news : List (Side A S)) : Type 0 where
+-- The datagram of the one that goes first was given, that of this place, whose reader has the
+-- record at hand still.
+pub record GivesSide {A S : Type 0} (steering : Steering) (place : ℕ) (olds news : List (Side A S))
+    : Type 0 where
   pub entry : Entry
-  pub by : path ≡ entry.path
-  pub octets : take count buf ≡ entry.octets
-  pub few : count < 65536
+  pub hand : hand_at news place ≡ Some entry
   pub sound : AllSound steering news
   pub gone : (entries : List Entry) → HasGone steering (standings olds) entries
       → HasGone steering (standings news) (entries ++ entry ∷ [])
   pub left : AllOver news → ⊥
 
 -- None has one.
-pub record TellsNoSide {A S : Type 0} (steering : Steering) (olds news : List (Side A S))
+pub record GivesNoSide {A S : Type 0} (steering : Steering) (olds news : List (Side A S))
     : Type 0 where
   pub sound : AllSound steering news
   pub gone : (entries : List Entry) → HasGone steering (standings olds) entries
       → HasGone steering (standings news) entries
   pub over : AllOver news
 
--- by the turn that a call told
-abbrev pub TellsNextSide : {A S : Type 0} → Steering → Turn → List ℕ → List (Side A S)
+-- by the place that a call told
+abbrev pub GivesNextSide : {A S : Type 0} → Steering → Option ℕ → List (Side A S)
     → List (Side A S) → Type 0
-TellsNextSide steering (Datagram path count) buf olds news =
-    TellsSide steering path count buf olds news
-TellsNextSide steering Quiet buf olds news = ⊥
-TellsNextSide steering End buf olds news = TellsNoSide steering olds news
+GivesNextSide steering None olds news = GivesNoSide steering olds news
+GivesNextSide steering (Some place) olds news = GivesSide steering place olds news
 
 -- ---- a source over them
 
@@ -172,6 +169,28 @@ IsDatagramOrEnd (Datagram path count) = ⊤
 IsDatagramOrEnd Quiet = ⊥
 IsDatagramOrEnd End = ⊤
 
+-- The datagram came of the record that the file of a place has at hand.
+pub record ComesAt {A S : Type 0} (place : ℕ) (sides : List (Side A S))
+    (old new : List (Path × List ℕ)) : Type 0 where
+  pub entry : Entry
+  pub hand : hand_at sides place ≡ Some entry
+  pub came : new ≡ old ++ (entry.path, entry.octets) ∷ []
+
+-- one more was given where a place is told, and else none
+abbrev pub CountsPlace : Option ℕ → ℕ → ℕ → Type 0
+CountsPlace at old new = MatchOption at (new ≡ old) (λ _. CountsOne old new)
+
+-- A call went on to the datagram of the file that goes first, and told the place of that file,
+-- whose reader has it at hand still; or it told none at the end, where no file has one.
+pub record LendsSides {A S : Type 0} (at : Option ℕ) (old new : Sides A S) : Type 0 where
+  pub came : MatchOption at (new.came ≡ old.came)
+      (λ place. ComesAt place new.sides old.came new.came)
+  pub delivered : CountsPlace at old.delivered new.delivered
+  pub failures : new.failures ≡ old.failures
+  pub fault : new.fault ≡ old.fault
+  pub over : AllOver new.sides ↔ (at ≡ None)
+  pub unfailed : AllUnfailed new.sides
+
 -- A call told a turn: the datagram of the file that goes first, or the end where none has one.
 pub record TellsSides {A S : Type 0} (t : Turn) (buf : List ℕ) (old new : Sides A S) : Type 0 where
   pub tells : IsDatagramOrEnd t
@@ -183,8 +202,9 @@ pub record TellsSides {A S : Type 0} (t : Turn) (buf : List ℕ) (old new : Side
   pub over : AllOver new.sides ↔ IsEnd t
   pub unfailed : AllUnfailed new.sides
 
--- A call came to the fault of a file, at which it stays.
+-- A call came to the fault of a file, the first that is at one, at which it stays.
 pub record StopsSides {A S : Type 0} (f : ReadingFault) (old new : Sides A S) : Type 0 where
+  pub stopped : FirstSideAt f new.sides
   pub came : new.came ≡ old.came
   pub delivered : new.delivered ≡ old.delivered
   pub failures : CountsOne old.failures new.failures

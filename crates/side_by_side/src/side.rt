@@ -4,7 +4,8 @@ ghost use Rattle.std.specs.Prelude.{OnOk};
 ghost use Rattle.std.specs.Prelude.{IfSome, length, take};
 ghost use Rattle.recording_engines.specs.Files.{HasKnownOctets, IsClosed, ended_by, failures_by};
 ghost use Rattle.recording_engines.specs.Files.{gave_by, is_recording_file, next_entry, source_of};
-ghost use Rattle.recording_reader.specs.FileReader.{IsSameFile, TellsTurn, fault_of, record_seen};
+ghost use Rattle.recording_reader.specs.FileReader.{IsSameFile, TellsTurn, fault_of};
+ghost use Rattle.recording_reader.specs.FileReader.{octets_at_hand, record_seen};
 ghost use Rattle.recording_reader.specs.Opening.{CountsOpening, IsByFlows, StopsOpening};
 ghost use Rattle.side_by_side.specs.Side.{AccountsFor, GivesDatagram, IsNewSide, IsSoundSide};
 ghost use Rattle.side_by_side.specs.Side.{IsUnfailed, IsUnfailedFile, ReadsFile, ReadsReader};
@@ -104,9 +105,20 @@ impl<A: Allocator, S: ByteSource> Side<A, S> {
         }
     }
 
+    /// The octets of the datagram at hand; none where there is none.
+    pub(crate) fn octets(&self) -> &[u8]
+        ensures octets { result.now ≡ octets_at_hand (next_entry self.now.file) }
+        ensures few { length result.now ≤ 65535 }
+    {
+        match self.at_hand() {
+            Some(record) => record.octets,
+            None => &[],
+        }
+    }
+
     /// Tells the datagram at hand, and puts its octets at the front of `buf`, or tells the end
     /// where there is none.
-    fn tell(&self, buf: &mut [u8]) -> Turn
+    pub(crate) fn tell(&self, buf: &mut [u8]) -> Turn
         requires { 65535 ≤ length buf.old }
         ensures room { length buf.new ≡ length buf.old }
         ensures told { TellsTurn (next_entry self.now.file) result buf.new }
@@ -121,17 +133,12 @@ impl<A: Allocator, S: ByteSource> Side<A, S> {
         }
     }
 
-    /// Gives the datagram that it has at hand, whose octets then stand at the front of `buf`, or
-    /// tells the end where there is none. What comes behind it is unread then.
-    pub(crate) fn give(&mut self, buf: &mut [u8]) -> Turn
-        requires { 65535 ≤ length buf.old }
-        ensures room { length buf.new ≡ length buf.old }
-        ensures told { TellsTurn (next_entry self.old.file) result buf.new }
+    /// Gives the datagram that it has at hand: what comes behind it is unread then. Its reader has
+    /// it at hand until it is read on.
+    pub(crate) fn give(&mut self)
         ensures given { GivesDatagram self.old self.new }
     {
-        let turn = self.tell(buf);
         self.going = Going::Unread;
-        turn
     }
 }
 

@@ -3,15 +3,17 @@ ghost use Rattle.std.specs.Prelude.{◌≡◌, ◌≤◌, ◌↔◌, ◌++◌, N
 ghost use Rattle.std.specs.Prelude.{MatchResult, [], length};
 ghost use Rattle.std.specs.List.{AllByRecursion};
 ghost use Rattle.recording_engines.specs.Files.{HasKnownOctets, IsReadByFlows};
+ghost use Rattle.recording_reader.specs.FileReader.{octets_at_hand};
 ghost use Rattle.side_by_side.specs.Side.{AccountsFor};
-ghost use Rattle.side_by_side.specs.Sides.{AllOver, AllUnfailed, FailsByReading, HasGivenAll};
-ghost use Rattle.side_by_side.specs.Sides.{IsDatagramOrEnd, IsFaultOfFiles, IsSideBySide};
-ghost use Rattle.side_by_side.specs.Sides.{IsUnreadSide, StopsSides, TellsSides, begun_each};
-ghost use Rattle.side_by_side.specs.Sides.{failures_each, last_fault_of};
+ghost use Rattle.side_by_side.specs.Sides.{AllOver, AllUnfailed, CountsPlace, FailsByReading};
+ghost use Rattle.side_by_side.specs.Sides.{HasGivenAll, IsDatagramOrEnd, IsFaultOfFiles};
+ghost use Rattle.side_by_side.specs.Sides.{IsSideBySide, IsUnreadSide, LendsSides, StopsSides};
+ghost use Rattle.side_by_side.specs.Sides.{TellsSides, begun_each, failures_each, hand_at};
+ghost use Rattle.side_by_side.specs.Sides.{last_fault_of};
 ghost use Rattle.st_format.specs.Device.{CountsFaults};
 ghost use Rattle.st_format.specs.Turns.{CountsTurn, IsEnd, IsWithin, TakesTurn, arrived};
 
-use crate::giving::{tell_next, told};
+use crate::giving::{give_next, octets_of, tell_at, told};
 use crate::side::Side;
 use crate::steering::Steering;
 use recording_engines::know;
@@ -28,6 +30,10 @@ use std::marker::Model;
 /// first file first. At the first fault of a file it ends: the datagrams that were given before it
 /// stay, those of the others are not read on, and each later call answers that fault. A file that
 /// isn't opened gives none.
+///
+/// [`SideBySide::advance`] goes on to the next datagram and copies nothing: its octets are borrowed
+/// by [`SideBySide::octets_at`] where they lie, until the next call. [`DatagramSource::next`]
+/// copies them into a buffer.
 ///
 /// Of more than two files whose next timestamps lie over more than half of the round no one is
 /// the oldest: it is then asked from the last file to the first which of two is older.
@@ -124,6 +130,45 @@ impl<A: Allocator, S: ByteSource> SideBySide<A, S> {
         self.sides.as_slice()
     }
 
+    /// Goes on to the next datagram, that of the file that goes first, and answers the place of
+    /// that file among [`SideBySide::sides`]; or none at the end, where no file has one. Until the
+    /// next call [`SideBySide::octets_at`] lends the datagram's octets.
+    ///
+    /// # Errors
+    ///
+    /// The fault of the first file that has one before its next datagram: it ends all of them
+    /// there, and each later call answers it.
+    pub fn advance(&mut self) -> Result<Option<usize>, ReadingFault>
+        ensures lent { IfOk result (λ at. LendsSides at self.old self.new) }
+        ensures fault { IfErr result (λ f. StopsSides f self.old self.new) }
+        ensures steering { self.new.steering ≡ self.old.steering }
+        ensures begun { begun_each self.new.sides ≡ begun_each self.old.sides }
+        ensures device { AllUnfailed self.old.sides → AccountsFor result
+            (failures_each S.failures self.old.sides) (failures_each S.failures self.new.sides) }
+    {
+        match give_next(self.steering, self.sides.as_mut_slice()) {
+            Ok(at) => {
+                self.delivered = delivered_with(self.delivered, at);
+                Ok(at)
+            }
+            Err(fault) => {
+                self.failures = self.failures.saturating_add(1);
+                self.fault = Some(fault);
+                Err(fault)
+            }
+        }
+    }
+
+    /// The octets of the datagram that the file of a place has at hand: of the place that
+    /// [`SideBySide::advance`] answered last, those of the datagram that was given last. None where
+    /// that file has none, or there is no such file.
+    pub fn octets_at(&self, place: usize) -> &[u8]
+        ensures octets { result.now ≡ octets_at_hand (hand_at self.now.sides place) }
+        ensures few { length result.now ≤ 65535 }
+    {
+        octets_of(self.sides(), place)
+    }
+
     /// Tells the next turn, and where a file is at fault this fault, at which it then stays.
     fn take_next(&mut self, buf: &mut [u8]) -> Result<Turn, ReadingFault>
         requires { 65535 ≤ length buf.old }
@@ -135,16 +180,10 @@ impl<A: Allocator, S: ByteSource> SideBySide<A, S> {
         ensures device { AllUnfailed self.old.sides → AccountsFor result
             (failures_each S.failures self.old.sides) (failures_each S.failures self.new.sides) }
     {
-        match tell_next(self.steering, self.sides.as_mut_slice(), buf) {
-            Ok(turn) => {
-                self.delivered = delivered_with(self.delivered, turn);
-                Ok(turn)
-            }
-            Err(fault) => {
-                self.failures = self.failures.saturating_add(1);
-                self.fault = Some(fault);
-                Err(fault)
-            }
+        match self.advance() {
+            Ok(Some(place)) => Ok(tell_at(self.sides(), place, buf)),
+            Ok(None) => Ok(Turn::End),
+            Err(fault) => Err(fault),
         }
     }
 
@@ -216,13 +255,12 @@ impl<A: Allocator, S: ByteSource> DatagramSource for SideBySide<A, S> {
     }
 }
 
-/// How many datagrams were given, with one of this turn more.
-fn delivered_with(delivered: u64, turn: Turn) -> u64
-    ensures { CountsTurn turn delivered result }
+/// How many datagrams were given, with one of a place more, where one is told.
+fn delivered_with(delivered: u64, at: Option<usize>) -> u64
+    ensures { CountsPlace at delivered result }
 {
-    match turn {
-        Turn::Datagram(_, _) => delivered.saturating_add(1),
-        Turn::Quiet => delivered,
-        Turn::End => delivered,
+    match at {
+        Some(_) => delivered.saturating_add(1),
+        None => delivered,
     }
 }

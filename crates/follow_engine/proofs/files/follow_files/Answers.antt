@@ -252,16 +252,16 @@ returns-in_err-said-clause-part g c =
     c.from_residual-in_err-said.ensures.1 in
     rw (p.1) (inl (refl, refl))
 
-pub returns-in_err-datagram-clause-before : goal.returns-in_err-datagram-clause-before
-returns-in_err-datagram-clause-before g c =
-    let p = err_from_is_err_and c.from_residual-in_err-datagram.result
-    c.from_residual-in_err-datagram.ensures.1 in
+pub returns-in_err-others-clause-before : goal.returns-in_err-others-clause-before
+returns-in_err-others-clause-before g c =
+    let p = err_from_is_err_and c.from_residual-in_err-others.result
+    c.from_residual-in_err-others.ensures.1 in
     rw (p.1, p.2) tt
 
-pub returns-in_err-datagram-clause-part : goal.returns-in_err-datagram-clause-part
-returns-in_err-datagram-clause-part g c =
-    let p = err_from_is_err_and c.from_residual-in_err-datagram.result
-    c.from_residual-in_err-datagram.ensures.1 in
+pub returns-in_err-others-clause-part : goal.returns-in_err-others-clause-part
+returns-in_err-others-clause-part g c =
+    let p = err_from_is_err_and c.from_residual-in_err-others.result
+    c.from_residual-in_err-others.ensures.1 in
     rw (p.1) (inl (refl, refl))
 
 pub returns-in_err-count-clause-before : goal.returns-in_err-count-clause-before

@@ -8,7 +8,6 @@ use Rattle.follow_engine.proofs.taking.follow_sides.Given as goal
 -- what came so far went into the stream
 abbrev pub invariant-loop : goal.invariant-loop
 invariant-loop g l = record {
-  room : length l.buf ≡ length l.initial.buf;
   run : IsSoundRun l.run;
   eager : l.run.is_eager ≡ l.initial.run.is_eager;
   steering : l.source.steering ≡ l.initial.source.steering;

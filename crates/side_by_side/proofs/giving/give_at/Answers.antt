@@ -17,7 +17,6 @@ pub returns-clause-given : goal.returns-clause-given
 returns-clause-given g c = record {
   other = c.index-sides-place.result;
   given = c.give.new.self;
-  told = c.give.ensures.told;
   is = c.give.ensures.given;
   now = refl;
 }

@@ -1,101 +1,25 @@
-use Rattle.std.proofs.Common.{◌∙◌, List, ap, length, subst, sym}
-use Rattle.side_by_side.specs.Sides.{AllSound, Sides, begun_each}
+use Rattle.std.proofs.Common.{List, Option, subst, ℕ}
+use Rattle.recording_reader.specs.FileReader.{TellsTurn}
+use Rattle.side_by_side.specs.Sides.{LendsSides, hand_at}
 use Rattle.side_by_side.specs.declared.side.Side.{Side}
-use Rattle.side_by_side.proofs.Sound.{lent_back, sound_stopped, sound_told, stops_sides, tells_turn}
+use Rattle.side_by_side.proofs.Sound.{tells_end, tells_lent}
 use Rattle.side_by_side.proofs.sides.SideBySide.take_next.Goals as goal
 
-pub tell_next-requires-clause-sound : goal.tell_next-requires-clause-sound
-tell_next-requires-clause-sound g c =
-    let was = c.self.inside in
-    subst (λ (ss : List (Side _ _)). AllSound was.steering ss) (sym c.as_mut_slice.ensures.value)
-    c.self.invariant.sound
+pub returns-in-Ok-Some-clause-told : goal.returns-in-Ok-Some-clause-told
+returns-in-Ok-Some-clause-told g c =
+    let w = c.in-Ok-Some in
+    let old = c.args.self.now in
+    let new = c.advance.new.self in
+    tells_lent c.tell_at.result c.tell_at.new.buf old new w.place
+    (subst (λ (at : Option ℕ). LendsSides at old new) w.field-0-is w.ensures.lent)
+    (subst (λ (ss : List (Side _ _)).
+    TellsTurn (hand_at ss w.place) c.tell_at.result c.tell_at.new.buf) c.sides.ensures
+    c.tell_at.ensures.told)
 
-pub invariant_of-self : goal.invariant_of-self
-invariant_of-self g c =
-    let was = c.self.inside in
-    let news = c.tell_next.new.sides in
-    let same = c.as_mut_slice.ensures.value in
-    rw (lent_back was.sides.len was.sides.items news
-    (sym c.as_mut_slice.ensures.len ∙ ap length same) (c.tell_next.ensures.len ∙ ap length same))
-    (sound_told was.steering c.in-Ok.turn c.tell_next.new.buf was.sides.items news was.delivered
-    c.delivered_with-self-inside.result was.failures was.fault c.self.invariant
-    (rw same at c.in-Ok.ensures.told) (rw same at c.in-Ok.ensures.were))
-
-pub returns-in-Ok-clause-begun : goal.returns-in-Ok-clause-begun
-returns-in-Ok-clause-begun g c =
-    let was = c.self.inside in
-    let same = c.as_mut_slice.ensures.value in
-    rw (lent_back was.sides.len was.sides.items c.tell_next.new.sides
-    (sym c.as_mut_slice.ensures.len ∙ ap length same) (c.tell_next.ensures.len ∙ ap length same))
-    (c.tell_next.ensures.begun
-    ∙ ap (λ (ss : List (Side _ _)). begun_each ss)
-    (same ∙ ap (λ (s : Sides _ _). s.sides) c.self.view_is))
-
-pub returns-in-Ok-clause-told : goal.returns-in-Ok-clause-told
-returns-in-Ok-clause-told g c =
-    let was = c.self.inside in
-    let news = c.tell_next.new.sides in
-    let same = c.as_mut_slice.ensures.value in
-    rw (
-      lent_back was.sides.len was.sides.items news
-          (sym c.as_mut_slice.ensures.len ∙ ap length same)
-          (c.tell_next.ensures.len ∙ ap length same),
-      ← c.self.view_is,
-    )
-    (tells_turn was.steering c.in-Ok.turn c.tell_next.new.buf was.sides.items news was.delivered
-    c.delivered_with-self-inside.result was.failures was.fault c.self.invariant
-    (rw same at c.in-Ok.ensures.told) c.in-Ok.ensures.unfailed c.delivered_with-self-inside.ensures)
-
-pub returns-in-Ok-clause-device : goal.returns-in-Ok-clause-device
-returns-in-Ok-clause-device g c =
-    let was = c.self.inside in
-    let same = c.as_mut_slice.ensures.value in
-    let olds = same ∙ ap (λ (s : Sides _ _). s.sides) c.self.view_is in
-    rw (lent_back was.sides.len was.sides.items c.tell_next.new.sides
-    (sym c.as_mut_slice.ensures.len ∙ ap length same) (c.tell_next.ensures.len ∙ ap length same))
-    (rw olds at c.in-Ok.ensures.device)
-
-pub invariant_of-self-in-Err : goal.invariant_of-self-in-Err
-invariant_of-self-in-Err g c =
-    let was = c.self.inside in
-    let news = c.tell_next.new.sides in
-    let same = c.as_mut_slice.ensures.value in
-    rw (lent_back was.sides.len was.sides.items news
-    (sym c.as_mut_slice.ensures.len ∙ ap length same) (c.tell_next.ensures.len ∙ ap length same))
-    (sound_stopped was.steering c.in-Err.fault was.sides.items news was.delivered was.failures
-    c.saturating_add-self-inside.result was.fault c.self.invariant
-    (rw same at c.in-Err.ensures.fault))
-
-pub returns-in-Err-clause-begun : goal.returns-in-Err-clause-begun
-returns-in-Err-clause-begun g c =
-    let was = c.self.inside in
-    let same = c.as_mut_slice.ensures.value in
-    rw (lent_back was.sides.len was.sides.items c.tell_next.new.sides
-    (sym c.as_mut_slice.ensures.len ∙ ap length same) (c.tell_next.ensures.len ∙ ap length same))
-    (c.tell_next.ensures.begun
-    ∙ ap (λ (ss : List (Side _ _)). begun_each ss)
-    (same ∙ ap (λ (s : Sides _ _). s.sides) c.self.view_is))
-
-pub returns-in-Err-clause-fault : goal.returns-in-Err-clause-fault
-returns-in-Err-clause-fault g c =
-    let was = c.self.inside in
-    let news = c.tell_next.new.sides in
-    let same = c.as_mut_slice.ensures.value in
-    rw (
-      lent_back was.sides.len was.sides.items news
-          (sym c.as_mut_slice.ensures.len ∙ ap length same)
-          (c.tell_next.ensures.len ∙ ap length same),
-      ← c.self.view_is,
-    )
-    (stops_sides was.steering c.in-Err.fault was.sides.items news was.delivered was.failures
-    c.saturating_add-self-inside.result was.fault c.self.invariant
-    (rw same at c.in-Err.ensures.fault) c.saturating_add-self-inside.ensures)
-
-pub returns-in-Err-clause-device : goal.returns-in-Err-clause-device
-returns-in-Err-clause-device g c =
-    let was = c.self.inside in
-    let same = c.as_mut_slice.ensures.value in
-    let olds = same ∙ ap (λ (s : Sides _ _). s.sides) c.self.view_is in
-    rw (lent_back was.sides.len was.sides.items c.tell_next.new.sides
-    (sym c.as_mut_slice.ensures.len ∙ ap length same) (c.tell_next.ensures.len ∙ ap length same))
-    (rw olds at c.in-Err.ensures.device)
+pub returns-in-Ok-None-clause-told : goal.returns-in-Ok-None-clause-told
+returns-in-Ok-None-clause-told g c =
+    let w = c.in-Ok-None in
+    let old = c.args.self.now in
+    let new = c.advance.new.self in
+    tells_end c.args.buf.now old new
+    (subst (λ (at : Option ℕ). LendsSides at old new) w.field-0-is w.ensures.lent)
