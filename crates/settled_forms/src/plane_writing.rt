@@ -52,7 +52,9 @@ pub fn write_planes<A: Allocator, B: Allocator, K: ByteSink>(
     Ok(())
 }
 
-/// The same with the fault of the device.
+/// The same with the fault of the device. Its room on the stack is large: in a caller's own, each
+/// call that has nothing to write would touch it too.
+#[inline(never)]
 fn write_frame<A: Allocator, B: Allocator, K: ByteSink>(
     sink: &mut K,
     source: &PlaneSource<A, B>,
