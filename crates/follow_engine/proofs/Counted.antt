@@ -101,6 +101,18 @@ came_count source source' entries none is =
     ap (λ (l : List (Path × List ℕ)). length (datagrams_since l source'.came)) none
     ∙ ap (λ (l : List (List ℕ)). length l) is ∙ length-map entries (λ (e : Entry). e.octets)
 
+-- and fewer than are counted
+few_entries : {A S : Type 0} (source source' : Sides A S) → (is : IsSideBySide source')
+    → source.came ≡ [] → length (datagrams_since source.came source'.came) < most_datagrams
+    → length is.entries < most_datagrams
+few_entries source source' is none few =
+    omega (
+      arith,
+      few,
+      came_count source source' is.entries none
+          (datagrams_from source'.came is.entries is.came_is),
+    )
+
 -- so many went of them, whatever is behind what was read
 most_read : {A S : Type 0} (gave : S → List ℕ) (ended : S → Type 0) (st : Steering)
     (source source' : Sides A S) (octets : List (List ℕ)) → (is : IsSideBySide source')
@@ -127,7 +139,8 @@ pub stops_read : {A S : Type 0} (gave : S → List ℕ) (ended : S → Type 0) (
     → source'.steering ≡ st → source'.sides ≡ sides
     → StopsFollowing (length (datagrams_since source.came source'.came)) source'.sides r
     → StopsReadSides gave ended st sides r
-stops_read gave ended st source source' sides r is known none steering at (inl (f, told, stops)) =
+stops_read gave ended st source source' sides r is known none steering at
+    (inl (f, told, stops, few)) =
     subst (λ (l : List (Side _ _)). StopsReadSides gave ended st l r) at
     (inl (
       f,
@@ -136,7 +149,9 @@ stops_read gave ended st source source' sides r is known none steering at (inl (
       is.entries,
       λ octets read.
           subst (λ (x : Steering). GoesToFault f x (strands_of source'.sides octets) is.entries)
-          steering (goes_to_fault gave ended source' octets f r is known told stops read),
+          steering
+          (goes_to_fault gave ended source' octets f r is known told stops
+          (few_entries source source' is none few) read),
     ))
 stops_read gave ended st source source' sides r is known none steering at (inr many) =
     subst (λ (l : List (Side _ _)). StopsReadSides gave ended st l r) at

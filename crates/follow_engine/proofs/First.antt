@@ -1,6 +1,6 @@
 -- The records that went of files are the first of what was read of them.
 use Rattle.std.proofs.Common.{◌≡◌, ◌∙◌, ◌⊎◌, ℕ, zero, suc, List, [], ◌∷◌, ◌++◌, Option, None, Some}
-use Rattle.std.proofs.Common.{ap, inl, inr, refl, subst, sym}
+use Rattle.std.proofs.Common.{◌<◌, ap, inl, inr, length, refl, subst, sym}
 use Rattle.std.specs.List.{AllByRecursion, AllZip}
 use Rattle.std.specs.Prelude.{⊤}
 use Rattle.flow.specs.declared.flows.Flows.{Flows}
@@ -35,7 +35,7 @@ use Rattle.side_by_side.specs.declared.side.Side.{Side}
 use Rattle.side_by_side.specs.declared.steering.Steering.{Steering}
 use Rattle.side_by_side.proofs.Gone.{IsKnownAhead, running_left}
 use Rattle.side_by_side.proofs.Reading.{known_side}
-use Rattle.follow_engine.specs.Order.{FirstIsAt, GoesFirst, GoesToFault}
+use Rattle.follow_engine.specs.Order.{FirstIsAt, GoesFirst, GoesToFault, most_datagrams}
 
 abbrev strand : List Entry → Option ReadingFault → Strand
 strand es f = record { entries = es; fault = f }
@@ -325,10 +325,10 @@ module _ {A S : Type 0} (f : ReadingFault) (r : Refusal) (st : Steering)
 pub goes_to_fault : {A S : Type 0} (gave : S → List ℕ) (ended : S → Type 0) (s : Sides A S)
     (octets : List (List ℕ)) (f : ReadingFault) (r : Refusal) → (is : IsSideBySide s)
     → AllByRecursion (λ x. HasKnownOctets gave ended x.file) s.sides
-    → reading_fault f ≡ Refused r → FirstSideAt f s.sides
+    → reading_fault f ≡ Refused r → FirstSideAt f s.sides → length is.entries < most_datagrams
     → AllZip (SideGave gave ended) s.sides octets
     → GoesToFault f s.steering (strands_of s.sides octets) is.entries
-goes_to_fault gave ended s octets f r is known told at read =
+goes_to_fault gave ended s octets f r is known told at few read =
     let all = all_longer gave ended s.sides octets known read in
     let rest =
     goes_longer s.steering (wholes (standings s.sides) all.0) (strands_of s.sides octets)
@@ -337,4 +337,5 @@ goes_to_fault gave ended s octets f r is known told at read =
       left = rest.left';
       goes = rest.goes;
       at = first_at f r s.steering told s.sides all.0 rest.left' is.sound at rest.longer;
+      few = few;
     }

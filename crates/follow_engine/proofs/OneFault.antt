@@ -1,5 +1,6 @@
 -- By the records that files have one fault at most is in its turn.
-use Rattle.std.proofs.Common.{◌≡◌, ◌∙◌, ℕ, inl, inr, List, [], ◌∷◌, Some, ap, refl, subst, sym}
+use Rattle.std.proofs.Common.{◌≡◌, ◌≤◌, ◌∙◌, ℕ, inl, inr, List, [], ◌∷◌, Some, ap, arith, length}
+use Rattle.std.proofs.Common.{refl, subst, sym}
 use Rattle.media_file.specs.Records.{Entry}
 use Rattle.recording_engines.specs.Joining.{IsAtNoFault, Strand}
 use Rattle.recording_reader.specs.declared.fault.ReadingFault.{ReadingFault}
@@ -60,6 +61,21 @@ one_next st ss left rest e d next other =
     )
 
 -- ---- up to the fault
+
+-- no more go than those that are before it
+pub no_more_go : (st : Steering) (f : ReadingFault) (ss left rest : List Strand)
+    (es ds : List Entry) → Goes st ss es left → FirstIsAt f left → Goes st ss ds rest
+    → length ds ≤ length es
+no_more_go st f ss left rest es [] goes at other = omega arith
+no_more_go st f ss left rest [] (d ∷ ds) goes at other =
+    absurd (first_stops f ss (subst (λ (l : List Strand). FirstIsAt f l) goes at) other.1.running)
+no_more_go st f ss left rest (e ∷ es) (d ∷ ds) goes at other =
+    let one = one_next st ss goes.0 other.0 e d goes.1 other.1 in
+    omega (
+      arith,
+      no_more_go st f goes.0 left rest es ds goes.2 at
+          (subst (λ (l : List Strand). Goes st l ds rest) (sym one.1) other.2),
+    )
 
 cons : {x y : Entry} {xs ys : List Entry} → x ≡ y → xs ≡ ys → x ∷ xs ≡ y ∷ ys
 cons one rest = cc

@@ -1,5 +1,5 @@
 -- What stops files that are followed, and the text of the first one.
-use Rattle.std.proofs.Common.{◌≡◌, ℕ, ◌⊎◌, inl, inr, List, [], ◌∷◌, Option, None, Some}
+use Rattle.std.proofs.Common.{◌≡◌, ◌<◌, ℕ, ◌⊎◌, inl, inr, List, [], ◌∷◌, Option, None, Some}
 use Rattle.std.proofs.Common.{Result, refl, sym, ap, subst, ◌∙◌}
 use Rattle.std.specs.List.{AllByRecursion, AllZip, zip}
 use Rattle.std.specs.Prelude.{MatchOption}
@@ -29,7 +29,7 @@ use Rattle.side_by_side.specs.Sides.{FirstSideAt, SideGave, begun_each, strands_
 use Rattle.side_by_side.specs.declared.side.Side.{Side}
 use Rattle.side_by_side.specs.declared.steering.Steering.{Steering}
 use Rattle.follow_engine.specs.Opened.{AreOpened, IsFirstText}
-use Rattle.follow_engine.specs.Order.{GoesToFault, GoesToMost}
+use Rattle.follow_engine.specs.Order.{GoesToFault, GoesToMost, most_datagrams}
 use Rattle.follow_engine.specs.Refused.{FirstRefuses, IsFileRefusal, IsFirstRefusal}
 use Rattle.follow_engine.specs.Refused.{StopsFollowing, StopsReadSides}
 use Rattle.follow_engine.specs.Sides.{SideRead}
@@ -68,11 +68,11 @@ first_by gave ended ways (Some t) text olds news r opened first is = absurd is
 
 -- a source stays at the fault of one
 pub stops_by : {A S : Type 0} (f : Fault) (reading : ReadingFault) (sides : List (Side A S))
-    (count : ℕ) → f ≡ reading_fault reading → FirstSideAt reading sides
+    (count : ℕ) → f ≡ reading_fault reading → FirstSideAt reading sides → count < most_datagrams
     → OfRefusal f (StopsFollowing count sides)
-stops_by (Refused r) reading sides count told at = inl (reading, sym told, at)
-stops_by Device reading sides count told at = tt
-stops_by Memory reading sides count told at = tt
+stops_by (Refused r) reading sides count told at few = inl (reading, sym told, at, few)
+stops_by Device reading sides count told at few = tt
+stops_by Memory reading sides count told at few = tt
 
 fault_reader : {S : Type 0} (gave : S → List ℕ) (ended : S → Type 0) (b : Begun)
     (octets : List ℕ) (r : FileReader S) (f : ReadingFault) (why : Refusal)

@@ -1,5 +1,5 @@
 -- The order in which the records of files go into a stream (own).
-use Rattle.std.specs.Prelude.{◌≡◌, ◌≤◌, ◌⊎◌, ℕ, ⊤, List, [], ◌∷◌, Some, length, map, Result}
+use Rattle.std.specs.Prelude.{◌≡◌, ◌≤◌, ◌<◌, ◌⊎◌, ℕ, ⊤, List, [], ◌∷◌, Some, length, map, Result}
 use Rattle.flow.specs.declared.flows.Flows.{Flows}
 use Rattle.media_file.specs.Records.{Entry}
 use Rattle.capture_engines.specs.Files.{first_way, flows_in, other_ways}
@@ -42,13 +42,14 @@ FirstIsAt f [] = ⊥
 FirstIsAt f (s ∷ ss) = (s ≡ record { entries = []; fault = Some f })
     ⊎ (IsAtNoFault s × FirstIsAt f ss)
 
--- These records are all that go of files until one is at a fault; of those that are at one then,
--- this is the first file's.
+-- These records are all that go of files until one is at a fault, fewer than are counted; of those
+-- that are at one then, this is the first file's.
 pub record GoesToFault (f : ReadingFault) (s : Steering) (strands : List Strand)
     (entries : List Entry) : Type 0 where
   pub left : List Strand
   pub goes : Goes s strands entries left
   pub at : FirstIsAt f left
+  pub few : length entries < most_datagrams
 
 -- These records are the first that go of files, and as many as are counted: no file came to its
 -- fault before.

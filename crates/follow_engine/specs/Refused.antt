@@ -1,6 +1,6 @@
 -- Which refusal ends a run of `follow` (own): one that holds, and none before it, in the order in
 -- which it looks.
-use Rattle.std.specs.Prelude.{◌≡◌, ◌≤◌, ℕ, ◌⊎◌, ⊤, List, [], ◌∷◌, Option, Some, MatchOption}
+use Rattle.std.specs.Prelude.{◌≡◌, ◌≤◌, ◌<◌, ℕ, ◌⊎◌, ⊤, List, [], ◌∷◌, Option, Some, MatchOption}
 use Rattle.std.specs.Prelude.{Result}
 use Rattle.std.specs.List.{AllZip}
 use Rattle.flow.specs.declared.flows.Flows.{Flows}
@@ -68,11 +68,12 @@ FirstDescribes told (s ∷ ss) = (octets : List ℕ) → told s octets → IsSdp
 
 -- ---- files
 
--- what stops files that are read, behind so many datagrams: the fault of the first that is at one;
--- or no more are counted
+-- what stops files that are read, behind so many datagrams: the fault of the first that is at one,
+-- behind fewer than are counted; or no more are counted
 abbrev pub StopsFollowing : {A S : Type 0} → ℕ → List (Side A S) → Refusal → Type 0
 StopsFollowing count sides r =
-    ((f : ReadingFault) × (reading_fault f ≡ Refused r) × FirstSideAt f sides)
+    ((f : ReadingFault) × (reading_fault f ≡ Refused r) × FirstSideAt f sides
+    × (count < most_datagrams))
     ⊎ ((r ≡ refusal.Capture TooManyRecords) × (most_datagrams ≤ count))
 
 -- so by what was read of them: all records went up to the fault; or as many as are counted

@@ -119,8 +119,11 @@ returns-in-Ok-None-clause-failures g c =
 -- a file is at fault
 pub returns-in-Err-clause-stopped : goal.returns-in-Err-clause-stopped
 returns-in-Err-clause-stopped g c =
+    let came = c.loop.source.came in
     stops_by c.of_reading.result c.in-Err.fault c.advance.new.self.sides _ c.of_reading.ensures
     c.in-Err.ensures.fault.stopped
+    (few_since c.args.source.now.came came c.advance.new.self.came c.loop.counter
+    (c.in-Err.ensures.fault.came ∙ sym (append-nil came)) c.loop.invariant.count c.loop-test.true)
 
 pub returns-in-Err-clause-failures : goal.returns-in-Err-clause-failures
 returns-in-Err-clause-failures g c =
