@@ -6,12 +6,15 @@ use Rattle.run_outcome.specs.Fault.{IfRefused}
 use Rattle.run_outcome.specs.declared.fault.Fault.{Fault}
 use Rattle.run_outcome.specs.declared.fault.Fault.TheVariants.{Refused, Device, Memory}
 
+pub not_refused : (Q : Type 0) (f : Fault) → IfRefused f ⊥ → IfRefused f Q
+not_refused Q (Refused x) never = absurd never
+not_refused Q Device never = tt
+not_refused Q Memory never = tt
+
 pub never_refused : {V : Type 0} (Q : Type 0) (r : Result V Fault) → IfErr r (λ f. IfRefused f ⊥)
     → IfErr r (λ f. IfRefused f Q)
 never_refused Q (Ok v) never = tt
-never_refused Q (Err (Refused x)) never = absurd never
-never_refused Q (Err Device) never = tt
-never_refused Q (Err Memory) never = tt
+never_refused Q (Err f) never = not_refused Q f never
 
 -- what a text that was begun is
 pub printed_so : {V O : Type 0} (r : Result V Fault) (took : O → List ℕ) (failures : O → ℕ)

@@ -54,7 +54,8 @@ struct Passed {
 /// # Errors
 ///
 /// A refusal where the picture is refused or there is no such plan; and else that a device failed
-/// or memory was wanted. Nothing was printed to `output` then, but where `output` failed.
+/// or memory was wanted. Nothing was printed to `output` then, but where `output` failed; and where
+/// it is refused nothing was put into the link.
 pub fn loop_back<A, S, L, O>(
     alloc: A,
     wanted: Looping,
@@ -99,7 +100,8 @@ where
           came = L.DatagramSource.came link.new;
           delivered = L.DatagramSource.delivered link.new;
         }) []) output.old output.new) }
-    // A refusal comes before anything is printed.
+    // A refusal comes before anything is put into the link or printed.
+    ensures apart { IfErr result (λ f. IfRefused f (link.new ≡ link.old)) }
     ensures quiet { IfErr result (λ f. IfRefused f (output.new ≡ output.old)) }
     // So memory is wanted.
     ensures memory { IfErr result (λ f. f ≡ Fault.Memory → output.new ≡ output.old) }

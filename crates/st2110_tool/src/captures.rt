@@ -77,8 +77,8 @@ where
         → TellsRefusal (IsSendRefusal wanted.max_octets (length pictures.old) sdp.old sdp.new
         (WasRead S.gave S.ended) (zip pictures.old pictures.new))
         (F.took faults.old) (F.took faults.new) }
-    // Unless the status is 0, what was written is nothing; or all or a first part of such a capture,
-    // of the pictures that were read before the fault.
+    // Unless the status is 0, what was written is nothing; or all or a first part of such a
+    // capture, of the pictures that were read before the fault.
     ensures part { result ≢ 0 → SendsSome S.gave S.ended
         (Failed (K.failures sink.old) (K.failures sink.new)) false wanted sdp.old sdp.new
         pictures.old pictures.new (K.took sink.old) (K.took sink.new) }
@@ -304,6 +304,8 @@ where
           came = L.DatagramSource.came link.new;
           delivered = L.DatagramSource.delivered link.new;
         }) []) output.old output.new }
+    // At status 1 nothing was put into the link.
+    ensures apart { result ≡ 1 → link.new ≡ link.old }
     ensures quiet { result ≡ 1 → output.new ≡ output.old }
     ensures silent { result ≡ 0 → faults.new ≡ faults.old }
     ensures blamed { result ≡ 3 → Failed (F.failures faults.old) (F.failures faults.new)

@@ -13,7 +13,7 @@ use Rattle.st_format.specs.History.{IsRead}
 use Rattle.capture_engines.specs.Looping.{Came, Link, Loops, Prints, loop_stamp}
 use Rattle.capture_engines.proofs.Accounting.{accounts_last, blamed_second}
 use Rattle.capture_engines.proofs.LoopRefusals.{plan_refused}
-use Rattle.capture_engines.proofs.Quiet.{never_refused}
+use Rattle.capture_engines.proofs.Quiet.{never_refused, not_refused}
 use Rattle.capture_engines.proofs.looping.loop_back.Goals as goal
 
 pub returns-in_err-plan-clause-refusal : goal.returns-in_err-plan-clause-refusal
@@ -122,6 +122,16 @@ returns-clause-failures g c =
     (g.O.ByteSink.failures c.print_passed.new.output))
     c.in_ok-picture.ensures.failures c.in_ok-passed.ensures.failures
     c.print_passed.ensures.failures
+
+pub returns-in_err-passed-clause-apart : goal.returns-in_err-passed-clause-apart
+returns-in_err-passed-clause-apart g c =
+    let p = err_from_is_err_and c.from_residual-in_err-passed.result
+    c.from_residual-in_err-passed.ensures.1 in
+    rw (p.1, p.2) (not_refused _ c.in_err-passed.field-0.0 c.in_err-passed.ensures.unrefused)
+
+pub returns-clause-apart : goal.returns-clause-apart
+returns-clause-apart g c =
+    never_refused _ c.print_passed.result c.print_passed.ensures.unrefused
 
 pub returns-clause-quiet : goal.returns-clause-quiet
 returns-clause-quiet g c =

@@ -40,6 +40,11 @@ returns-clause-quiet g c =
     let run = c.loop_back-outcome in
     λ is. on_refused run.result _ (c.end.ensures.refused is) run.ensures.quiet
 
+pub returns-clause-apart : goal.returns-clause-apart
+returns-clause-apart g c =
+    let run = c.loop_back-outcome in
+    λ is. on_refused run.result _ (c.end.ensures.refused is) run.ensures.apart
+
 pub returns-clause-wanted : goal.returns-clause-wanted
 returns-clause-wanted g c =
     let run = c.loop_back-outcome in
