@@ -1,5 +1,6 @@
 -- Two receivers that were read, merged and written.
-use Rattle.std.proofs.Common.{◌≡◌, ℕ, List, [], ◌++◌, refl, sym, ap, subst, ◌∙◌}
+use Rattle.std.proofs.Common.{◌≡◌, ℕ, inr, List, [], ◌∷◌, ◌++◌, refl, sym, ap, subst, ◌∙◌}
+use Rattle.st_format.specs.Device.{GrowsPart}
 use Rattle.st_format.specs.Raster.{Raster}
 use Rattle.media_file.specs.StateFile.{Kept, state_text}
 use Rattle.path_receiver.specs.Frames.{Holds, State, frames_of, joined_frames}
@@ -7,8 +8,11 @@ use Rattle.path_receiver.specs.Opening.{Opening}
 use Rattle.path_receiver.proofs.Frames.{frames_of-append}
 use Rattle.receiver_file.specs.Saved.{kept_of}
 use Rattle.receiver_engines.specs.Merging.{IsAgain, JoinsFirst, MergesFiles, SavesMerged}
-use Rattle.receiver_engines.specs.Merging.{PrintsMerged, merged_state}
+use Rattle.receiver_engines.specs.Merging.{PrintsMerged, PrintsMergedPart, merged_state}
+use Rattle.run_outcome.specs.Fault.{Blames, counts}
 use Rattle.run_outcome.specs.Frames.{frame_lines}
+use Rattle.run_outcome.specs.declared.fault.Fault.{Fault}
+use Rattle.run_outcome.specs.declared.fault.Fault.TheVariants.{Device}
 
 -- a receiver is itself
 pub again : (s : State) → IsAgain s s
@@ -84,3 +88,14 @@ prints left right old new m joins taken = record {
   printed = subst (λ (l : List ℕ). new ≡ old ++ l)
       (same_lines (merged_state joins.first joins.second) m joins.both.1) taken;
 }
+
+-- the output failed at the lines of a receiver's frames
+pub lines_cut : {O : Type 0} (took : O → List ℕ) (failures : O → ℕ) (Is : State → Type 0)
+    (m : State) (old new : O) (f : Fault) → Is m → f ≡ Device
+    → Blames (counts (failures old) (failures new) ∷ []) f
+    → GrowsPart (took old) (took new) (frame_lines m) → PrintsMergedPart took failures Is old new
+lines_cut took failures Is m old new f is device blames cut = inr (
+  m,
+  is,
+  inr (subst (Blames (counts (failures old) (failures new) ∷ [])) device blames, cut),
+)

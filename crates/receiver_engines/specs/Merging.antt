@@ -1,10 +1,12 @@
 -- What `merge` writes. The octets that were read are told by a predicate: it holds of any that
 -- begin with those, and of no other where the source has ended.
-use Rattle.std.specs.Prelude.{◌≡◌, ℕ, List, [], ◌++◌}
+use Rattle.std.specs.Prelude.{◌≡◌, ℕ, ◌⊎◌, List, [], ◌++◌}
 use Rattle.media_file.specs.StateFile.{state_text}
 use Rattle.path_receiver.specs.Frames.{Holds, State, joined_frames}
+use Rattle.run_outcome.specs.AtFault.{WrittenAtFault}
 use Rattle.run_outcome.specs.Frames.{frame_lines}
 use Rattle.receiver_file.specs.Saved.{IsReceiverFile, IsWritable, kept_of}
+use Rattle.st_format.specs.Device.{Failed}
 
 -- what was read can be the file of this receiver, which can be written
 pub record GivesReceiver (told : List ℕ → Type 0) (s : State) : Type 0 where
@@ -68,3 +70,13 @@ pub record PrintsMerged (left right : List ℕ → Type 0) (old new : List ℕ) 
   pub second_is : SaysReceiver right second
   pub alike : first.opening ≡ second.opening
   pub printed : new ≡ old ++ frame_lines (merged_state first second)
+
+-- What was printed where a run fails: nothing; or a line for each frame of a receiver that is so,
+-- all of them; or a first part of these, since the output failed.
+abbrev pub PrintsMergedPart : {O : Type 0} → (O → List ℕ) → (O → ℕ) → (State → Type 0) → O → O
+    → Type 0
+PrintsMergedPart took failures Is old new =
+    (new ≡ old)
+    ⊎ ((receiver : State) × Is receiver
+    × WrittenAtFault (Failed (failures old) (failures new)) (took old) (took new)
+    (frame_lines receiver))

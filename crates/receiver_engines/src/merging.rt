@@ -2,7 +2,8 @@
 ghost use Rattle.std.specs.Prelude.{◌≡◌, ◌∷◌, [], IfErr, IfOk, OnErr, OnOk};
 ghost use Rattle.st_format.specs.History.{IsRead};
 ghost use Rattle.run_outcome.specs.Fault.{Accounts, IfRefused, counts};
-ghost use Rattle.receiver_engines.specs.Merging.{JoinsFirst, MergesFiles, PrintsMerged, Saves};
+ghost use Rattle.receiver_engines.specs.Merging.{JoinsFirst, MergesFiles, PrintsMerged, PrintsMergedPart};
+ghost use Rattle.receiver_engines.specs.Merging.{Saves};
 ghost use Rattle.run_outcome.specs.States.{SavesPart};
 ghost use Rattle.receiver_engines.specs.MergeRefused.{IsMergeRefusal};
 ghost use Rattle.run_outcome.specs.Refusing.{OfRefusal};
@@ -51,6 +52,12 @@ where
         (JoinsFirst (IsRead (L.gave left.old) (L.gave left.new) (L.ended left.new))
         (IsRead (R.gave right.old) (R.gave right.new) (R.ended right.new)))
         (K.took state.old) (K.took state.new)) }
+    // Nothing was printed then; or the lines of the merged receiver, or a first part of them, since
+    // the output failed.
+    ensures shown { OnErr result (PrintsMergedPart O.took O.failures
+        (JoinsFirst (IsRead (L.gave left.old) (L.gave left.new) (L.ended left.new))
+        (IsRead (R.gave right.old) (R.gave right.new) (R.ended right.new)))
+        output.old output.new) }
     // All of each file was read, up to its end.
     ensures ended { OnOk result (L.ended left.new × R.ended right.new) }
     ensures refused { IfErr result (λ f. IfRefused f (state.new ≡ state.old)) }

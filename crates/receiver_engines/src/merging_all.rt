@@ -10,7 +10,7 @@ ghost use Rattle.receiver_engines.specs.MergeAllRefused.{IsJoinRefusal, IsMergeA
 ghost use Rattle.receiver_engines.specs.MergeAllRefused.{StopsMerge};
 ghost use Rattle.receiver_engines.specs.MergedAll.{JoinsAll, JoinsEach, JoinsOne, MergesAll};
 ghost use Rattle.receiver_engines.specs.MergedAll.{PrintsAll};
-ghost use Rattle.receiver_engines.specs.Merging.{IsAgain, Saves, merged_state};
+ghost use Rattle.receiver_engines.specs.Merging.{IsAgain, PrintsMergedPart, Saves, merged_state};
 ghost use Rattle.run_outcome.specs.States.{SavesPart};
 ghost use Rattle.run_outcome.specs.declared.refusal.Refusal.TheVariants.{MergeUnlike};
 
@@ -57,6 +57,11 @@ where
         (JoinsAll (IsRead (S.gave first.old) (S.gave first.new) (S.ended first.new))
         (WasRead S.gave S.ended) (zip others.old others.new))
         (K.took state.old) (K.took state.new)) }
+    // Nothing was printed then; or the lines of the merged receiver, or a first part of them, since
+    // the output failed.
+    ensures shown { OnErr result (PrintsMergedPart O.took O.failures
+        (JoinsAll (IsRead (S.gave first.old) (S.gave first.new) (S.ended first.new))
+        (WasRead S.gave S.ended) (zip others.old others.new)) output.old output.new) }
     // All of each file was read, up to its end.
     ensures ended { OnOk result (S.ended first.new × All S.ended others.new) }
     ensures refused { IfErr result (λ f. IfRefused f (state.new ≡ state.old)) }

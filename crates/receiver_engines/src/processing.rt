@@ -2,6 +2,7 @@
 ghost use Rattle.std.specs.Prelude.{◌≡◌, ◌≤◌, ◌∷◌, [], ◌-◌, ◌+◌, IfErr, IfOk, OnErr, OnOk, length};
 ghost use Rattle.std.specs.Prelude.{ℕ, List, sum_by};
 ghost use Rattle.std.specs.List.{AllByRecursion, zip};
+ghost use Rattle.run_outcome.specs.AtFault.{PrintedAtFault};
 ghost use Rattle.run_outcome.specs.Moments.{WasRead, pair};
 ghost use Rattle.run_outcome.specs.Fault.{Accounts, IfRefused, counts, failures_in};
 ghost use Rattle.run_outcome.specs.Refusing.{OfRefusal};
@@ -61,7 +62,7 @@ pub struct Processing<'a> {
 /// receiver's window hasn't the timestamp, the fill's text is none or has a value above the
 /// greatest of a frame's depth, the held picture has another format than the first frame, or, in
 /// this order, the job is refused or there is no such plan: neither `sink` nor `output` is touched
-/// then. Else that a device failed or memory was wanted.
+/// then. Else that memory was wanted, before either is touched, or that a device failed.
 pub fn process<A, S, K, O>(
     alloc: A,
     wanted: Processing<'_>,
@@ -85,10 +86,17 @@ where
     // Where it fails, what was written is a first part of such a capture.
     ensures part { OnErr result (SendsUnsaidPart wanted.entry.max_octets wanted.entry.stamp
         (K.took sink.old) (K.took sink.new)) }
+    // And nothing was printed; or a first part of the line, since the output failed.
+    ensures printed { OnErr result (PrintedAtFault O.took O.failures (λ line. (count : ℕ)
+        × SendsFiles (WasRead S.gave S.ended) (zip states.old states.new) (pair hold.old hold.new)
+        wanted.entry.job.now wanted.entry.timestamp wanted.entry.fill.now wanted.entry.max_octets
+        wanted.entry.stamp (K.took sink.old) (K.took sink.new) count × PrintsSent count [] line)
+        output.old output.new) }
     ensures refused { IfErr result (λ f. IfRefused f (sink.new ≡ sink.old)) }
     ensures quiet { IfErr result (λ f. IfRefused f (output.new ≡ output.old)) }
-    // Memory is wanted before anything is printed.
-    ensures memory { IfErr result (λ f. f ≡ Fault.Memory → output.new ≡ output.old) }
+    // Memory is wanted before anything is written or printed.
+    ensures memory { IfErr result (λ f. f ≡ Fault.Memory
+        → (sink.new ≡ sink.old) × (output.new ≡ output.old)) }
     ensures refusal { IfErr result (λ f. OfRefusal f
         (IsRunRefusal (WasRead S.gave S.ended) (zip states.old states.new)
         (pair hold.old hold.new) wanted.entry)) }
@@ -153,10 +161,19 @@ where
     // Where it fails, what was written is a first part of a capture of a text.
     ensures part { OnErr result ((text : List ℕ) × SendsSaidPart text wanted.entry.max_octets
         wanted.entry.stamp (K.took sink.old) (K.took sink.new)) }
+    // And nothing was printed; or a first part of the line, since the output failed.
+    ensures printed { OnErr result (PrintedAtFault O.took O.failures (λ line. (text : List ℕ)
+        × SaysText S.gave S.ended sdp.old sdp.new text
+        × ((count : ℕ) × SendsSaidFiles text (WasRead S.gave S.ended)
+        (zip states.old states.new) (pair hold.old hold.new)
+        wanted.entry.job.now wanted.entry.timestamp wanted.entry.fill.now wanted.entry.max_octets
+        wanted.entry.stamp (K.took sink.old) (K.took sink.new) count × PrintsSent count [] line))
+        output.old output.new) }
     ensures refused { IfErr result (λ f. IfRefused f (sink.new ≡ sink.old)) }
     ensures quiet { IfErr result (λ f. IfRefused f (output.new ≡ output.old)) }
-    // Memory is wanted before anything is printed.
-    ensures memory { IfErr result (λ f. f ≡ Fault.Memory → output.new ≡ output.old) }
+    // Memory is wanted before anything is written or printed.
+    ensures memory { IfErr result (λ f. f ≡ Fault.Memory
+        → (sink.new ≡ sink.old) × (output.new ≡ output.old)) }
     // Of the words and files the refusal is the first.
     ensures refusal { IfErr result (λ f. OfRefusal f
         (IsSaidRunRefusal (WasRead S.gave S.ended) sdp.old sdp.new (zip states.old states.new)
@@ -194,6 +211,7 @@ fn process_files<A: Allocator + Copy, S: ByteSource, K: ByteSink>(
     ensures part { OnErr result (SendsSaidPart said.now wanted.entry.max_octets
         wanted.entry.stamp (K.took sink.old) (K.took sink.new)) }
     ensures refused { IfErr result (λ f. IfRefused f (sink.new ≡ sink.old)) }
+    ensures memory { IfErr result (λ f. f ≡ Fault.Memory → sink.new ≡ sink.old) }
     ensures refusal { IfErr result (λ f. OfRefusal f
         (IsRunRefusal (WasRead S.gave S.ended) (zip states.old states.new)
         (pair hold.old hold.new) wanted.entry)) }
@@ -225,6 +243,7 @@ fn send_frames<A: Allocator + Copy, K: ByteSink>(
     ensures part { OnErr result (SendsSaidPart said.now wanted.entry.max_octets
         wanted.entry.stamp (K.took sink.old) (K.took sink.new)) }
     ensures refused { IfErr result (λ f. IfRefused f (sink.new ≡ sink.old)) }
+    ensures memory { IfErr result (λ f. f ≡ Fault.Memory → sink.new ≡ sink.old) }
     ensures sent { IfOk result (λ n. SendsSaidJob said.now job.now wanted.entry.timestamp
         wanted.entry.fill.now wanted.entry.max_octets wanted.entry.stamp receivers.now held.now
         (K.took sink.old) (K.took sink.new) n) }
@@ -255,6 +274,7 @@ fn send<A: Allocator + Copy, K: ByteSink>(
     ensures part { OnErr result (SendsSaidPart said.now wanted.entry.max_octets
         wanted.entry.stamp (K.took sink.old) (K.took sink.new)) }
     ensures refused { IfErr result (λ f. IfRefused f (sink.new ≡ sink.old)) }
+    ensures memory { IfErr result (λ f. f ≡ Fault.Memory → sink.new ≡ sink.old) }
     ensures sent { IfOk result (λ n. TakesSaid said.now job.now (settled_inputs inputs.now)
         wanted.entry.max_octets wanted.entry.stamp (K.took sink.old) (K.took sink.new) n) }
     ensures sendable { OnOk result

@@ -122,6 +122,9 @@ fn process<'a>(
         × PrintsSent count (output_took output.old) (output_took output.new))) }
     ensures quiet { IfErr result (λ f. IfRefused f
         (AreUntouched out.old out.new output.old output.new)) }
+    // So memory is wanted.
+    ensures memory { IfErr result (λ f. f ≡ Fault.Memory
+        → AreUntouched out.old out.new output.old output.new) }
     ensures unplaced { IsUnplaced out.new }
     ensures apart { OnOk result (IsFalse is_input) }
     ensures refusal { IfErr result (λ f. OfRefusal f (IsInTurn Process is_input
@@ -163,6 +166,9 @@ impl<'a> Command for ProcessCommand<'a> {
         old.sdp new.sdp (zip old.states.items new.states.items) (pair old.hold new.hold)
         old.wanted) r
         × AreUntouched old.out new.out old.output new.output };
+
+    // Before anything is printed or written.
+    ghost wants = { λ old new. AreUntouched old.out new.out old.output new.output };
 
     ghost is_placed = { λ c. IsInPlace c.out × IsFalse c.is_input };
 

@@ -4,8 +4,10 @@ ghost use Rattle.std.specs.List.{zip};
 ghost use Rattle.run_outcome.specs.Moments.{WasRead, pair};
 ghost use Rattle.st_format.specs.Device.{Failed};
 ghost use Rattle.st_format.specs.History.{IsRead};
+ghost use Rattle.run_outcome.specs.AtFault.{PrintedAtFault};
 ghost use Rattle.run_outcome.specs.Fault.{StatusBlames, counts, failures_in};
-ghost use Rattle.receiver_engines.specs.Merging.{JoinsFirst, MergesFiles, PrintsMerged, Saves};
+ghost use Rattle.receiver_engines.specs.Merging.{JoinsFirst, MergesFiles, PrintsMerged, PrintsMergedPart};
+ghost use Rattle.receiver_engines.specs.Merging.{Saves};
 ghost use Rattle.run_outcome.specs.States.{SavesPart};
 ghost use Rattle.receiver_engines.specs.MergeRefused.{IsMergeRefusal};
 ghost use Rattle.receiver_engines.specs.States.{IsStateRefusal};
@@ -76,6 +78,12 @@ where
         (JoinsFirst (IsRead (L.gave left.old) (L.gave left.new) (L.ended left.new))
         (IsRead (R.gave right.old) (R.gave right.new) (R.ended right.new)))
         (K.took state.old) (K.took state.new) }
+    // Nor is anything printed then but the lines of the merged receiver, or a first part of them,
+    // since the output failed.
+    ensures shown { result ≢ 0 → PrintsMergedPart O.took O.failures
+        (JoinsFirst (IsRead (L.gave left.old) (L.gave left.new) (L.ended left.new))
+        (IsRead (R.gave right.old) (R.gave right.new) (R.ended right.new)))
+        output.old output.new }
     ensures silent { result ≡ 0 → faults.new ≡ faults.old }
     ensures blamed { result ≡ 3 → Failed (F.failures faults.old) (F.failures faults.new)
         ⊎ (F.took faults.new ≡ F.took faults.old ++ device_line) }
@@ -142,8 +150,8 @@ where
 /// or has a value above the greatest of a frame's depth (`process 3`), the held picture has another
 /// format than the first frame (`process 4`), or, in this order, the job is refused (`job`) or
 /// there is no such plan (`plan`); 3 where a device failed, and 4 where the allocator refused
-/// memory. `faults` is told of it by one line. Where the status is 1 neither `sink` nor `output` is
-/// touched.
+/// memory. `faults` is told of it by one line. Where the status is 1 or 4 neither `sink` nor
+/// `output` is touched.
 pub fn run_process<A, S, K, O, F>(
     alloc: A,
     wanted: Processing<'_>,
@@ -185,10 +193,17 @@ where
     // Unless the status is 0, what was written is a first part of such a capture.
     ensures part { result ≢ 0 → SendsUnsaidPart wanted.entry.max_octets wanted.entry.stamp
         (K.took sink.old) (K.took sink.new) }
+    // And nothing was printed, or a first part of the line, since the output failed.
+    ensures printed { result ≢ 0 → PrintedAtFault O.took O.failures (λ line. (count : ℕ)
+        × SendsFiles (WasRead S.gave S.ended) (zip states.old states.new) (pair hold.old hold.new)
+        wanted.entry.job.now wanted.entry.timestamp wanted.entry.fill.now wanted.entry.max_octets
+        wanted.entry.stamp (K.took sink.old) (K.took sink.new) count × PrintsSent count [] line)
+        output.old output.new }
     ensures silent { result ≡ 0 → faults.new ≡ faults.old }
     ensures blamed { result ≡ 3 → Failed (F.failures faults.old) (F.failures faults.new)
         ⊎ (F.took faults.new ≡ F.took faults.old ++ device_line) }
-    ensures wanted { result ≡ 4 → output.new ≡ output.old }
+    // Memory is wanted before anything is written or printed.
+    ensures wanted { result ≡ 4 → (sink.new ≡ sink.old) × (output.new ≡ output.old) }
     ensures memory { result ≡ 4 → F.took faults.new ≡ F.took faults.old ++ memory_line }
 {
     let outcome = process(alloc, wanted, states, hold, sink, output);

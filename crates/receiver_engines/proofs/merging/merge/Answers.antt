@@ -1,11 +1,11 @@
-use Rattle.std.proofs.Common.{◌≡◌, ◌++◌, inr}
+use Rattle.std.proofs.Common.{◌≡◌, ◌++◌, inl, inr, refl}
 use Rattle.media_file.specs.StateFile.{state_text}
 use Rattle.receiver_engines.specs.Merging.{MergesFiles, PrintsMerged, Saves}
 use Rattle.receiver_file.specs.Saved.{kept_of}
-use Rattle.run_outcome.proofs.Printed.{on_err, on_ok}
+use Rattle.run_outcome.proofs.Printed.{on_err, on_ok, whenever}
 use Rattle.run_outcome.proofs.Refusals.{device_alone}
 use Rattle.st_format.specs.History.{IsRead}
-use Rattle.receiver_engines.proofs.Merged.{merges, prints}
+use Rattle.receiver_engines.proofs.Merged.{lines_cut, merges, prints}
 use Rattle.receiver_engines.proofs.merging.merge.Goals as goal
 
 pub returns-clause-merged : goal.returns-clause-merged
@@ -64,3 +64,19 @@ returns-clause-saved g c =
 
 pub returns-clause-memory : goal.returns-clause-memory
 returns-clause-memory g c = device_alone c.save_state.result _ c.save_state.ensures.device
+
+pub returns-in_err-merged-clause-shown : goal.returns-in_err-merged-clause-shown
+returns-in_err-merged-clause-shown g c = whenever c.from_residual.result _ (inl refl)
+
+pub returns-in_err-print_frames-clause-shown : goal.returns-in_err-print_frames-clause-shown
+returns-in_err-print_frames-clause-shown g c =
+    let cut = c.in_err-print_frames.ensures in
+    whenever c.from_residual-in_err-print_frames.result _
+    (lines_cut g.O.ByteSink.took g.O.ByteSink.failures _ c.in_ok-merged.merged _ _
+    c.in_err-print_frames.field-0.0 c.in_ok-merged.ensures.joined cut.device cut.failures cut.cut)
+
+pub returns-clause-shown : goal.returns-clause-shown
+returns-clause-shown g c =
+    let m = c.in_ok-merged in
+    whenever c.save_state.result _
+    (inr (m.merged, m.ensures.joined, inl c.in_ok-print_frames.ensures.printed))

@@ -1,14 +1,15 @@
-use Rattle.std.proofs.Common.{◌≡◌, ◌++◌, inr}
+use Rattle.std.proofs.Common.{◌≡◌, ◌++◌, inl, inr, refl}
 use Rattle.std.specs.List.{zip}
 use Rattle.media_file.specs.StateFile.{state_text}
 use Rattle.receiver_engines.specs.MergedAll.{MergesAll, PrintsAll}
 use Rattle.receiver_engines.specs.Merging.{Saves}
 use Rattle.receiver_file.specs.Saved.{kept_of}
-use Rattle.run_outcome.proofs.Printed.{on_err, on_ok}
+use Rattle.run_outcome.proofs.Printed.{on_err, on_ok, whenever}
 use Rattle.run_outcome.proofs.Refusals.{device_alone}
 use Rattle.run_outcome.specs.Moments.{WasRead}
 use Rattle.st_format.specs.History.{IsRead}
 use Rattle.receiver_engines.proofs.JoinedAll.{merges_all, prints_all}
+use Rattle.receiver_engines.proofs.Merged.{lines_cut}
 use Rattle.receiver_engines.proofs.merging_all.merge_all.Goals as goal
 
 pub returns-clause-merged : goal.returns-clause-merged
@@ -63,3 +64,19 @@ returns-clause-saved g c =
 
 pub returns-clause-memory : goal.returns-clause-memory
 returns-clause-memory g c = device_alone c.save_state.result _ c.save_state.ensures.device
+
+pub returns-in_err-merged-clause-shown : goal.returns-in_err-merged-clause-shown
+returns-in_err-merged-clause-shown g c = whenever c.from_residual.result _ (inl refl)
+
+pub returns-in_err-print_frames-clause-shown : goal.returns-in_err-print_frames-clause-shown
+returns-in_err-print_frames-clause-shown g c =
+    let cut = c.in_err-print_frames.ensures in
+    whenever c.from_residual-in_err-print_frames.result _
+    (lines_cut g.O.ByteSink.took g.O.ByteSink.failures _ c.in_ok-merged.merged _ _
+    c.in_err-print_frames.field-0.0 c.in_ok-merged.ensures.joined cut.device cut.failures cut.cut)
+
+pub returns-clause-shown : goal.returns-clause-shown
+returns-clause-shown g c =
+    let m = c.in_ok-merged in
+    whenever c.save_state.result _
+    (inr (m.merged, m.ensures.joined, inl c.in_ok-print_frames.ensures.printed))

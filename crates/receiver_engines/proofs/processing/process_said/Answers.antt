@@ -1,13 +1,14 @@
-use Rattle.std.proofs.Common.{◌≡◌, ℕ, List, [], inl, inr, refl, rules, subst, sym}
+use Rattle.std.proofs.Common.{◌≡◌, ℕ, List, [], ◌∷◌, ◌++◌, inl, inr, refl, rules, subst, sym}
 use Rattle.std.proofs.lemmas.Result.{err_from_is_err_and}
 use Rattle.run_outcome.specs.Moments.{WasRead, pair}
 use Rattle.std.specs.List.{zip}
-use Rattle.run_outcome.proofs.Printed.{on_ok}
+use Rattle.run_outcome.proofs.Printed.{none_printed, on_ok, part_printed, whenever}
 use Rattle.run_outcome.proofs.Refusals.{device_alone, of_refusal_map}
 use Rattle.run_outcome.proofs.SaidTexts.{text_says}
+use Rattle.run_outcome.specs.Line.{line_text}
 use Rattle.run_outcome.specs.TextRefusals.{SaysText}
+use Rattle.run_outcome.specs.declared.line.Line.TheVariants.{Sent}
 use Rattle.key_mix.specs.declared.Job.TheVariants.{Key}
-use Rattle.run_outcome.proofs.Printed.{whenever}
 use Rattle.receiver_engines.proofs.Parts.{sends_all, sends_none}
 use Rattle.receiver_engines.specs.Processing.{PrintsSent, SendsSaidFiles}
 use Rattle.receiver_engines.proofs.processing.process_said.Goals as goal
@@ -100,3 +101,50 @@ returns-in_err-sent-clause-refusal g c =
 
 pub returns-clause-memory : goal.returns-clause-memory
 returns-clause-memory g c = device_alone c.print.result _ c.print.ensures.device
+
+pub returns-in_err-sent-clause-memory : goal.returns-in_err-sent-clause-memory
+returns-in_err-sent-clause-memory g c =
+    let p = err_from_is_err_and c.from_residual-in_err-sent.result
+    c.from_residual-in_err-sent.ensures.1 in
+    rw (p.1, p.2) (λ memory. (c.in_err-sent.ensures.memory memory, refl))
+
+pub returns-in_err-check_job-clause-printed : goal.returns-in_err-check_job-clause-printed
+returns-in_err-check_job-clause-printed g c =
+    none_printed c.from_residual.result g.O.ByteSink.took g.O.ByteSink.failures _ c.args.output.now
+
+pub returns-in_err-said-clause-printed : goal.returns-in_err-said-clause-printed
+returns-in_err-said-clause-printed g c =
+    none_printed c.from_residual-in_err-said.result g.O.ByteSink.took g.O.ByteSink.failures _
+    c.args.output.now
+
+pub returns-in_err-sent-clause-printed : goal.returns-in_err-sent-clause-printed
+returns-in_err-sent-clause-printed g c =
+    none_printed c.from_residual-in_err-sent.result g.O.ByteSink.took g.O.ByteSink.failures _
+    c.args.output.now
+
+pub returns-clause-printed : goal.returns-clause-printed
+returns-clause-printed g c =
+    let sent = c.in_ok-sent.sent in
+    let text = c.deref.result.now in
+    let wanted = c.args.wanted in
+    let gave = g.S.ByteSource.gave in
+    let ended = g.S.ByteSource.ended in
+    let widened : c.from.result ≡ sent = search rules in
+    part_printed c.print.result g.O.ByteSink.took g.O.ByteSink.failures
+    (λ line. (text : List ℕ) × SaysText gave ended c.args.sdp.now c.read_if_given.new.sdp text
+    × ((count : ℕ) × SendsSaidFiles text (WasRead gave ended)
+    (zip c.args.states.now c.process_files.new.states)
+    (pair c.args.hold.now c.process_files.new.hold)
+    wanted.job.now wanted.timestamp wanted.fill.now wanted.max_octets wanted.stamp
+    (g.K.ByteSink.took c.args.sink.now) (g.K.ByteSink.took c.process_files.new.sink)
+    count × PrintsSent count [] line)) _ c.args.output.now c.print.new.output (
+      text,
+      subst (λ (l : List ℕ). SaysText gave ended c.args.sdp.now c.read_if_given.new.sdp l)
+          (sym c.deref.ensures.value) c.in_ok-said.ensures.says,
+      (
+        sent,
+        c.in_ok-sent.ensures.sent,
+        subst (λ n. PrintsSent n [] (line_text (Sent c.from.result) ++ 10 ∷ [])) widened refl,
+      ),
+    )
+    c.print.ensures.cut c.print.ensures.device c.print.ensures.failures

@@ -5,6 +5,7 @@ use Rattle.run_outcome.specs.Fault.{Blames, counts}
 use Rattle.run_outcome.specs.Refusing.{OfRefusal}
 use Rattle.run_outcome.specs.declared.fault.Fault.{Fault}
 use Rattle.run_outcome.proofs.Printed.{on_err}
+use Rattle.run_outcome.proofs.Refusals.{device_alone}
 use Rattle.receiver_engines.specs.Refused.{IsJobOrPlanRefusal}
 use Rattle.receiver_engines.proofs.Parts.{sends_none}
 use Rattle.receiver_engines.proofs.Refusals.{device_alone_refusal, device_alone_refused}
@@ -53,3 +54,6 @@ returns-clause-refused g c =
 pub returns-clause-refusal : goal.returns-clause-refusal
 returns-clause-refusal g c =
     device_alone_refusal c.send_capture.result _ c.send_capture.ensures.device
+
+pub returns-clause-memory : goal.returns-clause-memory
+returns-clause-memory g c = device_alone c.send_capture.result _ c.send_capture.ensures.device

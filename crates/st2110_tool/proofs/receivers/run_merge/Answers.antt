@@ -73,3 +73,8 @@ pub returns-clause-wanted : goal.returns-clause-wanted
 returns-clause-wanted g c =
     let run = c.merge-outcome in
     λ is. on_memory _ run.result (c.end.ensures.wanted is) run.ensures.memory
+
+pub returns-clause-shown : goal.returns-clause-shown
+returns-clause-shown g c =
+    let run = c.merge-outcome in
+    λ not. unfinished run.result _ c.end.result c.end.ensures.finished not run.ensures.shown

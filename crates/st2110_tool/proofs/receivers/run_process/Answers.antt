@@ -58,3 +58,8 @@ pub returns-clause-wanted : goal.returns-clause-wanted
 returns-clause-wanted g c =
     let run = c.process-outcome in
     λ is. on_memory _ run.result (c.end.ensures.wanted is) run.ensures.memory
+
+pub returns-clause-printed : goal.returns-clause-printed
+returns-clause-printed g c =
+    let run = c.process-outcome in
+    λ not. unfinished run.result _ c.end.result c.end.ensures.finished not run.ensures.printed

@@ -41,3 +41,6 @@ returns-clause-refusal c =
     (rw c.as_mut_slice.ensures.value at c.process-outcome.ensures.refusal) in
     refused_both _ _ c.process-outcome.result said
     (rw (sym c.settle.ensures.took) at c.process-outcome.ensures.quiet)
+
+pub returns-clause-wanted : goal.returns-clause-wanted
+returns-clause-wanted c = rw (sym c.settle.ensures.took) at c.process-outcome.ensures.memory
