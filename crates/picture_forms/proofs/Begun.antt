@@ -1,13 +1,16 @@
 -- A fault of a frame comes behind one octet at least.
 use Rattle.std.proofs.Common.{◌≡◌, ℕ, ◌<◌, List, [], ◌∷◌, ◌++◌, length, Option, Result, Ok, Err}
-use Rattle.std.proofs.Common.{refl, ap, arith}
+use Rattle.std.proofs.Common.{append-nil, refl, sym, ap, arith}
 use Rattle.std.proofs.lemmas.List.{length-append}
-use Rattle.st_format.specs.Given.{field_by}
+use Rattle.std.specs.Prelude.{⊤}
+use Rattle.st_format.specs.declared.format.Format.{Format}
+use Rattle.st_format.specs.Given.{GavePart, field_by}
+use Rattle.st_format.specs.Reading.{◌>>=◌}
 use Rattle.st_format.proofs.Origins.{if_content}
 use Rattle.picture_forms.specs.declared.fault.FormFault.{FormFault}
 use Rattle.picture_forms.specs.declared.fault.FormFault.TheVariants.{Truncated}
 use Rattle.picture_forms.specs.Faults.{IfContent, form_fault_origin}
-use Rattle.picture_forms.specs.Frames.{frame_line_at}
+use Rattle.picture_forms.specs.Frames.{frame_line_at, frame_walk, planes_at}
 use Rattle.picture_forms.specs.Walks.{Reads, Refuses, field_at}
 use Rattle.picture_forms.proofs.Walked.{Reading, field_cut}
 
@@ -45,3 +48,13 @@ no_line = refl
 pub line_more : (w l : Option (List ℕ)) (a b : List ℕ) → Reads frame_line_at w l a b tt
     → length a < length b
 line_more w l a b p = reads_more frame_line_at w l a b tt no_line p
+
+-- nothing has no frame
+pub no_frame : (f : Format) (a : List ℕ) → GavePart (frame_walk f) a a
+unfolding frame_walk
+no_frame f a = record {
+  part = [];
+  grown = sym (append-nil a);
+  fault = Truncated;
+  none = ap (λ (r : Result (⊤ × List ℕ) FormFault). r >>= λ x. planes_at f x.1) no_line;
+}

@@ -85,22 +85,22 @@ line_refuses most w m l a b c text e f plain lt p q = by f q
     empty [] lt = refl
     empty (x ∷ part) lt = absurd (omega (arith, lt))
 
+    cut : (part : List ℕ) → length part < 1 → line_at most (text ++ part) ≡ Err Truncated
+    cut part none =
+        ap (line_at most) (ap (λ (t : List ℕ). text ++ t) (empty part none) ∙ append-nil text)
+        ∙ line_cut most text plain lt
+
     by : (f : FormFault) → IsCut f 1 m l b c e → Refuses (line_at most) w l a c e f
     by Device q = record {
       part = text ++ q.part;
       gives = gives_both w m l a b c text q.part p q.gives;
-      finds = tt;
+      finds = (Truncated, cut q.part q.short);
     }
-    by Truncated q =
-        let none : q.part ≡ [] = empty q.part q.short.0 in
-        let same : text ++ q.part ≡ text =
-        ap (λ (t : List ℕ). text ++ t) none ∙ append-nil text in
-        record {
-          part = text ++ q.part;
-          gives = gives_both w m l a b c text q.part p q.gives;
-          finds =
-              (q.short.1.0, (q.short.1.1, ap (line_at most) same ∙ line_cut most text plain lt));
-        }
+    by Truncated q = record {
+      part = text ++ q.part;
+      gives = gives_both w m l a b c text q.part p q.gives;
+      finds = (q.short.1.0, (q.short.1.1, cut q.part q.short.0));
+    }
     by g q = absurd q.short
 
 pub line_over : (most : ℕ) (w l : Option (List ℕ)) (a b text : List ℕ) (e : Type 0) → Plain text

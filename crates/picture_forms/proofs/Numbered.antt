@@ -1,6 +1,6 @@
 -- Numbers of a pixmap's head, read octet by octet from a source.
 use Rattle.std.proofs.Common.{◌≡◌, ℕ, suc, ◌<◌, List, [], ◌∷◌, ◌++◌, length, Option, Err}
-use Rattle.std.proofs.Common.{append_assoc, append-nil, refl, sym, ap, ◌∙◌, subst, arith}
+use Rattle.std.proofs.Common.{append_assoc, refl, ap, ◌∙◌, subst, arith}
 use Rattle.picture_forms.specs.declared.fault.FormFault.{FormFault}
 use Rattle.picture_forms.specs.declared.fault.FormFault.TheVariants.{BadHeader, Device, Truncated}
 use Rattle.picture_forms.specs.declared.number_part.NumberPart.{NumberPart}
@@ -82,27 +82,21 @@ cut_on w m l a b c e most left first p f g q = by f q
     empty [] lt = refl
     empty (x ∷ part) lt = absurd (omega (arith, lt))
 
-    cut : (text : List ℕ) → text ≡ g.text → number_by most first text ≡ Err Truncated
-    cut text same =
-        ap (number_by most first) (same ∙ sym (append-nil g.text)) ∙ g.goes [] ∙ none_on left p
+    cut : (part : List ℕ) → length part < 1 → number_by most first (g.text ++ part) ≡ Err Truncated
+    cut part none =
+        ap (number_by most first) (ap (λ (t : List ℕ). g.text ++ t) (empty part none))
+        ∙ g.goes [] ∙ none_on left p
 
     by : (f : FormFault) → IsCut f 1 m l b c e → Refuses (number_by most first) w l a c e f
     by Device q = record {
       part = g.text ++ q.part;
       gives = gives_both w m l a b c g.text q.part g.given q.gives;
-      finds = tt;
+      finds = (Truncated, cut q.part q.short);
     }
     by Truncated q = record {
       part = g.text ++ q.part;
       gives = gives_both w m l a b c g.text q.part g.given q.gives;
-      finds = (
-        q.short.1.0,
-        (
-          q.short.1.1,
-          cut (g.text ++ q.part)
-              (ap (λ (t : List ℕ). g.text ++ t) (empty q.part q.short.0) ∙ append-nil g.text),
-        ),
-      );
+      finds = (q.short.1.0, (q.short.1.1, cut q.part q.short.0));
     }
     by g q = absurd q.short
 

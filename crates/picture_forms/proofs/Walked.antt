@@ -6,7 +6,7 @@ use Rattle.std.specs.Prelude.{IfErr, IfOk}
 use Rattle.std.proofs.KnownBytes.{Consumes-nil, Consumes-trans}
 use Rattle.std.proofs.lemmas.Bool.{lt-ltb, le-ltb}
 use Rattle.std.proofs.lemmas.List.{length-append, take_at, drop_at}
-use Rattle.st_format.specs.Given.{GaveValue, Takes, field_by, with_rest}
+use Rattle.st_format.specs.Given.{GavePart, GaveValue, Takes, field_by, with_rest}
 use Rattle.st_format.specs.Reading.{◌>>=◌}
 use Rattle.picture_forms.specs.declared.fault.FormFault.{FormFault}
 use Rattle.picture_forms.specs.declared.fault.FormFault.TheVariants.{NoMemory, Device, BadMagic}
@@ -14,7 +14,7 @@ use Rattle.picture_forms.specs.declared.fault.FormFault.TheVariants.{BadHeader, 
 use Rattle.picture_forms.specs.declared.fault.FormFault.TheVariants.{BadFormat, Truncated}
 use Rattle.picture_forms.specs.declared.fault.FormFault.TheVariants.{ValueTooLarge}
 use Rattle.picture_forms.specs.Faults.{IfContent, IsShown}
-use Rattle.picture_forms.specs.Walks.{Fails, GaveFault, Gives, IsCut, IsFaultIn, IsShort}
+use Rattle.picture_forms.specs.Walks.{Fails, GaveFault, Gives, IsCut, IsFaultIn, IsNoValue, IsShort}
 use Rattle.picture_forms.specs.Walks.{Reads, Refuses, field_at}
 
 abbrev pub Reading : Type 0 → Type 0
@@ -77,8 +77,8 @@ finds_first {X} {Y} first next f part l e p = by f p
     on o g is = ap (λ (r : Result (X × List ℕ) FormFault). r >>= λ z. next z.0 z.1) is
 
     by : (f : FormFault) → IsFaultIn first f part l e → IsFaultIn (then_reads first next) f part l e
-    by NoMemory p = tt
-    by Device p = tt
+    by NoMemory p = (p.0, on part p.0 p.1)
+    by Device p = (p.0, on part p.0 p.1)
     by BadMagic p = λ behind. on (part ++ behind) BadMagic (p behind)
     by BadHeader p = λ behind. on (part ++ behind) BadHeader (p behind)
     by UnsupportedForm p = λ behind. on (part ++ behind) UnsupportedForm (p behind)
@@ -108,8 +108,8 @@ finds_behind {X} {Y} r s front part f l e step p = by f p
         ap s (append_assoc front part behind) ∙ step (part ++ behind) g is
 
     by : (f : FormFault) → IsFaultIn r f part l e → IsFaultIn s f (front ++ part) l e
-    by NoMemory p = tt
-    by Device p = tt
+    by NoMemory p = (p.0, step part p.0 p.1)
+    by Device p = (p.0, step part p.0 p.1)
     by BadMagic p = λ behind. on BadMagic behind (p behind)
     by BadHeader p = λ behind. on BadHeader behind (p behind)
     by UnsupportedForm p = λ behind. on UnsupportedForm behind (p behind)
@@ -141,8 +141,8 @@ refuses_then {X} {Y} first next w m l a b c e x f p q =
 finds_shown : {X : Type 0} (r : Reading X) (part : List ℕ) (l : Option (List ℕ)) (e : Type 0)
     (f : FormFault) → IsShown f → ((behind : List ℕ) → r (part ++ behind) ≡ Err f)
     → IsFaultIn r f part l e
-finds_shown r part l e NoMemory is p = tt
-finds_shown r part l e Device is p = tt
+finds_shown r part l e NoMemory is p = absurd is
+finds_shown r part l e Device is p = absurd is
 finds_shown r part l e BadMagic is p = p
 finds_shown r part l e BadHeader is p = p
 finds_shown r part l e UnsupportedForm is p = p
@@ -252,7 +252,7 @@ field_refuses f n w l a b e p = record {
   where
     by : (f : FormFault) → IsShort f n p.part l e → IsFaultIn (field_at n) f p.part l e
     by NoMemory s = absurd s
-    by Device s = tt
+    by Device s = (Truncated, field_cut n p.part s)
     by BadMagic s = absurd s
     by BadHeader s = absurd s
     by UnsupportedForm s = absurd s
@@ -272,7 +272,9 @@ cut_behind f w m l a b c given e n total p le q = record {
   where
     by : (f : FormFault) → IsShort f n q.part l e → IsShort f total (given ++ q.part) l e
     by NoMemory s = absurd s
-    by Device s = tt
+    by Device s =
+        let lt : length q.part < n = s in
+        omega (arith, le, lt, length-append given q.part)
     by BadMagic s = absurd s
     by BadHeader s = absurd s
     by UnsupportedForm s = absurd s
@@ -334,3 +336,23 @@ refuses_gave r w l a b e f p = record {
     by Truncated q behind all =
         ap r (ap (λ (t : List ℕ). p.part ++ t) (all q.0) ∙ append-nil p.part) ∙ q.1.1
     by ValueTooLarge q behind all = q behind
+
+-- what was given makes no value by itself
+pub refuses_part : {X : Type 0} (r : Reading X) (w l : Option (List ℕ)) (a b : List ℕ)
+    (e : Type 0) (f : FormFault) → Refuses r w l a b e f → GavePart r a b
+refuses_part r w l a b e f p =
+    let none : IsNoValue (r p.part) = by f p.finds in
+    record { part = p.part; grown = p.gives.grown; fault = none.0; none = none.1 }
+  where
+    alone : (g : FormFault) → r (p.part ++ []) ≡ Err g → IsNoValue (r p.part)
+    alone g is = (g, ap r (sym (append-nil p.part)) ∙ is)
+
+    by : (f : FormFault) → IsFaultIn r f p.part l e → IsNoValue (r p.part)
+    by NoMemory q = q
+    by Device q = q
+    by BadMagic q = alone BadMagic (q [])
+    by BadHeader q = alone BadHeader (q [])
+    by UnsupportedForm q = alone UnsupportedForm (q [])
+    by BadFormat q = alone BadFormat (q [])
+    by Truncated q = (Truncated, q.1.1)
+    by ValueTooLarge q = alone ValueTooLarge (q [])

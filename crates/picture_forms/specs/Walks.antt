@@ -1,7 +1,7 @@
 -- A form read from the left: its readings, of those that st_format has for any, by where a form's
 -- faults come from (own).
 use Rattle.std.specs.Prelude.{◌≡◌, ℕ, ◌+◌, ◌==◌, ◌<◌, nat_lt, if◌then◌else◌, List, [], ◌++◌}
-use Rattle.std.specs.Prelude.{length, take, drop, ⊤, Option, Result, Ok, Err}
+use Rattle.std.specs.Prelude.{length, take, drop, Option, Result, Ok, Err}
 use Rattle.std.specs.List.{position_or_len}
 use Rattle.std.specs.Io.KnownBytes.{Consumes, IsAtEnd}
 use Rattle.st_format.specs.Given.{FailsBy, GaveFaultBy, field_by}
@@ -67,12 +67,17 @@ pub record Reads {X : Type 0} (reading : List ℕ → Result (X × List ℕ) For
   pub gives : Gives was left before now part
   pub says : (behind : List ℕ) → reading (part ++ behind) ≡ Ok (x, behind)
 
+-- no value is read
+abbrev pub IsNoValue : {X : Type 0} → Result (X × List ℕ) FormFault → Type 0
+IsNoValue read = (e : FormFault) × (read ≡ Err e)
+
 -- In this part a reading finds a fault. Where octets are missing, the source has ended; each other
--- fault of the content is found whatever is behind the part.
+-- fault of the content is found whatever is behind the part. Where memory or the device fails, the
+-- part by itself makes no value.
 abbrev pub IsFaultIn : {X : Type 0} → (List ℕ → Result (X × List ℕ) FormFault) → FormFault
     → List ℕ → Option (List ℕ) → Type 0 → Type 0
-IsFaultIn reading NoMemory part left ended = ⊤
-IsFaultIn reading Device part left ended = ⊤
+IsFaultIn reading NoMemory part left ended = IsNoValue (reading part)
+IsFaultIn reading Device part left ended = IsNoValue (reading part)
 IsFaultIn reading Truncated part left ended =
     ended × (IsAtEnd left × (reading part ≡ Err Truncated))
 IsFaultIn reading f part left ended = (behind : List ℕ) → reading (part ++ behind) ≡ Err f
@@ -85,9 +90,9 @@ pub record Refuses {X : Type 0} (reading : List ℕ → Result (X × List ℕ) F
   pub gives : Gives was left before now part
   pub finds : IsFaultIn reading f part left ended
 
--- a fault where so many octets were to come: the device's, or the source has ended before them
+-- a fault where so many octets were to come, and fewer came: the device's, or the source has ended
 abbrev pub IsShort : FormFault → ℕ → List ℕ → Option (List ℕ) → Type 0 → Type 0
-IsShort Device n part left ended = ⊤
+IsShort Device n part left ended = length part < n
 IsShort Truncated n part left ended = (length part < n) × (ended × IsAtEnd left)
 IsShort f n part left ended = ⊥
 

@@ -1,6 +1,7 @@
 //! Reading the pictures of YUV4MPEG2 streams.
 ghost use Rattle.std.specs.Prelude.{◌≡◌, ◌<◌, ◌++◌, List, ℕ, Some, length, IfErr, IfOk};
 ghost use Rattle.std.specs.Prelude.{MatchResult};
+ghost use Rattle.st_format.specs.Given.{GavePart};
 ghost use Rattle.st_format.specs.History.{IsRead};
 ghost use Rattle.st_format.specs.Picture.{IsPicture, Values};
 ghost use Rattle.picture_forms.specs.Faults.{CountsDevice, IfContent, IsMachine};
@@ -40,6 +41,9 @@ pub fn read_y4m_frame<A: Allocator, S: ByteSource>(
     // A fault of the content comes behind one octet at least: the end is none.
     ensures begun { IfErr result (λ f. IfContent f
         (length (S.gave source.old) < length (S.gave source.new))) }
+    // At any fault, the device's too, what was given is no frame: a first part, or a wrong one.
+    ensures gave_part { IfErr result
+        (λ _. GavePart (frame_walk format.now) (S.gave source.old) (S.gave source.new)) }
     // What is written of a picture is read as that picture, unless memory or device fail.
     ensures only { (v : Values) (behind : List ℕ) → IsPicture v → v.format ≡ format.now
         → S.to_give source.old ≡ Some (frame_text v ++ behind)
@@ -72,6 +76,8 @@ fn read_frame<A: Allocator, S: ByteSource>(
         (S.gave source.old) (S.gave source.new) (S.ended source.new) f) }
     ensures begun { IfErr result (λ f. IfContent f
         (length (S.gave source.old) < length (S.gave source.new))) }
+    ensures gave_part { IfErr result
+        (λ _. GavePart (frame_walk format.now) (S.gave source.old) (S.gave source.new)) }
     ensures counted { CountsDevice (S.failures source.old) (S.failures source.new) result }
     ensures names { S.names source.new ≡ S.names source.old }
 {
@@ -102,6 +108,8 @@ pub(crate) fn read_over<A: Allocator, S: ByteSource>(
         (S.gave source.old) (S.gave source.new) (S.ended source.new) f) }
     ensures begun { IfErr result (λ f. IfContent f
         (length (S.gave source.old) < length (S.gave source.new))) }
+    ensures gave_part { IfErr result
+        (λ _. GavePart (frame_walk last.format) (S.gave source.old) (S.gave source.new)) }
     ensures counted { CountsDevice (S.failures source.old) (S.failures source.new) result }
     ensures names { S.names source.new ≡ S.names source.old }
 {

@@ -2,7 +2,7 @@
 ghost use Rattle.std.specs.Prelude.{◌≡◌, ◌<◌, ◌++◌, ℕ, List, None, Some, Ok, Err, length, IfErr};
 ghost use Rattle.std.specs.Prelude.{IfOk, MatchResult};
 ghost use Rattle.st_format.specs.Fields.{fields_of};
-ghost use Rattle.st_format.specs.Given.{GaveValue, Takes};
+ghost use Rattle.st_format.specs.Given.{GavePart, GaveValue, Takes};
 ghost use Rattle.st_format.specs.History.{IsRead};
 ghost use Rattle.st_format.specs.Picture.{IsPicture, Values};
 ghost use Rattle.picture_forms.specs.Faults.{CountsDevice, CountsFault, IfContent, IsMachine};
@@ -87,6 +87,9 @@ impl<S: ByteSource> StreamReader<S> {
             (λ r. GaveValue head_walk (S.gave source) (S.gave r.source) (fields_of r.format)) }
         ensures gave_wrong { IfErr result
             (λ e. GaveFault head_walk (S.gave source) (S.gave e.1) (S.ended e.1) e.0) }
+        // At any fault, the device's too, what was given is no head.
+        ensures gave_part { IfErr result
+            (λ e. GavePart head_walk (S.gave source) (S.gave e.1)) }
         ensures counted { MatchResult result (λ r. S.failures r.source ≡ S.failures source)
             (λ e. CountsFault e.0 (S.failures source) (S.failures e.1)) }
         ensures names { MatchResult result (λ r. S.names r.source ≡ S.names source)
@@ -140,6 +143,10 @@ impl<S: ByteSource> StreamReader<S> {
         ensures begun { self.old.standing ≡ Reads
             → IfErr result (λ f. IfContent f
             (length (S.gave self.old.source) < length (S.gave self.new.source))) }
+        // At any fault, the device's too, what was given is no frame: a first part, or a wrong one.
+        ensures gave_part { self.old.standing ≡ Reads
+            → IfErr result (λ _. GavePart (frame_walk self.old.format)
+            (S.gave self.old.source) (S.gave self.new.source)) }
         ensures counted { self.old.standing ≡ Reads
             → CountsDevice (S.failures self.old.source) (S.failures self.new.source) result }
         ensures names { S.names self.new.source ≡ S.names self.old.source }

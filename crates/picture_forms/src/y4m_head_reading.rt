@@ -3,7 +3,7 @@ ghost use Rattle.std.specs.Prelude.{◌≡◌, ◌++◌, ℕ, List, Some, IfErr,
 ghost use Rattle.std.specs.Prelude.{OnOk};
 ghost use Rattle.st_format.specs.declared.format.Format.{Format};
 ghost use Rattle.st_format.specs.Fields.{fields_of};
-ghost use Rattle.st_format.specs.Given.{GaveValue, Takes};
+ghost use Rattle.st_format.specs.Given.{GavePart, GaveValue, Takes};
 ghost use Rattle.st_format.specs.History.{IsRead};
 ghost use Rattle.picture_forms.specs.Faults.{CountsDevice, IsMachine, IsShown};
 ghost use Rattle.picture_forms.specs.Heads.{head_walk, name_at, name_of};
@@ -36,6 +36,9 @@ pub fn read_y4m_head<S: ByteSource>(source: &mut S) -> Result<Format, FormFault>
         (λ f. GaveValue head_walk (S.gave source.old) (S.gave source.new) (fields_of f)) }
     ensures gave_wrong { IfErr result (λ f. GaveFault head_walk
         (S.gave source.old) (S.gave source.new) (S.ended source.new) f) }
+    // At any fault, the device's too, what was given is no head: a first part, or a wrong one.
+    ensures gave_part { IfErr result
+        (λ _. GavePart head_walk (S.gave source.old) (S.gave source.new)) }
     // What is written of a format is read as that format, unless the device fails.
     ensures only { (g : Format) (behind : List ℕ) → IsYcc g.sampling
         → S.to_give source.old ≡ Some (y4m_head g ++ behind)

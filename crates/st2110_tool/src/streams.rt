@@ -18,6 +18,7 @@ ghost use Rattle.side_by_side.specs.Sides.{failures_each};
 ghost use Rattle.st_format.specs.Device.{Failed};
 ghost use Rattle.st_format.specs.History.{IsRead};
 ghost use Rattle.stream_sending.specs.Sent.{IsSentStreamRefusal, SendsStream};
+ghost use Rattle.stream_sending.specs.SentPart.{SendsSomeFrames};
 
 use capture_engines::{Seen, Sending};
 use flow::Flows;
@@ -188,8 +189,13 @@ where
         (IsRead (S.gave stream.old) (S.gave stream.new) (S.ended stream.new))
         (K.took sink.old) (K.took sink.new) (O.took output.old) (O.took output.new) }
     ensures ended { result ≡ 0 → S.ended stream.new }
-    // Unless the status is 0, nothing was printed, or a first part of the line, since the output
-    // failed.
+    // Unless the status is 0, what was written is all or a first part of such a capture, of the
+    // pictures of all frames that were read before the fault, at most 4,294,967,295; of none,
+    // nothing.
+    ensures part { result ≢ 0 → SendsSomeFrames S.gave S.ended
+        (Failed (K.failures sink.old) (K.failures sink.new)) by_sdp wanted sdp.old sdp.new
+        (S.gave stream.old) (S.gave stream.new) (K.took sink.old) (K.took sink.new) }
+    // And nothing was printed, or a first part of the line, since the output failed.
     ensures printed { result ≢ 0 → PrintedAtFault O.took O.failures (SendsStream S.gave S.ended
         by_sdp wanted sdp.old sdp.new
         (IsRead (S.gave stream.old) (S.gave stream.new) (S.ended stream.new))

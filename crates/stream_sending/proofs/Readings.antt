@@ -1,17 +1,18 @@
 -- What was read is a stream, or has a first fault.
-use Rattle.std.proofs.Common.{◌≡◌, ℕ, inl, inr, List, [], ◌++◌, Result, Ok, Err, append_assoc}
+use Rattle.std.proofs.Common.{◌≡◌, ℕ, inl, inr, refl, List, [], ◌++◌, Result, Ok, Err, append_assoc}
 use Rattle.std.proofs.Common.{append-nil, sym, ap, subst, ◌∙◌, arith}
 use Rattle.std.proofs.lemmas.List.{length-append}
-use Rattle.std.specs.Prelude.{IfErr, IfOk, OnOk}
+use Rattle.std.specs.Prelude.{IfErr, IfOk, OnErr, OnOk}
 use Rattle.st_format.specs.declared.format.Format.{Format}
 use Rattle.st_format.specs.Fields.{fields_of}
-use Rattle.st_format.specs.Given.{GaveValue}
+use Rattle.st_format.specs.Given.{GavePart, GaveValue}
 use Rattle.st_format.specs.History.{IsRead}
 use Rattle.st_format.specs.Picture.{Values}
 use Rattle.picture_forms.specs.declared.fault.FormFault.{FormFault}
 use Rattle.picture_forms.specs.declared.fault.FormFault.TheVariants as form
 use Rattle.picture_forms.specs.Heads.{HasY4mHead, head_walk}
 use Rattle.picture_forms.specs.Walks.{GaveFault}
+use Rattle.picture_forms.proofs.Begun.{no_frame}
 use Rattle.picture_forms.proofs.HeadIs.{head_found}
 use Rattle.run_outcome.proofs.Refusals.{if_err_map, of_refusal_map}
 use Rattle.run_outcome.specs.Refusing.{OfRefusal}
@@ -22,10 +23,12 @@ use Rattle.capture_engines.specs.declared.sender.Sending.{Sending}
 use Rattle.convert_engine.specs.Converting.{form_fault}
 use Rattle.convert_engine.proofs.Saying.{one_part, two_parts}
 use Rattle.stream_sending.specs.Reading.{GaveFrameFault, GaveFrames, GaveMany, IsOpenedRefusal}
-use Rattle.stream_sending.specs.Reading.{SendsOpened}
+use Rattle.stream_sending.specs.Reading.{SendsOpened, SendsOpenedSome}
 use Rattle.stream_sending.specs.Sent.{IsFramesRefusal, IsSentStreamFault, SendsFrames}
-use Rattle.stream_sending.specs.Streams.{BeginsFrames, BeginsStream, IsStreamOf}
+use Rattle.stream_sending.specs.SentPart.{SendsFirstFrames, SendsStreamUpTo}
+use Rattle.stream_sending.specs.Streams.{BeginsFrames, BeginsStream, GaveStream, IsStreamOf}
 use Rattle.stream_sending.proofs.FramesRead.{more}
+use Rattle.stream_sending.proofs.SentParts.{all_given, whole_taken}
 
 -- the head of what was read, and what is behind it
 head_of : (f : Format) (a b c next octets : List ℕ) (ended : Type 0)
@@ -150,6 +153,51 @@ pub frames_refused : {V : Type 0} (most : ℕ) (f : Format) (r : Result V Fault)
 frames_refused most f r a b c ended h wrong =
     if_err_map r (λ e is. of_refusal_map e (opened_refused most f a b c ended h) is) wrong
 
+-- ---- what was sent before a fault
+
+-- a head, and frames behind it
+stream_given : (f : Format) (ps : List Values) (a b c : List ℕ)
+    → GaveValue head_walk a b (fields_of f) → GaveFrames f ps b c → GaveStream f ps a c
+stream_given f ps a b c h g = record {
+  part = h.part ++ g.part;
+  grown = more a b c h.part g.part h.grown g.grown;
+  says = λ behind. record {
+    frames = g.part ++ behind;
+    head =
+        head_found ((h.part ++ g.part) ++ behind) (g.part ++ behind) (fields_of f)
+        (ap head_walk (append_assoc h.part g.part behind) ∙ h.says (g.part ++ behind));
+    are = g.says behind;
+  };
+}
+
+frames_some : (Fails : Type 0) (wanted : Sending) (text : List ℕ) (f : Format)
+    (a b c old new : List ℕ) → GaveValue head_walk a b (fields_of f)
+    → SendsOpenedSome Fails wanted text f b c old new
+    → SendsFirstFrames Fails wanted text a c old new
+frames_some Fails wanted text f a b c old new h some = record {
+  format = f;
+  pictures = some.pictures;
+  unsent = some.unsent;
+  unsent_is = some.unsent_is;
+  between = some.gave.between;
+  gave = stream_given f (some.pictures ++ some.unsent) a b some.gave.between h some.gave.gave;
+  left = some.gave.left;
+  taken = some.taken;
+}
+
+-- all of it, where what is behind failed
+frames_all : (Fails : Type 0) (wanted : Sending) (text : List ℕ) (f : Format) (a b : List ℕ)
+    (ended : Type 0) (old new : List ℕ) (count : ℕ)
+    → SendsOpened wanted text f a b ended old new count
+    → SendsOpenedSome Fails wanted text f a b old new
+frames_all Fails wanted text f a b ended old new count sends = record {
+  pictures = sends.pictures;
+  unsent = [];
+  unsent_is = inl (refl, omega (arith, sends.few));
+  gave = all_given f sends.pictures a b b sends.gave (no_frame f b);
+  taken = whole_taken Fails wanted text f sends.pictures old new count sends.taken;
+}
+
 -- ---- of a device that was lent, and came back as it then was
 
 module _ {T : Type 0} (gave : T → List ℕ) (ended : T → Type 0) (old last new : T) where
@@ -192,3 +240,29 @@ module _ {T : Type 0} (gave : T → List ℕ) (ended : T → Type 0) (old last n
       → ((v : V) → P v → ended last) → IfOk r P → OnOk r (ended new)
   ended_back (Ok v) same then p = subst (λ (t : T). ended t) (sym same) (then v p)
   ended_back (Err e) same then p = tt
+
+  pub head_left : (Fails : Type 0) (wanted : Sending) (text took : List ℕ) → new ≡ last
+      → GavePart head_walk (gave old) (gave last)
+      → SendsStreamUpTo Fails wanted text (gave old) (gave new) took took
+  head_left Fails wanted text took same left =
+      inl (refl, subst (λ (t : T). GavePart head_walk (gave old) (gave t)) (sym same) left)
+
+  pub part_back : (mid : T) (Fails : Type 0) (wanted : Sending) (text : List ℕ) (f : Format)
+      (took took' : List ℕ) (r : Result ℕ Fault) → new ≡ last
+      → GaveValue head_walk (gave old) (gave mid) (fields_of f)
+      → IfOk r (λ n. SendsOpened wanted text f (gave mid) (gave last) (ended last) took took' n)
+      → OnErr r (SendsOpenedSome Fails wanted text f (gave mid) (gave last) took took')
+      → SendsStreamUpTo Fails wanted text (gave old) (gave new) took took'
+  part_back mid Fails wanted text f took took' r same h sends some =
+      inr (subst
+      (λ (t : T). SendsFirstFrames Fails wanted text (gave old) (gave t) took took') (sym same)
+      (frames_some Fails wanted text f (gave old) (gave mid) (gave last) took took' h
+      (by r sends some)))
+    where
+      by : (r : Result ℕ Fault)
+          → IfOk r (λ n. SendsOpened wanted text f (gave mid) (gave last) (ended last) took took' n)
+          → OnErr r (SendsOpenedSome Fails wanted text f (gave mid) (gave last) took took')
+          → SendsOpenedSome Fails wanted text f (gave mid) (gave last) took took'
+      by (Ok n) sends some =
+          frames_all Fails wanted text f (gave mid) (gave last) (ended last) took took' n sends
+      by (Err e) sends some = some

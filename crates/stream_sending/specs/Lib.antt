@@ -1,3 +1,4 @@
 pub mod Streams
 pub mod Reading
 pub mod Sent
+pub mod SentPart

@@ -1,7 +1,7 @@
 -- What a source gave of a stream: it was `before`, and is `now`; and what was sent of that (own).
 use Rattle.std.specs.Prelude.{◌≡◌, ◌<◌, ℕ, List, [], ◌∷◌, ◌++◌, length, Option, None, Some}
 use Rattle.std.specs.Prelude.{Err}
-use Rattle.st_format.specs.Given.{GaveValue}
+use Rattle.st_format.specs.Given.{GavePart, GaveValue}
 use Rattle.st_format.specs.Picture.{IsPicture, Values}
 use Rattle.st_format.specs.declared.device.ByteSink.{Ghosts}
 use Rattle.st_format.specs.declared.format.Format.{Format}
@@ -13,9 +13,11 @@ use Rattle.run_outcome.specs.Pictures.{IsPlanFault}
 use Rattle.run_outcome.specs.declared.refusal.Refusal.{Refusal}
 use Rattle.run_outcome.specs.declared.refusal.Refusal.TheVariants as refusal
 use Rattle.capture_engines.specs.Sending.{SendsMore}
+use Rattle.capture_engines.specs.SentPart.{StopsMore}
 use Rattle.capture_engines.specs.declared.sender.Sender.{Sender as Sends}
 use Rattle.capture_engines.specs.declared.sender.Sending.{Sending}
 use Rattle.stream_sending.specs.Sent.{TakesFrames, TakesStream}
+use Rattle.stream_sending.specs.SentPart.{IsUnsent, TakesFirst, TakesStreamSome}
 use Rattle.stream_sending.specs.Streams.{BeginsFrames}
 
 -- it gave the frames of these pictures, whatever is behind them
@@ -105,3 +107,40 @@ pub record SendsOpened (wanted : Sending) (text : List ℕ) (f : Format) (before
   pub gave : GaveFrames f pictures before now
   pub over : ended
   pub taken : TakesFrames wanted text f pictures old new count
+
+-- ---- what stands in a capture where it fails
+
+-- it gave the frames of these pictures, and behind them octets that are no frame
+pub record GaveAll (f : Format) (pictures : List Values) (before now : List ℕ) : Type 0 where
+  pub between : List ℕ
+  pub gave : GaveFrames f pictures before between
+  pub left : GavePart (frame_walk f) between now
+
+-- A sender that had sent none was to send this picture and, behind it, those of all frames that a
+-- source gave.
+pub record StopsFrames {A K : Type 0} {G : Ghosts K} (took : K → List ℕ) (Fails : Type 0)
+    (f : Format) (first : Values) (before now : List ℕ) (old new : Sends A K G) : Type 0 where
+  pub rest : List Values
+  pub unsent : List Values
+  pub unsent_is : IsUnsent (first ∷ rest) unsent
+  pub gave : GaveAll f (rest ++ unsent) before now
+  pub stops : StopsMore took Fails 0 (first ∷ rest) old new
+
+-- A sink took the capture of this picture and, behind it, of those of all frames, all or a first
+-- part.
+pub record SendsFirstSome (Fails : Type 0) (wanted : Sending) (text : List ℕ) (f : Format)
+    (first : Values) (before now old new : List ℕ) : Type 0 where
+  pub rest : List Values
+  pub unsent : List Values
+  pub unsent_is : IsUnsent (first ∷ rest) unsent
+  pub gave : GaveAll f (rest ++ unsent) before now
+  pub taken : TakesStreamSome Fails wanted text f (first ∷ rest) old new
+
+-- it took that of the pictures of all frames, all or a first part
+pub record SendsOpenedSome (Fails : Type 0) (wanted : Sending) (text : List ℕ) (f : Format)
+    (before now old new : List ℕ) : Type 0 where
+  pub pictures : List Values
+  pub unsent : List Values
+  pub unsent_is : IsUnsent pictures unsent
+  pub gave : GaveAll f (pictures ++ unsent) before now
+  pub taken : TakesFirst Fails wanted text f pictures old new

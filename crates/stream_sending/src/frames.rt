@@ -1,15 +1,20 @@
 //! The pictures of a stream, one after the other.
 ghost use Rattle.std.specs.Prelude.{◌≡◌, ◌≤◌, ◌<◌, ◌∷◌, [], false, length, IfErr, IfOk, IfSome};
-ghost use Rattle.std.specs.Prelude.{OnOk};
+ghost use Rattle.std.specs.Prelude.{OnErr, OnOk};
 ghost use Rattle.std.specs.Io.KnownBytes.{IsAtEnd};
+ghost use Rattle.st_format.specs.Device.{Failed};
+ghost use Rattle.st_format.specs.Given.{GavePart};
+ghost use Rattle.st_format.specs.Picture.{IsPicture};
 ghost use Rattle.capture_engines.specs.Sending.{IsPlanOf};
 ghost use Rattle.packet_plan.specs.Plan.{IsSize};
+ghost use Rattle.picture_forms.specs.Frames.{frame_walk};
 ghost use Rattle.picture_forms.specs.declared.streams.Standing.TheVariants.{Reads};
 ghost use Rattle.run_outcome.specs.Fault.{Accounts, IfRefused, counts};
 ghost use Rattle.run_outcome.specs.Refusing.{OfRefusal};
 ghost use Rattle.stream_sending.specs.Reading.{GaveNextFrame, IsNextRefusal, IsOpenedRefusal};
 ghost use Rattle.stream_sending.specs.Reading.{IsFramesReadRefusal, SendsBehind, SendsFirst};
-ghost use Rattle.stream_sending.specs.Reading.{SendsOpened};
+ghost use Rattle.stream_sending.specs.Reading.{SendsFirstSome, SendsOpened, SendsOpenedSome};
+ghost use Rattle.stream_sending.specs.Reading.{StopsFrames};
 
 use capture_engines::{Sender, Sending};
 use convert_engine::of_form;
@@ -36,6 +41,10 @@ pub(crate) fn send_opened<A: Allocator + Copy, S: ByteSource, K: ByteSink>(
     ensures sent { IfOk result (λ n. SendsOpened wanted said.now reader.old.format
         (S.gave reader.old.source) (S.gave reader.new.source) (S.ended reader.new.source)
         (K.took sink.old) (K.took sink.new) n) }
+    ensures part { OnErr result (SendsOpenedSome
+        (Failed (K.failures sink.old) (K.failures sink.new)) wanted said.now reader.old.format
+        (S.gave reader.old.source) (S.gave reader.new.source)
+        (K.took sink.old) (K.took sink.new)) }
     ensures refusal { IfErr result (λ f. OfRefusal f (IsOpenedRefusal wanted.max_octets
         reader.old.format (S.gave reader.old.source) (S.gave reader.new.source)
         (S.ended reader.new.source))) }
@@ -80,6 +89,8 @@ fn next_picture<A: Allocator, S: ByteSource>(
         (S.gave reader.new.source) (S.ended reader.new.source) o) }
     ensures refusal { IfErr result (λ f. OfRefusal f (IsNextRefusal reader.old.format
         (S.gave reader.old.source) (S.gave reader.new.source) (S.ended reader.new.source))) }
+    ensures gave_part { IfErr result (λ _. GavePart (frame_walk reader.old.format)
+        (S.gave reader.old.source) (S.gave reader.new.source)) }
     ensures failures { Accounts result (counts (S.failures reader.old.source)
         (S.failures reader.new.source) ∷ []) }
     ensures names { S.names reader.new.source ≡ S.names reader.old.source }
@@ -108,11 +119,16 @@ fn send_from<A: Allocator, S: ByteSource, K: ByteSink>(
     requires format { first.format ≡ reader.old.format }
     requires limits { IsSize wanted.max_octets plan.format }
     requires planned { IsPlanOf wanted.max_octets plan }
+    requires whole { IsPicture first }
     requires empty { IsAtEnd (K.held sink.old) }
     requires room { length buf.old ≡ 65535 }
     ensures sent { IfOk result (λ n. SendsFirst wanted said.now reader.old.format first
         (S.gave reader.old.source) (S.gave reader.new.source) (S.ended reader.new.source)
         (K.took sink.old) (K.took sink.new) n) }
+    ensures part { OnErr result (SendsFirstSome
+        (Failed (K.failures sink.old) (K.failures sink.new)) wanted said.now reader.old.format first
+        (S.gave reader.old.source) (S.gave reader.new.source)
+        (K.took sink.old) (K.took sink.new)) }
     ensures refusal { IfErr result (λ f. OfRefusal f (IsFramesReadRefusal 4294967295
         reader.old.format (S.gave reader.old.source) (S.gave reader.new.source)
         (S.ended reader.new.source))) }
@@ -146,6 +162,10 @@ fn send_each<A: Allocator, S: ByteSource, K: ByteSink>(
     requires format { picture.format ≡ reader.old.format }
     ensures sent { OnOk result (SendsBehind K.took reader.old.format picture
         (S.gave reader.old.source) (S.gave reader.new.source) (S.ended reader.new.source)
+        sender.old sender.new) }
+    ensures part { OnErr result (StopsFrames K.took
+        (Failed (K.failures sender.old.writer.sink) (K.failures sender.new.writer.sink))
+        reader.old.format picture (S.gave reader.old.source) (S.gave reader.new.source)
         sender.old sender.new) }
     ensures count { IfOk result (λ n. n ≡ sender.new.sent) }
     ensures refusal { IfErr result (λ f. OfRefusal f (IsFramesReadRefusal 4294967295

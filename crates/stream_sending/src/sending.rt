@@ -2,6 +2,7 @@
 ghost use Rattle.std.specs.Prelude.{◌≡◌, ◌≤◌, ◌∷◌, [], length, IfErr, IfOk, IsSome, IsTrue};
 ghost use Rattle.std.specs.Prelude.{OnErr, OnOk};
 ghost use Rattle.std.specs.Io.KnownBytes.{IsAtEnd};
+ghost use Rattle.st_format.specs.Device.{Failed};
 ghost use Rattle.st_format.specs.History.{IsRead};
 ghost use Rattle.run_outcome.specs.AtFault.{PrintedAtFault};
 ghost use Rattle.run_outcome.specs.Fault.{Accounts, IfRefused, counts, failures_in};
@@ -11,6 +12,7 @@ ghost use Rattle.run_outcome.specs.TextRefusals.{IsCaptureText};
 ghost use Rattle.capture_engines.specs.Typed.{IsSentBy};
 ghost use Rattle.stream_sending.specs.Sent.{IsFramesRefusal, IsSentStreamRefusal};
 ghost use Rattle.stream_sending.specs.Sent.{SendsFrames, SendsStream};
+ghost use Rattle.stream_sending.specs.SentPart.{SendsSomeFrames, SendsStreamUpTo};
 
 use crate::frames::send_opened;
 use capture_engines::{Sending, typed_by};
@@ -59,6 +61,11 @@ where
         (IsRead (S.gave stream.old) (S.gave stream.new) (S.ended stream.new))
         (K.took sink.old) (K.took sink.new) (O.took output.old) (O.took output.new)) }
     ensures ended { OnOk result (S.ended stream.new) }
+    // Where it fails, what was written is all or a first part of such a capture, of the pictures of
+    // all frames that were read before the fault, at most 4,294,967,295; of none, nothing.
+    ensures part { OnErr result (SendsSomeFrames S.gave S.ended
+        (Failed (K.failures sink.old) (K.failures sink.new)) by_sdp wanted sdp.old sdp.new
+        (S.gave stream.old) (S.gave stream.new) (K.took sink.old) (K.took sink.new)) }
     // Where it fails nothing was printed; or a first part of the line, since the output failed.
     ensures printed { OnErr result (PrintedAtFault O.took O.failures (SendsStream S.gave S.ended
         by_sdp wanted sdp.old sdp.new
@@ -120,6 +127,8 @@ fn send_frames<A: Allocator + Copy, S: ByteSource, K: ByteSink>(
         (IsRead (S.gave stream.old) (S.gave stream.new) (S.ended stream.new)) wanted said.now
         (K.took sink.old) (K.took sink.new) n) }
     ensures ended { OnOk result (S.ended stream.new) }
+    ensures part { SendsStreamUpTo (Failed (K.failures sink.old) (K.failures sink.new)) wanted
+        said.now (S.gave stream.old) (S.gave stream.new) (K.took sink.old) (K.took sink.new) }
     ensures refusal { IfErr result (λ f. OfRefusal f (IsFramesRefusal wanted.max_octets
         (IsRead (S.gave stream.old) (S.gave stream.new) (S.ended stream.new)))) }
     ensures failures { Accounts result (counts (S.failures stream.old) (S.failures stream.new)

@@ -3,6 +3,7 @@ use Rattle.st_format.specs.Fields.{fields_of}
 use Rattle.picture_forms.specs.Heads.{head_walk}
 use Rattle.picture_forms.proofs.Only.{head_gave_only, head_only}
 use Rattle.picture_forms.proofs.Walked.{reads_gave, reads_takes, refuses_fails, refuses_gave}
+use Rattle.picture_forms.proofs.Walked.{refuses_part}
 use Rattle.picture_forms.proofs.y4m_head_reading.read_y4m_head.Goals as goal
 
 pub returns-clause-read : goal.returns-clause-read
@@ -23,6 +24,11 @@ returns-clause-gave g c =
 pub returns-clause-gave_wrong : goal.returns-clause-gave_wrong
 returns-clause-gave_wrong g c =
     IfErr-weaker c.read_head.result _ _ (λ f p. refuses_gave head_walk _ _ _ _ _ f p)
+    c.read_head.ensures.fault
+
+pub returns-clause-gave_part : goal.returns-clause-gave_part
+returns-clause-gave_part g c =
+    IfErr-weaker c.read_head.result _ _ (λ f p. refuses_part head_walk _ _ _ _ _ f p)
     c.read_head.ensures.fault
 
 pub returns-clause-only : goal.returns-clause-only

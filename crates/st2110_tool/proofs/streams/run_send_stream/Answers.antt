@@ -54,6 +54,11 @@ returns-clause-wanted g c =
     let run = c.send_stream-outcome in
     λ is. on_memory _ run.result (c.end.ensures.wanted is) run.ensures.memory
 
+pub returns-clause-part : goal.returns-clause-part
+returns-clause-part g c =
+    let run = c.send_stream-outcome in
+    λ not. unfinished run.result _ c.end.result c.end.ensures.finished not run.ensures.part
+
 pub returns-clause-printed : goal.returns-clause-printed
 returns-clause-printed g c =
     let run = c.send_stream-outcome in

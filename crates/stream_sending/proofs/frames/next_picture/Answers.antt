@@ -32,3 +32,6 @@ returns-in-Err-clause-failures g c =
     subst (λ (fault : Fault). Blames (counts (told.failures c.args.reader.now.source)
     (told.failures c.next_picture.new.self.source) ∷ []) fault) (sym c.of_form.ensures)
     (form_blames c.in-Err.fault _ _ (c.in-Err.ensures.counted c.requires.reads))
+
+pub returns-in-Err-clause-gave_part : goal.returns-in-Err-clause-gave_part
+returns-in-Err-clause-gave_part g c = c.in-Err.ensures.gave_part c.requires.reads

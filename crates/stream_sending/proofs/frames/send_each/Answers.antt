@@ -1,8 +1,11 @@
-use Rattle.std.proofs.Common.{[], ◌∙◌, ◌∷◌, ap, arith, length, length-append, refl, sym}
+use Rattle.std.proofs.Common.{[], ◌∙◌, ◌∷◌, ap, arith, length, length-append, refl, subst, sym, ℕ}
 use Rattle.std.proofs.lemmas.Result.{err_from_is_err_and}
 use Rattle.run_outcome.proofs.Refusals.{of_refusal_map}
 use Rattle.stream_sending.proofs.FramesRead.{gave_end, refused_behind}
 use Rattle.stream_sending.proofs.Sendings.{all_so_far, more_so_far, none_so_far}
+use Rattle.st_format.specs.Device.{Failed}
+use Rattle.run_outcome.proofs.Printed.{whenever}
+use Rattle.stream_sending.proofs.SentParts.{here_ended, many_ended, next_ended}
 use Rattle.stream_sending.proofs.frames.send_each.Goals as goal
 
 pub loop-place-init : goal.loop-place-init
@@ -111,3 +114,36 @@ returns-clause-refusal g c =
         length-append so_far.sent (l.picture ∷ []),
       );
     }
+
+pub returns-in_err-send-clause-part : goal.returns-in_err-send-clause-part
+returns-in_err-send-clause-part g c =
+    let l = c.loop-place in
+    let told = g.S.ByteSource in
+    let failed = g.K.ByteSink.failures in
+    whenever c.from_residual.result _
+    (here_ended g.K.ByteSink.took failed _ c.args.reader.now.format l.place c.args.picture l.picture
+    (told.gave c.args.reader.now.source) (told.gave l.reader.source) c.args.sender.now l.sender
+    c.send.new.self c.in_err-send.field-0.0
+    (λ fails. subst (λ (n : ℕ). Failed n (failed c.send.new.self.writer.sink)) l.invariant.written
+    fails) c.loop-place-test.true
+    (l.invariant.alike ∙ ap (λ x. x.format) (sym l.invariant.plan))
+    c.in_err-send.ensures.refusal l.invariant.sent c.in_err-send.ensures.part)
+
+pub returns-in_err-next-clause-part : goal.returns-in_err-next-clause-part
+returns-in_err-next-clause-part g c =
+    let l = c.loop-place in
+    let told = g.S.ByteSource in
+    whenever c.from_residual-in_err-next.result _
+    (next_ended g.K.ByteSink.took _ c.args.reader.now.format l.place c.args.picture l.picture
+    (told.gave c.args.reader.now.source) (told.gave l.reader.source)
+    (told.gave c.next_picture.new.reader.source) c.args.sender.now l.sender c.send.new.self
+    c.loop-place-test.true l.invariant.sent c.in_ok-send.ensures.sent
+    (rw l.invariant.stream at c.in_err-next.ensures.gave_part))
+
+pub returns-clause-part : goal.returns-clause-part
+returns-clause-part g c =
+    let l = c.loop-place in
+    let told = g.S.ByteSource in
+    many_ended g.K.ByteSink.took _ c.args.reader.now.format l.place c.args.picture l.picture
+    (told.gave c.args.reader.now.source) (told.gave l.reader.source) c.args.sender.now l.sender
+    (omega arith) l.invariant.sent

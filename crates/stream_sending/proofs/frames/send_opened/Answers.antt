@@ -3,6 +3,9 @@ use Rattle.std.proofs.lemmas.Result.{IfOk-weaker, err_from_is_err_and}
 use Rattle.run_outcome.proofs.Refusals.{if_err_map, of_refusal_map}
 use Rattle.stream_sending.proofs.FramesRead.{gave_end, gave_first, gave_none, plan_refused}
 use Rattle.stream_sending.proofs.FramesRead.{refused_first, refused_next, sized}
+use Rattle.picture_forms.proofs.Begun.{no_frame}
+use Rattle.run_outcome.proofs.Printed.{on_err, whenever}
+use Rattle.stream_sending.proofs.SentParts.{none_ended, opened_ended}
 use Rattle.stream_sending.proofs.frames.send_opened.Goals as goal
 
 pub returns-in_err-plan-clause-refusal : goal.returns-in_err-plan-clause-refusal
@@ -68,3 +71,37 @@ returns-in-Some-clause-refusal g c =
 pub send_from-requires-clause-planned : goal.send_from-requires-clause-planned
 send_from-requires-clause-planned g c =
     record { size = c.in_ok-plan.ensures.made.1; full = c.facts.ensures.full }
+
+pub returns-in_err-plan-clause-part : goal.returns-in_err-plan-clause-part
+returns-in_err-plan-clause-part g c =
+    let f = c.args.reader.now.format in
+    whenever c.from_residual.result _
+    (none_ended _ c.args.wanted c.args.said.now f _ _ _ (no_frame f _))
+
+pub returns-in_err-blank-clause-part : goal.returns-in_err-blank-clause-part
+returns-in_err-blank-clause-part g c =
+    let f = c.args.reader.now.format in
+    whenever c.from_residual-in_err-blank.result _
+    (none_ended _ c.args.wanted c.args.said.now f _ _ _ (no_frame f _))
+
+pub returns-in_err-buf-clause-part : goal.returns-in_err-buf-clause-part
+returns-in_err-buf-clause-part g c =
+    let f = c.args.reader.now.format in
+    whenever c.from_residual-in_err-buf.result _
+    (none_ended _ c.args.wanted c.args.said.now f _ _ _ (no_frame f _))
+
+pub returns-in_err-first-clause-part : goal.returns-in_err-first-clause-part
+returns-in_err-first-clause-part g c =
+    whenever c.from_residual-in_err-first.result _
+    (none_ended _ c.args.wanted c.args.said.now c.args.reader.now.format _ _ _
+    c.in_err-first.ensures.gave_part)
+
+pub returns-in-Some-clause-part : goal.returns-in-Some-clause-part
+returns-in-Some-clause-part g c =
+    let next = c.in_ok-first.ensures in
+    on_err c.send_from.result _ _
+    (opened_ended _ c.args.wanted c.args.said.now c.args.reader.now.format c.in-Some.first _ _ _ _ _
+    (rw c.in-Some.is at next.gave)) (rw next.format at c.send_from.ensures.part)
+
+pub send_from-requires-clause-whole : goal.send_from-requires-clause-whole
+send_from-requires-clause-whole g c = (rw c.in-Some.is at c.in_ok-first.ensures.gave).1.0

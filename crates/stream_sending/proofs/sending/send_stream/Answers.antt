@@ -1,7 +1,7 @@
-use Rattle.std.proofs.Common.{List, [], inr, refl, subst, sym, ℕ, ◌∙◌}
+use Rattle.std.proofs.Common.{List, [], inl, inr, refl, subst, sym, ℕ, ◌∙◌}
 use Rattle.std.proofs.lemmas.Result.{err_from_is_err_and}
 use Rattle.st_format.specs.History.{IsRead}
-use Rattle.run_outcome.proofs.Printed.{none_printed, on_ok, part_printed}
+use Rattle.run_outcome.proofs.Printed.{none_printed, on_ok, part_printed, whenever}
 use Rattle.run_outcome.proofs.Refusals.{device_alone, of_refusal_map}
 use Rattle.run_outcome.proofs.SaidTexts.{text_says}
 use Rattle.run_outcome.specs.TextRefusals.{IsCaptureText, SaysText}
@@ -9,6 +9,7 @@ use Rattle.capture_engines.proofs.Sendings.{on_any}
 use Rattle.capture_engines.proofs.TypedTexts.{text_given}
 use Rattle.capture_engines.specs.Typed.{IsSentBy}
 use Rattle.stream_sending.specs.Sent.{IsFramesRefusal, SendsStream}
+use Rattle.stream_sending.proofs.SentParts.{no_head, some_of}
 use Rattle.stream_sending.proofs.sending.send_stream.Goals as goal
 
 pub returns-clause-sent : goal.returns-clause-sent
@@ -92,3 +93,35 @@ returns-clause-printed g c =
       frames = c.in_ok-sent.ensures.sent;
       line = refl;
     }) c.print.ensures.cut c.print.ensures.device c.print.ensures.failures
+
+pub returns-in_err-said-clause-part : goal.returns-in_err-said-clause-part
+returns-in_err-said-clause-part g c =
+    whenever c.from_residual.result _ (inl (refl, no_head _))
+
+pub returns-in_err-sending-clause-part : goal.returns-in_err-sending-clause-part
+returns-in_err-sending-clause-part g c =
+    whenever c.from_residual-in_err-sending.result _ (inl (refl, no_head _))
+
+pub returns-in_err-sent-clause-part : goal.returns-in_err-sent-clause-part
+returns-in_err-sent-clause-part g c =
+    let told = g.S.ByteSource in
+    whenever c.from_residual-in_err-sent.result _
+    (some_of told.gave told.ended _ c.args.by_sdp c.args.wanted c.in_ok-sending.sending
+    c.args.sdp.now c.read_if_given.new.sdp c.deref-2.result.now _ _ _ _
+    (subst (λ (l : List ℕ). SaysText told.gave told.ended c.args.sdp.now c.read_if_given.new.sdp l)
+    (sym c.deref-2.ensures.value) c.in_ok-said.ensures.says)
+    (subst (λ (l : List ℕ). IsSentBy c.args.by_sdp c.args.wanted l c.in_ok-sending.sending)
+    (c.deref.ensures.value ∙ sym c.deref-2.ensures.value) c.in_ok-sending.ensures.sent)
+    c.send_frames.ensures.part)
+
+pub returns-clause-part : goal.returns-clause-part
+returns-clause-part g c =
+    let told = g.S.ByteSource in
+    whenever c.print.result _
+    (some_of told.gave told.ended _ c.args.by_sdp c.args.wanted c.in_ok-sending.sending
+    c.args.sdp.now c.read_if_given.new.sdp c.deref-2.result.now _ _ _ _
+    (subst (λ (l : List ℕ). SaysText told.gave told.ended c.args.sdp.now c.read_if_given.new.sdp l)
+    (sym c.deref-2.ensures.value) c.in_ok-said.ensures.says)
+    (subst (λ (l : List ℕ). IsSentBy c.args.by_sdp c.args.wanted l c.in_ok-sending.sending)
+    (c.deref.ensures.value ∙ sym c.deref-2.ensures.value) c.in_ok-sending.ensures.sent)
+    c.send_frames.ensures.part)
