@@ -1,9 +1,10 @@
 //! `send` over the devices of this machine.
 ghost use Rattle.std.specs.Prelude.{◌≡◌, ◌∷◌, ◌≤◌, ◌<◌, [], All, IfErr, IfOk, IfSome, IsFalse};
-ghost use Rattle.std.specs.Prelude.{OnOk, ◌&&◌, is_some, length, sum_by};
+ghost use Rattle.std.specs.Prelude.{OnErr, OnOk, ◌&&◌, is_some, length, sum_by};
 ghost use Rattle.std.specs.List.{zip};
 ghost use Rattle.capture_engines.specs.Typed.{SendsBy};
 ghost use Rattle.capture_engines.specs.Sent.{IsSendRefusal};
+ghost use Rattle.capture_engines.specs.SentPart.{SendsSome};
 ghost use Rattle.command_end.specs.InTurn.{IsInTurn};
 ghost use Rattle.devices.specs.Passed.{file_ended, file_failures, file_gave, file_took};
 ghost use Rattle.devices.specs.Passed.{IsInPlace, IsUnplaced, output_failures, output_took};
@@ -13,6 +14,7 @@ ghost use Rattle.run_outcome.specs.Moments.{WasRead};
 ghost use Rattle.run_outcome.specs.Refusing.{OfRefusal};
 ghost use Rattle.run_outcome.specs.declared.refusal.Refusal.TheVariants.{SendPictures};
 ghost use Rattle.run_outcome.specs.declared.refusal.Writer.TheVariants.{Send};
+ghost use Rattle.st_format.specs.Device.{Failed};
 
 use capture_engines::{Sending, check_pictures, send_typed};
 use command_end::{Command, Devices, Hints, Ran, find_output};
@@ -124,6 +126,10 @@ fn send<'a>(
     ensures sent { OnOk result (SendsBy (by_sdp && is_some sdp.old) file_gave file_ended wanted
         sdp.old sdp.new pictures.old pictures.new (file_took out.old) (file_took out.new)
         (output_took output.old) (output_took output.new)) }
+    ensures part { OnErr result (SendsSome file_gave file_ended
+        (Failed (writing_failures out.old) (writing_failures out.new))
+        (by_sdp && is_some sdp.old) wanted sdp.old sdp.new pictures.old pictures.new
+        (file_took out.old) (file_took out.new)) }
     ensures unplaced { IsUnplaced out.new }
     ensures apart { OnOk result (IsFalse is_input) }
     ensures refusal { IfErr result (λ f. OfRefusal f (IsInTurn Send is_input
@@ -169,6 +175,13 @@ impl<'a> Command for SendCommand<'a> {
     ghost is_placed = { λ c. IsInPlace c.out × IsFalse c.is_input };
 
     ghost is_unplaced = { λ c. IsUnplaced c.out };
+
+    // What was written then is nothing; or all or a first part of such a capture, of the pictures
+    // that were read before the fault.
+    ghost leaves = { λ old new. SendsSome file_gave file_ended
+        (Failed (writing_failures old.out) (writing_failures new.out))
+        (old.by_sdp && is_some old.sdp) old.wanted old.sdp new.sdp
+        old.pictures.items new.pictures.items (file_took old.out) (file_took new.out) };
 
     ghost owes = { λ old new outcome. Accounts outcome
         (counts (failures_in file_failures old.sdp) (failures_in file_failures new.sdp)

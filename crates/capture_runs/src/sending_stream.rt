@@ -1,5 +1,5 @@
 //! `send` of a stream over the devices of this machine.
-ghost use Rattle.std.specs.Prelude.{◌≡◌, ◌∷◌, ◌≤◌, ⊤, [], IfErr, IfSome, IsFalse, OnOk};
+ghost use Rattle.std.specs.Prelude.{◌≡◌, ◌∷◌, ◌≤◌, ⊤, [], IfErr, IfSome, IsFalse, OnErr, OnOk};
 ghost use Rattle.std.specs.Prelude.{◌&&◌, is_some};
 ghost use Rattle.command_end.specs.InTurn.{IsInTurn};
 ghost use Rattle.devices.specs.Passed.{FileRead, IsInPlace, IsUnplaced, file_ended, file_failures};
@@ -9,7 +9,9 @@ ghost use Rattle.run_outcome.specs.Fault.{Accounts, IfRefused, counts, failures_
 ghost use Rattle.run_outcome.specs.Moments.{WasRead};
 ghost use Rattle.run_outcome.specs.Refusing.{OfRefusal};
 ghost use Rattle.run_outcome.specs.declared.refusal.Writer.TheVariants.{Send};
+ghost use Rattle.st_format.specs.Device.{Failed};
 ghost use Rattle.stream_sending.specs.Sent.{IsSentStreamRefusal, SendsStream};
+ghost use Rattle.stream_sending.specs.SentPart.{SendsSomeFrames};
 
 use crate::sending::{is_typed, sending};
 use capture_engines::Sending;
@@ -83,6 +85,10 @@ fn send<'a>(
         wanted sdp.old sdp.new (FileRead stream.old stream.new) (file_took out.old)
         (file_took out.new) (output_took output.old) (output_took output.new)) }
     ensures ended { OnOk result (file_ended stream.new) }
+    ensures part { OnErr result (SendsSomeFrames file_gave file_ended
+        (Failed (writing_failures out.old) (writing_failures out.new))
+        (by_sdp && is_some sdp.old) wanted sdp.old sdp.new (file_gave stream.old)
+        (file_gave stream.new) (file_took out.old) (file_took out.new)) }
     ensures unplaced { IsUnplaced out.new }
     ensures apart { OnOk result (IsFalse is_input) }
     ensures refusal { IfErr result (λ f. OfRefusal f (IsInTurn Send is_input ⊤ (λ _. ⊥)
@@ -130,6 +136,13 @@ impl<'a> Command for SendStreamCommand<'a> {
     ghost is_placed = { λ c. IsInPlace c.out × IsFalse c.is_input };
 
     ghost is_unplaced = { λ c. IsUnplaced c.out };
+
+    // What was written then is all or a first part of such a capture, of the pictures of all frames
+    // that were read before the fault, at most 4,294,967,295; of none, nothing.
+    ghost leaves = { λ old new. SendsSomeFrames file_gave file_ended
+        (Failed (writing_failures old.out) (writing_failures new.out))
+        (old.by_sdp && is_some old.sdp) old.wanted old.sdp new.sdp (file_gave old.stream)
+        (file_gave new.stream) (file_took old.out) (file_took new.out) };
 
     ghost owes = { λ old new outcome. Accounts outcome
         (counts (failures_in file_failures old.sdp) (failures_in file_failures new.sdp)

@@ -1,5 +1,6 @@
-use Rattle.std.proofs.Common.{inl, inr, length, subst, sym}
+use Rattle.std.proofs.Common.{◌∙◌, inl, inr, length, refl, subst, sym}
 use Rattle.std.proofs.lemmas.Result.{err_from_is_err_and}
+use Rattle.run_outcome.proofs.Printed.{whenever}
 use Rattle.run_outcome.proofs.Refusals.{if_err_map, of_refusal_map}
 use Rattle.std.specs.List.{zip}
 use Rattle.capture_engines.specs.Sent.{IsSendRefusal}
@@ -40,3 +41,23 @@ returns-clause-refusal c =
     if_err_map c.send.result
     (λ f. of_refusal_map f (λ r is. inl (inl c.in_ok-find_output.ensures.apart, is)))
     c.send.ensures.refusal
+
+pub returns-in_err-check_pictures-clause-part : goal.returns-in_err-check_pictures-clause-part
+returns-in_err-check_pictures-clause-part c =
+    whenever c.from_residual.result _ (inl (refl, refl))
+
+pub returns-in_err-find_output-clause-part : goal.returns-in_err-find_output-clause-part
+returns-in_err-find_output-clause-part c =
+    whenever c.from_residual-in_err-find_output.result _ (inl (c.find_output.ensures.took, refl))
+
+pub returns-then-is_typed-clause-part : goal.returns-then-is_typed-clause-part
+returns-then-is_typed-clause-part c =
+    let none = c.find_output.ensures.unplaced c.requires.unplaced in
+    rw (sym c.find_output.ensures.took, none, sym c.in_ok-find_output.ensures.owed,
+    sym c.is_typed.ensures ∙ c.if-is_typed.true) c.send_typed.ensures.part
+
+pub returns-clause-part : goal.returns-clause-part
+returns-clause-part c =
+    let none = c.find_output.ensures.unplaced c.requires.unplaced in
+    rw (sym c.find_output.ensures.took, none, sym c.in_ok-find_output.ensures.owed,
+    sym c.is_typed.ensures ∙ c.if-is_typed.false) c.send.ensures.part
