@@ -3,7 +3,7 @@ use Rattle.std.proofs.Common.{◌≡◌, ℕ, zero, suc, ◌+◌, ◌*◌, ◌/�
 use Rattle.std.proofs.Common.{◌++◌, length, get_or, take, drop, refl, sym, ap, ◌∙◌, subst, arith}
 use Rattle.std.proofs.Common.{Option}
 use Rattle.std.specs.List.{All, AllByRecursion}
-use Rattle.std.proofs.Math.Nat.{mul-add, mul_assoc}
+use Rattle.std.proofs.Math.Nat.{div-le_self, mul-add, mul_assoc}
 use Rattle.std.proofs.lemmas.List.{get_or-drop, get_or-take, length-drop, length-take}
 use Rattle.std.proofs.lemmas.Nat.{mul-le}
 use Rattle.st_format.specs.declared.format.Format.{Format}
@@ -21,18 +21,15 @@ use Rattle.picture_forms.specs.Planes.{Inside, every, every_text, sample_limit, 
 use Rattle.picture_forms.proofs.Placed.{plane_every}
 use Rattle.picture_forms.proofs.Written.{none_written, piece_cut, piece_written}
 use Rattle.picture_forms.specs.Writing.{Writes, WritesPart}
-use Rattle.settled_forms.specs.Pieces.{group_share, groups_text, part_text}
+use Rattle.settled_forms.specs.Pieces.{group_share, groups_text, part_text, rows_text}
 
 -- ---- numbers
 
-times_le : (n a b : ℕ) → a ≤ b → n * a ≤ n * b
+pub times_le : (n a b : ℕ) → a ≤ b → n * a ≤ n * b
 times_le n a b le = mul-le n a n b (omega arith) le
 
-times_none : (n : ℕ) → n * 0 ≡ 0
-times_none n = omega arith
-
 -- a product of three, of which the first two make another number
-times_both : (step share group n : ℕ) → step * share ≡ group → step * (share * n) ≡ group * n
+pub times_both : (step share group n : ℕ) → step * share ≡ group → step * (share * n) ≡ group * n
 times_both step share group n same =
     sym (mul_assoc step share n) ∙ ap (λ (x : ℕ). x * n) same
 
@@ -88,6 +85,13 @@ some_columns Rgb D16 c = omega arith
 pub share_some : (f : Format) (c : ℕ) → 0 < group_share f c
 share_some f c = some_columns f.sampling f.depth c
 
+-- a row has at most as many as it has columns
+pub share_most : (f : Format) (c : ℕ) → group_share f c * row_groups f ≤ 8192
+share_most f c =
+    let columns : group_share f c * row_groups f ≡ f.width / column_step f.sampling c =
+    share_columns f.sampling f.depth f.width c f.whole_width.whole_groups in
+    omega (arith, columns, div-le_self f.width (column_step f.sampling c), f.whole_width.most)
+
 -- they stand as many steps apart as a pgroup has samples
 steps_of : (s : Sampling) (d : Depth) (c : ℕ)
     → plane_step s c * ((pixel_group s d).pixels / column_step s c) ≡ (pixel_group s d).samples
@@ -112,15 +116,7 @@ pub share_steps : (f : Format) (c : ℕ)
     → plane_step f.sampling c * group_share f c ≡ (pixel_group f.sampling f.depth).samples
 share_steps f c = steps_of f.sampling f.depth c
 
--- how many there are of so many rows
-pub groups_in : (f g : Format) (high wide : ℕ) → high ≡ f.height → wide ≡ row_groups f → f ≡ g
-    → high * wide ≡ group_count g
-groups_in f g high wide h w same =
-    ap (λ (n : ℕ). n * wide) h
-    ∙ ap (λ (n : ℕ). f.height * n) w
-    ∙ ap group_count same
-
-first_low : (s : Sampling) (c : ℕ) → c < 3 → plane_first s c < plane_step s c
+pub first_low : (s : Sampling) (c : ℕ) → c < 3 → plane_first s c < plane_step s c
 first_low Ycc422 zero lt = omega arith
 first_low Ycc422 (suc zero) lt = omega arith
 first_low Ycc422 (suc (suc c)) lt = omega arith
@@ -255,52 +251,66 @@ groups_apart v c first count samples lt of =
 
 -- nothing was written of it
 pub plane_none : (v : Values) (c : ℕ) (o : Option (List ℕ)) (l : List ℕ)
-    → Writes o o l l (part_text v.format c v.samples (group_share v.format c * 0))
+    → Writes o o l l
+    (part_text v.format c v.samples (group_share v.format c * (row_groups v.format * 0)))
 plane_none v c o l =
     let f : Format = v.format in
-    subst (λ (n : ℕ). Writes o o l l (part_text f c v.samples n))
-    (sym (times_none (group_share f c)))
+    let none : group_share f c * (row_groups f * 0) ≡ 0 = omega arith in
+    subst (λ (n : ℕ). Writes o o l l (part_text f c v.samples n)) (sym none)
     (none_written o l (y4m_spelling f.depth) v.samples (plane_first f.sampling c)
     (plane_step f.sampling c))
 
--- and some pgroups more
-pub plane_more : (v : Values) (c done n : ℕ) (was mid is : Option (List ℕ))
+-- and some rows more
+pub plane_more : (v : Values) (c row n : ℕ) (was mid is : Option (List ℕ))
     (old now new : List ℕ)
-    → Writes was mid old now (part_text v.format c v.samples (group_share v.format c * done))
-    → Writes mid is now new (groups_text v c done n)
-    → Writes was is old new (part_text v.format c v.samples (group_share v.format c * (done + n)))
-plane_more v c done n was mid is old now new p q =
+    → Writes was mid old now
+    (part_text v.format c v.samples (group_share v.format c * (row_groups v.format * row)))
+    → Writes mid is now new (rows_text v c row n)
+    → Writes was is old new
+    (part_text v.format c v.samples (group_share v.format c * (row_groups v.format * (row + n))))
+plane_more v c row n was mid is old now new p q =
     let f : Format = v.format in
     let share : ℕ = group_share f c in
-    subst (λ (k : ℕ). Writes was is old new (part_text f c v.samples k))
-    (sym (mul-add share done n))
+    let wide : ℕ = row_groups f in
+    let all : share * (wide * row) + share * (wide * n) ≡ share * (wide * (row + n)) =
+    omega arith in
+    subst (λ (k : ℕ). Writes was is old new (part_text f c v.samples k)) all
     (piece_written was mid is old now new (y4m_spelling f.depth) v.samples
-    (plane_first f.sampling c) (plane_step f.sampling c) (share * done) (share * n) p q)
+    (plane_first f.sampling c) (plane_step f.sampling c) (share * (wide * row))
+    (share * (wide * n)) p q)
 
 -- within which it was cut
-pub plane_cut : (v : Values) (c done n : ℕ) (was mid is : Option (List ℕ))
-    (old now new : List ℕ) → IsYcc v.format.sampling → c < 3 → done + n ≤ group_count v.format
-    → Writes was mid old now (part_text v.format c v.samples (group_share v.format c * done))
-    → WritesPart mid is now new (groups_text v c done n)
+pub plane_cut : (v : Values) (c row n : ℕ) (was mid is : Option (List ℕ))
+    (old now new : List ℕ) → IsYcc v.format.sampling → c < 3 → row + n ≤ v.format.height
+    → Writes was mid old now
+    (part_text v.format c v.samples (group_share v.format c * (row_groups v.format * row)))
+    → WritesPart mid is now new (rows_text v c row n)
     → WritesPart was is old new (plane_text v c)
-plane_cut v c done n was mid is old now new ycc lt le p q =
+plane_cut v c row n was mid is old now new ycc lt le p q =
     let f : Format = v.format in
     let share : ℕ = group_share f c in
+    let wide : ℕ = row_groups f in
+    let inside : wide * row + wide * n ≤ group_count f =
+    omega (arith, times_le wide (row + n) f.height le, mul-add wide row n) in
     subst (WritesPart was is old new) (sym (plane_every v c ycc lt))
     (piece_cut was mid is old now new (y4m_spelling f.depth) v.samples
-    (plane_first f.sampling c) (plane_step f.sampling c) (share * done) (share * n)
-    (plane_count f c) (samples_within f c done n le) p q)
+    (plane_first f.sampling c) (plane_step f.sampling c) (share * (wide * row))
+    (share * (wide * n)) (plane_count f c) (samples_within f c (wide * row) (wide * n) inside) p q)
 
 -- all of it
-pub plane_all : (v : Values) (c done : ℕ) (was is : Option (List ℕ)) (old new : List ℕ)
-    → done ≡ group_count v.format → IsYcc v.format.sampling → c < 3
-    → Writes was is old new (part_text v.format c v.samples (group_share v.format c * done))
+pub plane_all : (v : Values) (c row : ℕ) (was is : Option (List ℕ)) (old new : List ℕ)
+    → row ≡ v.format.height → IsYcc v.format.sampling → c < 3
+    → Writes was is old new
+    (part_text v.format c v.samples (group_share v.format c * (row_groups v.format * row)))
     → Writes was is old new (plane_text v c)
-plane_all v c done was is old new same ycc lt p =
+plane_all v c row was is old new same ycc lt p =
     let f : Format = v.format in
+    let share : ℕ = group_share f c in
+    let wide : ℕ = row_groups f in
+    let all : share * (wide * row) ≡ share * (row * wide) = omega arith in
     subst (Writes was is old new)
-    (ap (λ (n : ℕ). part_text f c v.samples (group_share f c * n)) same
-    ∙ ap (part_text f c v.samples) (shares_count f c) ∙ sym (plane_every v c ycc lt)) p
+    (ap (part_text f c v.samples) (all ∙ ap (λ (n : ℕ). share * (n * wide)) same
+    ∙ shares_count f c) ∙ sym (plane_every v c ycc lt)) p
 
 -- what was written by another name
 pub writes_is : (was is : Option (List ℕ)) (old new xs ys : List ℕ) → xs ≡ ys

@@ -5,6 +5,7 @@ use Rattle.picture_forms.specs.Planes.{every_text, sample_size}
 use Rattle.st_format.specs.declared.format.Format.{Format}
 use Rattle.st_format.specs.Pgroup.{pixel_group}
 use Rattle.st_format.specs.Picture.{Values}
+use Rattle.st_format.specs.Position.{row_groups}
 
 -- how many samples of a component a pgroup has
 abbrev pub group_share : Format → ℕ → ℕ
@@ -26,3 +27,12 @@ groups_text v c first count =
     every_text (y4m_spelling v.format.depth) v.samples (plane_first v.format.sampling c)
     (plane_step v.format.sampling c) (group_share v.format c * first)
     (group_share v.format c * count)
+
+-- how many octets the samples take that a row has of a component
+abbrev pub row_size : Format → ℕ → ℕ
+row_size f c = octets_for f (group_share f c * row_groups f)
+
+-- the octets that so many rows of a picture have of a component, behind those of the first
+abbrev pub rows_text : Values → ℕ → ℕ → ℕ → List ℕ
+rows_text v c first count =
+    groups_text v c (row_groups v.format * first) (row_groups v.format * count)

@@ -1,6 +1,7 @@
 //! Frames that are settled, in forms that other tools read.
 #![tactic(auto)]
 
+mod packed;
 mod plane_source;
 mod plane_writing;
 mod planes;

@@ -1,13 +1,21 @@
-//! A frame whose planes are settled by pieces.
-ghost use Rattle.std.specs.Prelude.{◌≡◌};
+//! A frame whose planes are settled by rows.
+ghost use Rattle.std.specs.Prelude.{◌≡◌, ◌<◌, ◌≤◌, ◌*◌, ℕ, IsTrue, length, slice_index};
 ghost use Rattle.frame_assembly.specs.Patterns.{IsPatternOf};
+ghost use Rattle.picture_forms.specs.Layouts.{IsYcc};
+ghost use Rattle.settled_forms.specs.Settled.{RowHasValues};
+ghost use Rattle.st_format.specs.Position.{row_samples};
 
-use crate::planes::spell_groups;
+use crate::packed::spell_packed;
+use crate::planes::{row_octets_of, spell_groups};
 use frame_assembly::{Base, Frame};
+use st_format::{Depth, Format, Sampling};
 use std::alloc::{Allocator, Global};
 
 /// How many samples the pattern of a base has.
 const PATTERN: usize = 768;
+
+/// The mark word of a pgroup of which each sample has a value.
+const WHOLE: u16 = 0x8000;
 
 /// A frame and the base that it is settled with, whose pattern is made once.
 #[derive(Drop)]
@@ -19,12 +27,12 @@ pub(crate) struct PlaneSource<'a, A: Allocator = Global, B: Allocator = Global> 
 }
 
 impl<'a, A: Allocator, B: Allocator> PlaneSource<'a, A, B> {
-    ghost use Rattle.std.specs.Prelude.{◌≤◌, ◌<◌, ◌+◌, ◌*◌, length};
+    ghost use Rattle.std.specs.Prelude.{◌+◌};
     ghost use Rattle.frame_assembly.specs.Settled.{IsBaseOf, settled_picture};
-    ghost use Rattle.picture_forms.specs.Layouts.{IsYcc};
-    ghost use Rattle.settled_forms.specs.Pieces.{group_share, groups_text, octets_for};
+    ghost use Rattle.settled_forms.specs.Pieces.{group_share, groups_text, octets_for, row_size};
+    ghost use Rattle.settled_forms.specs.Pieces.{rows_text};
     ghost use Rattle.st_format.specs.Pgroup.{pixel_group};
-    ghost use Rattle.st_format.specs.Position.{group_count};
+    ghost use Rattle.st_format.specs.Position.{group_count, row_groups};
 
     /// Makes the pattern.
     pub(crate) fn new(frame: &'a Frame<A>, base: Base<'a, B>) -> PlaneSource<'a, A, B>
@@ -40,10 +48,81 @@ impl<'a, A: Allocator, B: Allocator> PlaneSource<'a, A, B> {
         }
     }
 
+    /// Spells `count` rows of a component of a frame, which is YCbCr, from row `first` on, into
+    /// `octets`. It has just the room, and `samples` that for the samples of a row.
+    pub(crate) fn spell_rows(
+        &self,
+        component: u8,
+        first: usize,
+        count: usize,
+        samples: &mut [u16],
+        octets: &mut [u8],
+    )
+        requires base { IsBaseOf self.now.base self.now.frame.now.format }
+        requires ycc { IsYcc self.now.frame.now.format.sampling }
+        requires component { component < 3 }
+        requires inside { first + count ≤ self.now.frame.now.format.height }
+        requires samples { length samples.old ≡ row_samples self.now.frame.now.format }
+        requires octets { length octets.old
+            ≡ row_size self.now.frame.now.format component * count }
+        ensures { octets.new
+            ≡ rows_text (settled_picture self.now.frame.now self.now.base) component first count }
+    {
+        let size = row_octets_of(&self.frame.format(), component);
+        for i in 0..count {
+            let row = (first + i) as u32;
+            self.spell_row(
+                component,
+                row,
+                samples,
+                &mut octets[size * i..size * (i + 1)],
+            );
+        }
+    }
+
+    /// Spells a row: straight from its octets where each sample has a value, and else settled.
+    fn spell_row(&self, component: u8, row: u32, samples: &mut [u16], octets: &mut [u8])
+        requires base { IsBaseOf self.now.base self.now.frame.now.format }
+        requires ycc { IsYcc self.now.frame.now.format.sampling }
+        requires component { component < 3 }
+        requires row { row < self.now.frame.now.format.height }
+        requires samples { length samples.old ≡ row_samples self.now.frame.now.format }
+        requires octets { length octets.old ≡ row_size self.now.frame.now.format component }
+        ensures { octets.new
+            ≡ groups_text (settled_picture self.now.frame.now self.now.base) component
+            (row_groups self.now.frame.now.format * row) (row_groups self.now.frame.now.format) }
+    {
+        let format = self.frame.format();
+        if is_packed_as_ten(&format) && has_values(self.frame, row) {
+            self.spell_packed_row(component, row, octets);
+        } else {
+            let count = format.row_groups() as usize;
+            self.spell_groups_from(component, count * row as usize, count, samples, octets);
+        }
+    }
+
+    /// Spells a row of 4:2:2 at 10 bits of which each sample has a value.
+    fn spell_packed_row(&self, component: u8, row: u32, octets: &mut [u8])
+        requires base { IsBaseOf self.now.base self.now.frame.now.format }
+        requires sampling { self.now.frame.now.format.sampling ≡ Sampling.Ycc422 }
+        requires depth { self.now.frame.now.format.depth ≡ Depth.D10 }
+        requires component { component < 3 }
+        requires row { row < self.now.frame.now.format.height }
+        requires values { RowHasValues self.now.frame.now row }
+        requires octets { length octets.old ≡ row_size self.now.frame.now.format component }
+        ensures { octets.new
+            ≡ groups_text (settled_picture self.now.frame.now self.now.base) component
+            (row_groups self.now.frame.now.format * row) (row_groups self.now.frame.now.format) }
+    {
+        self.frame.facts();
+        let count = octets.len() / 2;
+        spell_packed(component, self.frame.packed_row(row), count, octets);
+    }
+
     /// Settles `count` pgroups of a frame, which is YCbCr, into `samples`, from the one of number
     /// `first` in raster order, and spells those of a component into `octets`. Both have just the
     /// room.
-    pub(crate) fn spell_piece(
+    fn spell_groups_from(
         &self,
         component: u8,
         first: usize,
@@ -71,4 +150,37 @@ impl<'a, A: Allocator, B: Allocator> PlaneSource<'a, A, B> {
             .settle_groups_over(first, count, self.base, &self.pattern, samples);
         spell_groups(&format, component, count, samples, octets);
     }
+}
+
+/// Whether pgroups are those of 4:2:2 at 10 bits.
+fn is_packed_as_ten(format: &Format) -> bool
+    ensures sampling { IsTrue result → format.now.sampling ≡ Sampling.Ycc422 }
+    ensures depth { IsTrue result → format.now.depth ≡ Depth.D10 }
+{
+    matches!(
+        (format.sampling(), format.depth()),
+        (Sampling::Ycc422, Depth::D10)
+    )
+}
+
+/// Whether each sample of a row has a value.
+fn has_values<A: Allocator>(frame: &Frame<A>, row: u32) -> bool
+    requires { row < frame.now.format.height }
+    ensures { IsTrue result → RowHasValues frame.now row }
+{
+    frame.facts();
+    are_whole(frame.marks(row))
+}
+
+/// Whether each mark word is that of a pgroup of which each sample has a value.
+fn are_whole(marks: &[u16]) -> bool
+    ensures { IsTrue result → (k : ℕ) → k < length marks.now → slice_index marks.now k ≡ 32768 }
+{
+    let mut least = WHOLE;
+    let mut most = WHOLE;
+    for mark in marks {
+        least = least.min(*mark);
+        most = most.max(*mark);
+    }
+    least == WHOLE && most == WHOLE
 }

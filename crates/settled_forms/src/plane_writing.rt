@@ -6,20 +6,20 @@ ghost use Rattle.picture_forms.specs.Faults.{CountsDevice, IsDevice};
 ghost use Rattle.picture_forms.specs.Layouts.{IsYcc, frame_text, plane_text};
 ghost use Rattle.picture_forms.specs.Writing.{Writes, WritesPart};
 ghost use Rattle.st_format.specs.Device.{AppendsPrefix, CountsFaults, GrowsPart};
+ghost use Rattle.st_format.specs.Position.{row_samples};
 
 use crate::plane_source::PlaneSource;
-use crate::planes::group_octets;
+use crate::planes::row_octets_of;
 use frame_assembly::{Base, Frame};
 use picture_forms::FormFault;
 use st_format::{ByteSink, DeviceFault, write_whole};
 use std::alloc::Allocator;
 
-/// How many octets of a plane are written at once: as many as a pipe takes.
+/// How many octets of a plane are written at once: as many as a pipe takes, and at least four rows.
 const PIECE: usize = 65536;
 
-/// How many samples the pgroups of a piece have at most. Those of 10 bits or more that fill a piece
-/// have no more, and they stay near the processor.
-const PIECE_SAMPLES: usize = 131072;
+/// How many samples a row has at most.
+const ROW_SAMPLES: usize = 32768;
 
 /// Writes a frame, which is YCbCr, as a frame of a YUV4MPEG2 stream: its line and the planes of the
 /// picture that [`Frame::settle`](frame_assembly::Frame::settle) gives with this base. Each plane
@@ -70,16 +70,17 @@ fn write_frame<A: Allocator, B: Allocator, K: ByteSink>(
     ensures counted { CountsFaults (K.failures sink.old) (K.failures sink.new) result }
     ensures names { K.names sink.new ≡ K.names sink.old }
 {
-    let mut samples = [0; PIECE_SAMPLES];
+    let mut room = [0; ROW_SAMPLES];
+    let samples = &mut room[..source.frame.format().row_samples()];
     let mut octets = [0; PIECE];
     write_all(sink, b"FRAME\n")?;
-    write_plane(sink, source, 0, &mut samples, &mut octets)?;
-    write_plane(sink, source, 1, &mut samples, &mut octets)?;
-    write_plane(sink, source, 2, &mut samples, &mut octets)
+    write_plane(sink, source, 0, samples, &mut octets)?;
+    write_plane(sink, source, 1, samples, &mut octets)?;
+    write_plane(sink, source, 2, samples, &mut octets)
 }
 
-/// Writes the plane of a component, 0 for Y, 1 for Cb and 2 for Cr, by pieces: of as many pgroups
-/// as `samples` and `octets` have room for.
+/// Writes the plane of a component, 0 for Y, 1 for Cb and 2 for Cr, by pieces: of as many rows as
+/// `octets` has room for. `samples` has just the room for the samples of a row.
 fn write_plane<A: Allocator, B: Allocator, K: ByteSink>(
     sink: &mut K,
     source: &PlaneSource<A, B>,
@@ -90,8 +91,8 @@ fn write_plane<A: Allocator, B: Allocator, K: ByteSink>(
     requires base { IsBaseOf source.now.base source.now.frame.now.format }
     requires ycc { IsYcc source.now.frame.now.format.sampling }
     requires component { component < 3 }
-    requires samples { 12 ≤ length samples.old }
-    requires octets { 8 ≤ length octets.old }
+    requires samples { length samples.old ≡ row_samples source.now.frame.now.format }
+    requires octets { 16384 ≤ length octets.old }
     ensures ok { OnOk result (Writes (K.held sink.old) (K.held sink.new)
         (K.took sink.old) (K.took sink.new)
         (plane_text (settled_picture source.now.frame.now source.now.base) component)) }
@@ -102,23 +103,16 @@ fn write_plane<A: Allocator, B: Allocator, K: ByteSink>(
     ensures names { K.names sink.new ≡ K.names sink.old }
 {
     let format = source.frame.format();
-    let of_group = format.pgroup().samples;
-    let of_plane = group_octets(&format, component);
-    let most = (samples.len() / of_group).min(octets.len() / of_plane);
-    let count = format.height() as usize * format.row_groups() as usize;
-    let mut done = 0;
-    while done < count {
-        let some = (count - done).min(most);
-        let piece = &mut octets[..of_plane * some];
-        source.spell_piece(
-            component,
-            done,
-            some,
-            &mut samples[..of_group * some],
-            piece,
-        );
+    let size = row_octets_of(&format, component);
+    let most = octets.len() / size;
+    let height = format.height() as usize;
+    let mut row = 0;
+    while row < height {
+        let some = (height - row).min(most);
+        let piece = &mut octets[..size * some];
+        source.spell_rows(component, row, some, samples, piece);
         write_all(sink, piece)?;
-        done += some;
+        row += some;
     }
     Ok(())
 }

@@ -3,7 +3,7 @@ ghost use Rattle.std.specs.Prelude.{◌≡◌, ◌≤◌, ◌<◌, ◌*◌, leng
 ghost use Rattle.std.specs.List.{All};
 ghost use Rattle.picture_forms.specs.Layouts.{IsYcc, y4m_spelling};
 ghost use Rattle.picture_forms.specs.Planes.{sample_limit};
-ghost use Rattle.settled_forms.specs.Pieces.{group_share, octets_for, part_text};
+ghost use Rattle.settled_forms.specs.Pieces.{group_share, octets_for, part_text, row_size};
 ghost use Rattle.st_format.specs.Pgroup.{pixel_group};
 ghost use Rattle.st_format.specs.Position.{group_count};
 
@@ -41,14 +41,15 @@ pub(crate) fn spell_groups(
     );
 }
 
-/// How many octets the samples of a component take that a pgroup has.
-pub(crate) fn group_octets(format: &Format, component: u8) -> usize
+/// How many octets the samples of a component take that a row has: at most 16,384.
+pub(crate) fn row_octets_of(format: &Format, component: u8) -> usize
     requires { component < 3 }
-    ensures value { result ≡ octets_for format.now (group_share format.now component) }
+    ensures value { result ≡ row_size format.now component }
     ensures some { 0 < result }
-    ensures few { result ≤ 8 }
+    ensures few { result ≤ 16384 }
 {
-    spelling_of(format.depth()).size() * share_of(format, component)
+    let of_row = share_of(format, component) * format.row_groups() as usize;
+    spelling_of(format.depth()).size() * of_row
 }
 
 /// How many samples of a component a pgroup has.

@@ -12,7 +12,8 @@ returns-in_err-write_frame-clause-fault g c =
 pub returns-in_err-write_frame-clause-part : goal.returns-in_err-write_frame-clause-part
 returns-in_err-write_frame-clause-part g c =
     let p = err_from_is_err_and c.from_residual.result c.from_residual.ensures.1 in
-    rw (p.1) (rw (c.new.ensures.frame, c.new.ensures.base) at c.in_err-write_frame.ensures.fault.took)
+    rw (p.1)
+    (rw (c.new.ensures.frame, c.new.ensures.base) at c.in_err-write_frame.ensures.fault.took)
 
 pub returns-clause-ok : goal.returns-clause-ok
 returns-clause-ok g c =

@@ -3,7 +3,7 @@ use Rattle.frame_assembly.specs.Settled.{settled_picture}
 use Rattle.st_format.specs.Pgroup.{pixel_group}
 use Rattle.st_format.specs.Picture.{Values}
 use Rattle.settled_forms.proofs.Groups.{groups_apart, part_fits}
-use Rattle.settled_forms.proofs.plane_source.PlaneSource.spell_piece.Goals as goal
+use Rattle.settled_forms.proofs.plane_source.PlaneSource.spell_groups_from.Goals as goal
 
 pub spell_groups-requires-clause-fit : goal.spell_groups-requires-clause-fit
 spell_groups-requires-clause-fit g c =

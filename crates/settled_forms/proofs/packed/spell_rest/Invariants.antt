@@ -1,0 +1,6 @@
+use Rattle.std.proofs.Common.{◌≡◌, ◌*◌, take}
+use Rattle.settled_forms.specs.Packed.{ten_bit_text}
+use Rattle.settled_forms.proofs.packed.spell_rest.Given as goal
+
+abbrev pub invariant-loop-i : goal.invariant-loop-i
+invariant-loop-i l = take (2 * l.i) l.octets ≡ ten_bit_text l.component l.packed l.i
