@@ -53,11 +53,19 @@ returns-in_err-find_output-clause-part c =
 pub returns-then-is_typed-clause-part : goal.returns-then-is_typed-clause-part
 returns-then-is_typed-clause-part c =
     let none = c.find_output.ensures.unplaced c.requires.unplaced in
-    rw (sym c.find_output.ensures.took, none, sym c.in_ok-find_output.ensures.owed,
-    sym c.is_typed.ensures ∙ c.if-is_typed.true) c.send_typed.ensures.part
+    rw (
+      sym c.find_output.ensures.took,
+      none,
+      sym c.in_ok-find_output.ensures.owed,
+      sym c.is_typed.ensures ∙ c.if-is_typed.true,
+    ) c.send_typed.ensures.part
 
 pub returns-clause-part : goal.returns-clause-part
 returns-clause-part c =
     let none = c.find_output.ensures.unplaced c.requires.unplaced in
-    rw (sym c.find_output.ensures.took, none, sym c.in_ok-find_output.ensures.owed,
-    sym c.is_typed.ensures ∙ c.if-is_typed.false) c.send.ensures.part
+    rw (
+      sym c.find_output.ensures.took,
+      none,
+      sym c.in_ok-find_output.ensures.owed,
+      sym c.is_typed.ensures ∙ c.if-is_typed.false,
+    ) c.send.ensures.part
