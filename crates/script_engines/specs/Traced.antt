@@ -198,6 +198,18 @@ pub record StopsAt (lines : List (ℕ × List ℕ)) (opened : State) (before : O
   pub followed : FollowsLines done opened last before numbers text
   pub stopped : IsStopped left is_cut end numbers f
 
+-- The first of some lines were followed, and just their answers were printed; the line behind them
+-- is at fault (own)
+pub record AnswersToFault (lines : List (ℕ × List ℕ)) (opened : State) (before : Option Numbers)
+    (is_cut : Bool) (end : ℕ) (f : Fault) (old new : List ℕ) : Type 0 where
+  pub done : List (ℕ × List ℕ)
+  pub left : List (ℕ × List ℕ)
+  pub parts : lines ≡ done ++ left
+  pub last : State
+  pub numbers : Option Numbers
+  pub answers : Answers done opened last before numbers old new
+  pub stopped : IsStopped left is_cut end numbers f
+
 -- a script opens a receiver, and one of its lines behind is at fault
 pub record StopsBehind (script : List ℕ) (is_cut : Bool) (f : Fault) : Type 0 where
   pub opened : State
@@ -211,3 +223,12 @@ abbrev pub IsUntraced : List ℕ → Bool → Fault → Type 0
 IsUntraced script is_cut f =
     IsFaultyStart (numbered_lines 0 script) (line_behind 0 script) f
     ⊎ StopsBehind script is_cut f
+
+-- Why a script is refused, and what was printed: nothing where one of the two lines that open a
+-- receiver is at fault, and else the answers of just the lines before the one that is (own)
+abbrev pub TracesToFault : List ℕ → List ℕ → List ℕ → Bool → Fault → Type 0
+TracesToFault took took' script is_cut f =
+    (IsFaultyStart (numbered_lines 0 script) (line_behind 0 script) f × (took' ≡ took))
+    ⊎ ((opened : State) × (rest : List (ℕ × List ℕ))
+    × OpensBy (numbered_lines 0 script) rest opened
+    × AnswersToFault rest opened None is_cut (line_behind 0 script) f took took')

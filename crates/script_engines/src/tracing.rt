@@ -10,11 +10,11 @@ ghost use Rattle.run_outcome.specs.LowerFaults.{EndsMisformed};
 ghost use Rattle.run_outcome.specs.Refusing.{OfRefusal};
 ghost use Rattle.script_engines.specs.Reading.{DoesScript, IsRefusedFor, ReadsScript};
 ghost use Rattle.script_engines.specs.Session.{IsAtFault};
-ghost use Rattle.script_engines.specs.Traced.{Answers, AnswersSome, FollowsLine, IsAnswered};
-ghost use Rattle.script_engines.specs.Traced.{IsFaultyOpening, IsFaultyStart, IsPartAnswered};
-ghost use Rattle.script_engines.specs.Traced.{IsUnfollowed, IsUntraced, OpensBy, PlaysLines};
-ghost use Rattle.script_engines.specs.Traced.{PrintsPart, StopsAt};
-ghost use Rattle.script_engines.specs.Traced.{Traces, TracesPart, TracesSome, absent_lines};
+ghost use Rattle.script_engines.specs.Traced.{Answers, AnswersSome, AnswersToFault, FollowsLine};
+ghost use Rattle.script_engines.specs.Traced.{IsAnswered, IsFaultyOpening, IsFaultyStart};
+ghost use Rattle.script_engines.specs.Traced.{IsPartAnswered, IsUnfollowed, IsUntraced, OpensBy};
+ghost use Rattle.script_engines.specs.Traced.{PlaysLines, PrintsPart, Traces, TracesPart};
+ghost use Rattle.script_engines.specs.Traced.{TracesSome, TracesToFault, absent_lines};
 
 use crate::first_lines::{next_line, read_format};
 use crate::line::{TraceLine, read_octets, read_open_line, read_trace_line, read_window};
@@ -47,6 +47,10 @@ where
     ensures grown { GrewFrom (S.gave source.old) (S.gave source.new) }
     ensures refusal { IfErr result (λ f. OfRefusal f (IsRefusedFor IsUntraced
         (S.gave source.old) (S.gave source.new) (S.ended source.new))) }
+    // Where it is refused just the answers of the lines before the one at fault were printed.
+    ensures stops { IfErr result (λ f. OfRefusal f (IsRefusedFor
+        (TracesToFault (O.took output.old) (O.took output.new))
+        (S.gave source.old) (S.gave source.new) (S.ended source.new))) }
     ensures traces { OnOk result (DoesScript Traces (S.gave source.old) (S.gave source.new)
         (S.ended source.new) (O.took output.old) (O.took output.new)) }
     ensures part { OnErr result (TracesPart (S.gave source.old) (S.gave source.new)
@@ -66,8 +70,8 @@ fn play<A: Allocator + Copy, O: ByteSink>(
     ensures failures { Accounts result (counts (O.failures output.old) (O.failures output.new)
         ∷ []) }
     ensures whole { OnOk result (script.now.is_cut ≡ false) }
-    ensures refusal { IfErr result (λ f. OfRefusal f (λ r.
-        IsUntraced script.now.octets.items script.now.is_cut (Fault.Refused r))) }
+    ensures stops { IfErr result (λ f. OfRefusal f (λ r. TracesToFault (O.took output.old)
+        (O.took output.new) script.now.octets.items script.now.is_cut (Fault.Refused r))) }
     ensures traces { OnOk result
         (Traces script.now.octets.items (O.took output.old) (O.took output.new)) }
     ensures part { OnErr result ((O.took output.new ≡ O.took output.old)
@@ -104,8 +108,9 @@ fn play_to_end<A: Allocator + Copy, O: ByteSink>(
     ensures failures { Accounts result (counts (O.failures output.old) (O.failures output.new)
         ∷ []) }
     ensures whole { OnOk result (is_cut ≡ false) }
-    ensures refusal { IfErr result (λ f. OfRefusal f (λ r. StopsAt (lines_left lines.old)
-        session.old.receiver session.old.numbers is_cut (end_of lines.old) (Fault.Refused r))) }
+    ensures stops { IfErr result (λ f. OfRefusal f (λ r. AnswersToFault (lines_left lines.old)
+        session.old.receiver session.old.numbers is_cut (end_of lines.old) (Fault.Refused r)
+        (O.took output.old) (O.took output.new))) }
     ensures plays { OnOk result (PlaysLines (lines_left lines.old) session.old.receiver
         session.old.numbers (O.took output.old) (O.took output.new)) }
     ensures part { OnErr result (AnswersSome (lines_left lines.old) session.old.receiver
@@ -158,9 +163,9 @@ fn play_lines<A: Allocator + Copy, O: ByteSink>(
     ensures failures { Accounts result (counts (O.failures output.old) (O.failures output.new)
         ∷ []) }
     // Whatever is behind the last line, it isn't come to.
-    ensures refusal { IfErr result (λ f. OfRefusal f (λ r. (is_cut : Bool)
-        → StopsAt (lines_left lines.old) session.old.receiver session.old.numbers is_cut
-        (end_of lines.old) (Fault.Refused r))) }
+    ensures stops { IfErr result (λ f. OfRefusal f (λ r. (is_cut : Bool)
+        → AnswersToFault (lines_left lines.old) session.old.receiver session.old.numbers is_cut
+        (end_of lines.old) (Fault.Refused r) (O.took output.old) (O.took output.new))) }
     ensures end { OnOk result (lines.new.passed + 1 ≡ end_of lines.old) }
     ensures answers { OnOk result (Answers (lines_left lines.old) session.old.receiver
         session.new.receiver session.old.numbers session.new.numbers
@@ -186,8 +191,10 @@ fn play_line<A: Allocator + Copy, O: ByteSink>(
     requires { length octets.old ≡ 65535 }
     ensures failures { Accounts result (counts (O.failures output.old) (O.failures output.new)
         ∷ []) }
-    ensures refusal { IfErr result (λ f. OfRefusal f (λ r. IsUnfollowed
-        (line.entry.number, line.entry.text.now) session.old.numbers (Fault.Refused r))) }
+    // A line that isn't followed prints nothing.
+    ensures stops { IfErr result (λ f. OfRefusal f (λ r. IsUnfollowed
+        (line.entry.number, line.entry.text.now) session.old.numbers (Fault.Refused r)
+        × (O.took output.new ≡ O.took output.old))) }
     ensures room { length octets.new ≡ length octets.old }
     ensures answered { OnOk result (IsAnswered line.entry.text.now session.old.receiver
         session.new.receiver session.old.numbers session.new.numbers

@@ -45,8 +45,8 @@ returns-in_err-play_line-clause-part g c =
     (g.O.ByteSink.took c.loop-line.output) (g.O.ByteSink.took c.play_line.new.output)
     c.in-Some.ensures.next c.loop-line.invariant.so_far c.in_err-play_line.ensures.part)
 
-pub returns-in_err-play_line-clause-refusal : goal.returns-in_err-play_line-clause-refusal
-returns-in_err-play_line-clause-refusal g c =
+pub returns-in_err-play_line-clause-stops : goal.returns-in_err-play_line-clause-stops
+returns-in_err-play_line-clause-stops g c =
     let p = err_from_is_err_and c.from_residual-in_err-play_line.result
     c.from_residual-in_err-play_line.ensures.1 in
     let first = c.args.session.now in
@@ -56,6 +56,7 @@ returns-in_err-play_line-clause-refusal g c =
     (λ r bad is_cut. stops_at_line (lines_left c.args.lines.now) (lines_left c.loop-line.lines)
     (lines_left c.next.new.self) (c.in-Some.line.number, c.in-Some.line.text.now) first.receiver
     before.receiver first.numbers before.numbers (g.O.ByteSink.took c.args.output.now)
-    (g.O.ByteSink.took c.loop-line.output) c.in-Some.ensures.next c.loop-line.invariant.so_far
-    is_cut (end_of c.args.lines.now) (Refused r) bad)
-    c.in_err-play_line.ensures.refusal)
+    (g.O.ByteSink.took c.loop-line.output) (g.O.ByteSink.took c.play_line.new.output)
+    c.in-Some.ensures.next c.loop-line.invariant.so_far is_cut (end_of c.args.lines.now)
+    (Refused r) bad)
+    c.in_err-play_line.ensures.stops)

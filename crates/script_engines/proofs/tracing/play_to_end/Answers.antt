@@ -3,7 +3,7 @@ use Rattle.std.proofs.lemmas.Result.{err_from_is_err_and}
 use Rattle.run_outcome.specs.Frames.{frame_lines}
 use Rattle.run_outcome.specs.declared.fault.Fault.{Fault}
 use Rattle.script_engines.specs.FirstLines.{end_of, lines_left}
-use Rattle.script_engines.specs.Traced.{StopsAt, absent_lines}
+use Rattle.script_engines.specs.Traced.{AnswersToFault, absent_lines}
 use Rattle.script_engines.proofs.FaultLemmas.{on_ok}
 use Rattle.script_engines.proofs.TraceLemmas.{ending_cut, frames_cut, played_lines, played_part}
 use Rattle.script_engines.proofs.UntracedLemmas.{as_refusal, stops_at_end}
@@ -55,17 +55,18 @@ returns-clause-part g c =
     (g.O.ByteSink.took c.print_absent.new.output) c.in_ok-play_lines.ensures.answers
     c.in_ok-print_frames.ensures.printed c.print_absent.ensures.part
 
-pub returns-then-is_cut-clause-refusal : goal.returns-then-is_cut-clause-refusal
-returns-then-is_cut-clause-refusal g c =
+pub returns-then-is_cut-clause-stops : goal.returns-then-is_cut-clause-stops
+returns-then-is_cut-clause-stops g c =
     let first = c.args.session.now in
     let last = c.play_lines.new.session in
     let lines = lines_left c.args.lines.now in
     let end = end_of c.args.lines.now in
+    let old = g.O.ByteSink.took c.args.output.now in
+    let new = g.O.ByteSink.took c.play_lines.new.output in
     as_refusal
-    (λ (f : Fault). StopsAt lines first.receiver first.numbers c.args.is_cut end f)
+    (λ (f : Fault). AnswersToFault lines first.receiver first.numbers c.args.is_cut end f old new)
     c.refused_at.result
-    (stops_at_end lines first.receiver last.receiver first.numbers last.numbers
-    (g.O.ByteSink.took c.args.output.now) (g.O.ByteSink.took c.play_lines.new.output)
+    (stops_at_end lines first.receiver last.receiver first.numbers last.numbers old new
     c.args.is_cut c.following.result end c.refused_at.result c.in_ok-play_lines.ensures.answers
     c.if-is_cut.true c.refused_at.ensures
     (c.following.ensures ∙ c.in_ok-play_lines.ensures.end))
