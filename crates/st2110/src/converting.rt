@@ -1,8 +1,8 @@
 //! `convert`, and its rate.
-use crate::describing::refuse_value;
 use command_end::run_command;
 use command_line::{BadValue, ConvertWords};
 use picture_runs::ConvertCommand;
+use program_entry::refuse_value;
 use st_format::Rate;
 
 /// Writes a picture in another form, and answers the exit status.

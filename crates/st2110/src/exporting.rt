@@ -1,7 +1,7 @@
 //! `export`, by the records' moments or paced.
-use crate::refuse;
 use command_end::run_command;
 use command_line::{ExportWords, WordsFault};
+use program_entry::refuse;
 use recording_runs::{ExportCommand, PacedCommand};
 use std::fs;
 

@@ -1,11 +1,11 @@
 //! `inspect`, and what it tells of packets that are no datagram of a flow.
-use crate::describing::refuse_value;
 use crate::importing::tell_left_out;
 use crate::receiving::tell_flows;
 use command_end::run_command;
 use command_line::{BadValue, FormatWords, InspectWords};
 use devices::Meter;
 use inspect_runs::InspectCommand;
+use program_entry::refuse_value;
 use script_runs::read_format_word;
 use st_format::FormatFault;
 use stream_inspection::Target;

@@ -1,11 +1,11 @@
 //! `send`, and what its SDP says otherwise.
-use crate::describing::refuse_value;
 use crate::run_made;
 use capture_runs::{SendCommand, SendStreamCommand, said_otherwise};
 use command_end::run_command;
 use command_line::{BadValue, SendWords};
 use devices::Meter;
 use form_files::Form;
+use program_entry::refuse_value;
 
 /// Sends pictures into a capture, and answers the exit status. Where the SDP says another format or
 /// payload type than is sent, that is told where faults are explained; the capture is as without.
