@@ -11,8 +11,8 @@ rounds=${1:-3}
 folder=$(mktemp -d "${TMPDIR:-/tmp}/st2110-bench.XXXXXX") || exit 1
 trap 'rm -rf "$folder"' EXIT
 program=$root/st2110
-# The launcher looks whether the program is current: once, then it is started itself.
-"$program" --version >/dev/null || exit 1
+# The launcher looks whether the program is current: once, for a command that its part hasn't, then it is started itself.
+"$program" receive --help >/dev/null || exit 1
 program=$root/crates/st2110/out/st2110
 
 cat >"$folder/pairs" <<'END'

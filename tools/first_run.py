@@ -1,7 +1,7 @@
 #!/usr/bin/env python3
-"""Proves and builds the program st2110 for the launcher of a checkout, and then begins the launcher again.
+"""Proves and builds a program for the launcher of a checkout, the whole st2110 or its part, and then begins the launcher again.
 
-usage: first_run.py CHECKOUT WORD..
+usage: first_run.py CHECKOUT st2110|script_program WORD..
 
 `rt` locks a crate's folder and each below it, so that proofs in one checkout run one after the other. Here each runs in a
 room: a folder of its own with a copy of the sources, in the person's folder for caches. What one room proved `rt` takes in the
@@ -23,8 +23,15 @@ import tempfile
 import time
 
 from machine import GROUP, number_in, number_of_processors
-from proofs import PROGRAM, Proofs, changed, crates_of, say, show
+from proofs import Proofs, changed, crates_of, say, show
 
+# The whole program, and what is said before it or another is built.
+WHOLE = "st2110"
+BEGINS = {
+    WHOLE: "proving and building the program; from nothing that takes 5 GB of disk",
+    "script_program": "proving and building what trace, sdp and rehearse need; the other commands' crates are proved at their"
+    " first use",
+}
 # The first kit that was seen to take in one copy of the sources what another proved.
 SHARING_KIT = 13, "f"
 # The free memory for each room, in octets, and the most octets of standard input that are tried.
@@ -67,8 +74,8 @@ def furnish(room, checkout):
 class Try:
     """What a command says of its standard input with no proof. The input is kept for the proved program."""
 
-    def __init__(self, words):
-        self.words, self.is_begun, self.tried = words, False, None
+    def __init__(self, program, words):
+        self.program, self.words, self.is_begun, self.tried = program, words, False, None
         self.kept, self.out, self.err = [tempfile.TemporaryFile() for _ in range(3)]
         self.reading = subprocess.Popen(["head", "-c", str(MOST_TRIED + 1)], stdout=self.kept, stderr=subprocess.DEVNULL)
 
@@ -82,7 +89,7 @@ class Try:
             if not self.reading.returncode and self.is_whole():
                 self.kept.seek(0)
                 how = {"stdin": self.kept, "stdout": self.out, "stderr": self.err}
-                self.tried = subprocess.Popen(["rt", "try", "--", *self.words], cwd=f"{room}/crates/{PROGRAM}", **how)
+                self.tried = subprocess.Popen(["rt", "try", "--", *self.words], cwd=f"{room}/crates/{self.program}", **how)
         if self.tried and self.tried.poll() is not None:
             self.tried = None
             self.out.seek(0)
@@ -137,20 +144,20 @@ def rooms_at(folder, checkout):
     return rooms
 
 
-def build(checkout, logs, words):
-    """Proves and builds the program, and returns whether it can be started. Words: of a command that is tried, or None."""
-    program, built = f"{checkout}/crates/{PROGRAM}/out/{PROGRAM}", f"{logs}/built"
-    begun, crates = time.time(), crates_of(checkout)
-    moment = os.path.getmtime(built) if os.access(program, os.X_OK) and os.path.exists(built) else 0
+def build(checkout, program, logs, words):
+    """Proves and builds a program, and returns whether it can be started. Words: of a command that is tried, or None."""
+    stands, built = os.access(f"{checkout}/crates/{program}/out/{program}", os.X_OK), f"{logs}/built"
+    begun, crates = time.time(), crates_of(checkout, program)
+    moment = os.path.getmtime(built) if stands and os.path.exists(built) else 0
     home = os.environ.get("XDG_CACHE_HOME") or os.path.expanduser("~/.cache")
     folder = f"{home}/woqtarish/{hashlib.sha256(os.fsencode(checkout)).hexdigest()[:16]}"
-    say("proving and building the program; from nothing that takes 5 GB of disk")
+    say(BEGINS[program])
     if moment > os.path.getmtime(f"{checkout}/crates.txt"):
         rooms, wanted = [checkout], changed(checkout, crates, moment)
     else:
         rooms, wanted = rooms_at(folder, checkout), crates
     proofs = Proofs(crates, wanted, rooms, checkout, logs)
-    attempt = None if words is None or rooms == [checkout] else Try(words)
+    attempt = None if words is None or rooms == [checkout] else Try(program, words)
     try:
         while proofs.left or proofs.running:
             failed = proofs.step()
@@ -190,13 +197,16 @@ def has_waited(lock):
     return False
 
 
-def main(checkout, *words):
-    out, tried = f"{checkout}/crates/{PROGRAM}/out", words if is_tried(words) else None
+def main(checkout, program, *words):
+    tried = words if is_tried(words) else None
     for it in SIGNALS:
         if signal.getsignal(it) != signal.SIG_IGN:
             signal.signal(it, stop)
     try:
-        os.makedirs(f"{out}/launcher", exist_ok=True)
+        # (one lock for both programs, since they have their rooms in common)
+        for it in (program, WHOLE):
+            out = f"{checkout}/crates/{it}/out"
+            os.makedirs(f"{out}/launcher", exist_ok=True)
         lock = open(f"{out}/launcher/lock", "w", encoding="utf-8")
     except OSError:
         say(f"the program isn't built, and {out} can't be written to")
@@ -205,9 +215,9 @@ def main(checkout, *words):
         say("the program isn't built, and the command rt of the Rattle kit isn't found")
         return 125
     if not has_waited(lock):
-        if not build(checkout, f"{out}/launcher", tried):
+        if not build(checkout, program, f"{checkout}/crates/{program}/out/launcher", tried):
             return 125
-        os.environ["ST2110_IS_BUILT"] = "1"
+        os.environ["ST2110_IS_BUILT"] = program
     # Python ignores it, and the program would too.
     signal.signal(signal.SIGPIPE, signal.SIG_DFL)
     os.execvp("sh", ["sh", f"{checkout}/st2110", *words])

@@ -1,4 +1,4 @@
-"""The proofs of the crates that the program stands on, side by side in rooms (see first_run.py), the lowest first."""
+"""The proofs of the crates that a program stands on, side by side in rooms (see first_run.py), the lowest first."""
 import contextlib
 import os
 import subprocess
@@ -7,7 +7,6 @@ import time
 
 from machine import number_of_processors
 
-PROGRAM = "st2110"
 # About how many seconds the first proof of each crate takes, measured on four processors.
 SECONDS = {
     "st_format": 88, "pgroup_pack": 78, "frame_assembly": 113, "path_receiver": 140, "path_merge": 70, "receiver_file": 86, "media_file": 110,
@@ -35,8 +34,8 @@ def say(text):
     show(f"st2110: {text}")
 
 
-def crates_of(checkout):
-    """The crates that the program stands on, lowest first, and last itself: each with those of the checkout that it names."""
+def crates_of(checkout, program):
+    """The crates that a program stands on, lowest first, and last itself: each with those of the checkout that it names."""
     named, seen, found = {}, set(), {}
     with open(f"{checkout}/crates.txt", encoding="utf-8") as lines:
         for line in lines:
@@ -51,7 +50,7 @@ def crates_of(checkout):
                 add(it)
             found[name] = [it for it in named[name] if it in named]
 
-    add(PROGRAM)
+    add(program)
     return found
 
 
@@ -82,10 +81,12 @@ def jobs_of(is_last, beside):
 
 
 class Proofs:
-    """The proofs of some crates, each in a room, the lowest first. The program is proved and built in the checkout."""
+    """The proofs of some crates of a program, each in a room, the lowest first. The program is proved and built in the
+    checkout."""
 
     def __init__(self, crates, wanted, rooms, checkout, logs):
         self.crates, self.left, self.rooms, self.checkout, self.logs = crates, list(wanted), rooms, checkout, logs
+        *_, self.program = crates
         self.seconds = {it: SECONDS.get(it, OTHER_SECONDS) for it in crates}
         self.running, self.count, self.start, self.expected, self.measured = {}, len(self.left), time.time(), 0, 0
 
@@ -116,7 +117,7 @@ class Proofs:
     def begin(self, name, room, jobs):
         self.left.remove(name)
         flags = ["--jobs", str(jobs)] if self.rooms[1:] else []
-        at, verb = (self.checkout, ["run", *flags, "--", "--version"]) if name == PROGRAM else (room, ["lib", *flags])
+        at, verb = (self.checkout, ["run", *flags, "--", "--version"]) if name == self.program else (room, ["lib", *flags])
         with open(self.log(name), "w", encoding="utf-8") as log:
             how = {"cwd": f"{at}/crates/{name}", "stdin": subprocess.DEVNULL, "stdout": log, "stderr": log}
             self.running[subprocess.Popen(["rt", *verb], **how)] = name, room, time.time()
@@ -129,7 +130,8 @@ class Proofs:
         seconds = {it: self.seconds[it] * scale if it in self.left else 0 for it in self.crates}
         for name, _, begun in self.running.values():
             seconds[name] = max(self.seconds[name] * scale - (time.time() - begun), 0)
-        in_rooms = (sum(seconds.values()) - seconds[PROGRAM]) / len(self.rooms) + seconds[PROGRAM]
+        last = seconds[self.program]
+        in_rooms = (sum(seconds.values()) - last) / len(self.rooms) + last
         return max(round(max(in_rooms, *chains(self.crates, seconds).values()) / 60), 1)
 
     def log(self, name):
