@@ -1,7 +1,6 @@
 # Hostile input: a few of each kind, made from a seed, and answered as by a second reading
-# (docs/GATE.md). It wants python3, as the kit's rt does. The launcher looks at each start whether the
-# program is current: it does so once, and what it built is then started by itself.
-run --version
+# (docs/GATE.md). It wants python3, as the kit's rt does. The launcher, which looks at each start whether
+# the program is current, has built it by now, and that is started by itself.
 built=$program
 [ "$program" != "$root/st2110" ] || built=$root/crates/st2110/out/st2110
 if command -v python3 >python3.path; then

@@ -1,9 +1,10 @@
 # The launcher, `st2110` at the root, in a clone with an `rt` that puts the built program where the
-# kit's would. The clone has one crate.
-mkdir -p clone/crates/st2110/src bin elsewhere
+# kit's would, also for its part. The clone has two crates.
+mkdir -p clone/crates/st2110/src clone/crates/script_program/src bin elsewhere
 cp -R "$root/st2110" "$root/tools" clone
-echo 'st2110:' >clone/crates.txt
+printf '%s\n' st2110: script_program: >clone/crates.txt
 : >clone/crates/st2110/src/main.rt
+: >clone/crates/script_program/src/main.rt
 # It notes what it is asked for, and in which crate. A file of the room asks something of it: the
 # crate that `refused` names isn't proved; the proof of the one that `held` names doesn't end; the
 # program's build ends once a launcher has said what stands in `awaited`, or after 20 s; where there is
@@ -40,7 +41,7 @@ if [ "\$(cat "$room/refused" 2>/dev/null)" = "\$crate" ]; then
     exit 1
 fi
 mkdir -p out && : >out/proved
-[ "\$1" != run ] || cp "$program" out/st2110
+[ "\$1" != run ] || cp "$program" "out/\$crate"
 END
 chmod +x bin/rt
 echo 'rattle-kit-13f logic 0123456789abcdef' >kit
@@ -59,6 +60,8 @@ launch() {
     : >err
 }
 begins='st2110: proving and building the program; from nothing that takes 5 GB of disk'
+begins_part="st2110: proving and building what trace, sdp and rehearse need; the other commands' crates are proved at\
+ their first use"
 # tells NAME TEXT: whether the launcher said just this.
 tells() {
     expect "$2" >want.said
@@ -81,26 +84,31 @@ PATH=$room/bare launch clone/st2110 trace
 says 'launcher: no rt' 125 '' ''
 tells 'launcher: no rt, what it says' \
     "st2110: the program isn't built, and the command rt of the Rattle kit isn't found"
-echo st2110 >refused
+echo script_program >refused
 launch clone/st2110 trace
 rm -f refused
 says 'launcher: a build that fails' 125 '' ''
-logs=$(cd clone && pwd -P)/crates/st2110/out/launcher
-tells 'launcher: a build that fails, what it says' "$begins
-st2110: proving st2110, crate 1 of 1, 0 min so far, about 3 more
+crates=$(cd clone && pwd -P)/crates
+tells 'launcher: a build that fails, what it says' "$begins_part
+st2110: proving script_program, crate 1 of 1, 0 min so far, about 1 more
 $(seq 11 30)
-st2110: the program was not built; the whole text of the build is in $logs/st2110.log"
+st2110: the program was not built; the whole text of the build is in $crates/script_program/out/launcher/script_program.log"
 # Two first runs at once: one builds, and the other waits for it.
-: >built
-: >said
-echo waits >awaited
-clone/st2110 --version >first 2>&1 &
-until [ -s first ]; do
-    sleep 0.1
-done
-launch elsewhere/link trace
-wait $!
-rm -f awaited
+# first_two WORD..: asks for the version, and meanwhile launches these words.
+first_two() {
+    : >built
+    : >said
+    rm -f first
+    echo waits >awaited
+    clone/st2110 --version >first 2>&1 &
+    until [ -s first ]; do
+        sleep 0.1
+    done
+    launch elsewhere/link "$@"
+    wait $!
+    rm -f awaited
+}
+first_two trace
 says 'launcher: two first runs at once' 0 "kept 1
 $frame" ''
 if [ "$(wc -l <built)" -eq 1 ] && [ "$(tail -n 1 first)" = "st2110 $version" ]; then
@@ -159,6 +167,38 @@ $frame" ''
 else
     echo "skipped: the launcher at a terminal, since there is no script of util-linux"
 fi
+
+# Another command waits where the part is being built, and then has the whole program built, which all
+# commands have from then on. The part is made one that ends otherwise, so that it shows which is started.
+reported='receiver YCbCr-4:2:2 8 4 2 60/1 pt 96 ssrc any
+frame 900 present 8 missing 8 contested 0
+missing row 1 columns 0 to 3
+end'
+spoil() {
+    printf '#!/bin/sh\nexit 9\n' >clone/crates/script_program/out/script_program
+}
+# by_part NAME WORD..: whether the launcher starts the spoilt part, in silence.
+by_part() {
+    way=$1
+    shift
+    launch clone/st2110 "$@"
+    says "launcher: $way" 9 '' ''
+    tells "launcher: $way, in silence" ''
+}
+spoil
+for words in '' trace '-v trace' 'sdp text' '--quiet --verbose rehearse' help 'help send' -h -V; do
+    # shellcheck disable=SC2086
+    by_part "the part for '$words'" $words
+done
+rm -rf clone/crates/*/out
+first_two report g.rcv
+says 'launcher: a command of the whole program' 0 "$reported" ''
+tells 'launcher: a command of the whole program, what it says' \
+    "st2110: another run builds the program; this one waits for it
+$begins
+st2110: proving st2110, crate 1 of 1, 0 min so far, about 3 more"
+spoil
+by 'the whole program, for all commands' clone/st2110 trace
 cd elsewhere || exit 125
 "$room/clone/st2110" send --out here.cap --max 42 ../row.pic >../out 2>../err
 status=$?
@@ -171,10 +211,13 @@ else
 fi
 
 # A source that is newer builds it anew, and so does one of a crate that it stands on, but no other.
+# What only the whole program stands on leaves its commands to the part.
 sleep 1
 touch clone/crates/st2110/src/main.rt
-launch clone/st2110 trace
-tells 'launcher: a newer source' "$begins
+by_part 'a newer source of the whole program' trace
+launch clone/st2110 report g.rcv
+says 'launcher: a newer source' 0 "$reported" ''
+tells 'launcher: a newer source, what it says' "$begins
 st2110: proving st2110, crate 1 of 1, 0 min so far, about 3 more"
 for name in low left right other; do
     mkdir -p "clone/crates/$name/src"
@@ -182,8 +225,8 @@ for name in low left right other; do
 done
 sleep 1
 printf '%s\n' low: 'other: low' 'st2110: left right clap # the program' 'right: low' 'left: low' \
-    >clone/crates.txt
-launch clone/st2110 trace
+    'script_program: left' >clone/crates.txt
+launch clone/st2110 report g.rcv
 tells 'launcher: other crates' "$begins
 st2110: proving low, crate 1 of 4, 0 min so far, about 6 more
 st2110: proving left, crate 2 of 4, 0 min so far, about 5 more
@@ -193,10 +236,28 @@ sleep 1
 touch clone/crates/other/src/lib.rt
 by 'a newer source that it does not stand on' clone/st2110 trace
 touch clone/crates/left/src/lib.rt
-launch clone/st2110 trace
+launch clone/st2110 report g.rcv
 tells 'launcher: a newer source below it' "$begins
 st2110: proving left, crate 1 of 2, 0 min so far, about 4 more
 st2110: proving st2110, crate 2 of 2, 0 min so far, about 3 more"
+sleep 1
+touch clone/crates/left/src/lib.rt
+launch clone/st2110 trace
+says 'launcher: other crates of the part' 0 "kept 1
+$frame" ''
+tells 'launcher: other crates of the part, what it says' "$begins_part
+st2110: proving low, crate 1 of 3, 0 min so far, about 3 more
+st2110: proving left, crate 2 of 3, 0 min so far, about 2 more
+st2110: proving script_program, crate 3 of 3, 0 min so far, about 1 more"
+sleep 1
+touch clone/crates/right/src/lib.rt
+spoil
+by_part 'a newer source that the part does not stand on' trace
+touch clone/crates/left/src/lib.rt
+launch clone/st2110 trace
+tells 'launcher: a newer source below the part' "$begins_part
+st2110: proving left, crate 1 of 2, 0 min so far, about 2 more
+st2110: proving script_program, crate 2 of 2, 0 min so far, about 1 more"
 
 # Side by side, each crate is proved in a room, and the program is built in the clone.
 ST2110_ROOMS=2
@@ -207,8 +268,8 @@ anew() {
     : >tries
 }
 anew
-launch clone/st2110 --version
-says 'launcher: in rooms' 0 "st2110 $version" ''
+launch clone/st2110 report g.rcv
+says 'launcher: in rooms' 0 "$reported" ''
 tells 'launcher: in rooms, what it says' "$begins
 st2110: proving low, crate 1 of 4, 0 min so far, about 5 more
 st2110: proving left, crate 2 of 4, 0 min so far, about 4 more
@@ -229,6 +290,18 @@ if [ -z "$(ls "$rooms")" ]; then
 else
     fail 'launcher: the rooms are cleared' "$(ls "$rooms"/*)"
 fi
+anew
+launch clone/st2110 --version
+says 'launcher: the part in rooms' 0 "st2110 $version" ''
+tells 'launcher: the part in rooms, what it says' "$begins_part
+st2110: proving low, crate 1 of 3, 0 min so far, about 3 more
+st2110: proving left, crate 2 of 3, 0 min so far, about 2 more
+st2110: proving script_program, crate 3 of 3, 0 min so far, about 1 more"
+if [ -z "$(ls "$rooms")" ] && [ ! -e clone/crates/st2110/out/st2110 ]; then
+    pass 'launcher: the part in rooms, which are cleared, and no more'
+else
+    fail 'launcher: the part in rooms, which are cleared, and no more' "$(ls "$rooms"/* clone/crates/st2110/out)"
+fi
 # A kit that doesn't take in one room what another proved has the clone alone.
 for kit in 'rattle-kit-13b logic 0123456789abcdef' 'rattle-kit-9 logic 0123456789abcdef' 'of another kind'; do
     echo "$kit" >kit
@@ -242,7 +315,7 @@ for kit in 'rattle-kit-13b logic 0123456789abcdef' 'rattle-kit-9 logic 012345678
     fi
 done
 echo 'rattle-kit-14 logic 0123456789abcdef' >kit
-# One that is stopped ends its proofs, and the next one goes on with what they left.
+# One that is stopped ends its proofs, and the next one goes on with what they left, also of the part.
 anew
 echo left >held
 clone/st2110 --version >first 2>&1 &
@@ -269,11 +342,11 @@ none 'launcher: stopped, with its proofs' "$rooms"/*/1/crates/left/out
 rm -f clone/crates/low/src/lib.rt
 : >built
 echo right >refused
-launch clone/st2110 --version
+launch clone/st2110 report g.rcv
 rm -f refused
 says 'launcher: a crate that is not proved' 125 '' ''
 if grep -q -x 'kept low' built && [ "$(tail -n 1 said)" = \
-    "st2110: the program was not built; the whole text of the build is in $logs/right.log" ]; then
+    "st2110: the program was not built; the whole text of the build is in $crates/st2110/out/launcher/right.log" ]; then
     pass 'launcher: it goes on where it was'
 else
     fail 'launcher: it goes on where it was' "$(cat built said)"
@@ -308,6 +381,11 @@ says 'launcher: tried' 0 "kept 1
 $frame" ''
 shown 'launcher: tried, what it says' "st2110: not yet proved: kept 1
 st2110: not yet proved: $frame"
+if grep -q '/crates/script_program$' tries; then
+    pass 'launcher: the part is tried'
+else
+    fail 'launcher: the part is tried' "$(cat tries)"
+fi
 anew
 echo 'not yet proved: st2110: script' >awaited
 echo format | clone/st2110 >out 2>said
@@ -400,14 +478,15 @@ else
 fi
 
 # A file in the place of the folder `out`: that it can't be written to holds for root, too.
-rm -rf clone/crates/st2110/out
-: >clone/crates/st2110/out
-launch clone/st2110 trace
-says 'launcher: where it may not write' 125 '' ''
-folder=$(cd clone && pwd -P)/crates/st2110/out
-tells 'launcher: where it may not write, in one line' \
-    "st2110: the program isn't built, and $folder can't be written to"
-rm -f clone/crates/st2110/out
+rm -rf clone/crates/*/out
+for crate in script_program st2110; do
+    : >"clone/crates/$crate/out"
+    launch clone/st2110 trace
+    says "launcher: where it may not write, $crate" 125 '' ''
+    tells "launcher: where it may not write, $crate, in one line" \
+        "st2110: the program isn't built, and $crates/$crate/out can't be written to"
+    rm -f "clone/crates/$crate/out"
+done
 launch clone/st2110 --help
 says 'launcher: --help of a program that is not built' 0 "$(cat out)" ''
 case $(cat out) in
@@ -416,6 +495,7 @@ case $(cat out) in
 esac
 
 # A file that reaches its greatest size is a device's fault, and no signal that kills the program.
+launch clone/st2110 report g.rcv
 {
     octets 5332305049433031 0008 0400 0100 0000003C 00000001
     head -c 524288 /dev/zero
