@@ -9,7 +9,7 @@ ghost use Rattle.script_engines.specs.Described.{DescribesPart, DescribesVideo, 
 ghost use Rattle.script_engines.specs.Reading.{DoesScript, IsRefusedFor};
 ghost use Rattle.script_engines.specs.Rehearsed.{IsRefusedScript, Rehearses, RehearsesPart};
 ghost use Rattle.script_engines.specs.Script.{GivesAll, GivesScript};
-ghost use Rattle.script_engines.specs.Traced.{IsUntraced, Traces, TracesPart};
+ghost use Rattle.script_engines.specs.Traced.{IsUntraced, Traces, TracesPart, TracesToFault};
 
 use run_outcome::end;
 use script_engines::{describe, rehearse, trace};
@@ -45,6 +45,11 @@ where
     // Unless it is 0, a first part of that may be printed.
     ensures part { result ≢ 0 → TracesPart (S.gave source.old) (S.gave source.new)
         (S.ended source.new) (O.took output.old) (O.took output.new) }
+    // At 1 just the answers of the lines before the one that was told are printed.
+    ensures stops { result ≡ 1 → TellsRefusal (IsRefusedFor
+        (TracesToFault (O.took output.old) (O.took output.new))
+        (S.gave source.old) (S.gave source.new) (S.ended source.new))
+        (F.took faults.old) (F.took faults.new) }
     ensures silent { result ≡ 0 → faults.new ≡ faults.old }
     ensures blamed { result ≡ 3 → Failed (F.failures faults.old) (F.failures faults.new)
         ⊎ (F.took faults.new ≡ F.took faults.old ++ device_line) }

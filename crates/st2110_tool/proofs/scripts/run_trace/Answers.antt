@@ -1,6 +1,6 @@
 use Rattle.std.proofs.Common.{List, [], ◌∷◌}
 use Rattle.script_engines.specs.Reading.{IsRefusedFor}
-use Rattle.script_engines.specs.Traced.{IsUntraced}
+use Rattle.script_engines.specs.Traced.{IsUntraced, TracesToFault}
 use Rattle.st2110_tool.proofs.ReadScripts.{read_all, read_whole}
 use Rattle.run_outcome.specs.Fault.{Failures, counts}
 use Rattle.run_outcome.proofs.Ended.{blamed, on_done}
@@ -32,6 +32,15 @@ returns-clause-told g c =
     (g.S.ByteSource.gave run.new.source) (g.S.ByteSource.ended run.new.source) in
     λ one. outcome_told Is run.result (g.F.ByteSink.took c.args.faults.now)
     (g.F.ByteSink.took c.end.new.faults) (c.end.ensures.told one) run.ensures.refusal
+
+pub returns-clause-stops : goal.returns-clause-stops
+returns-clause-stops g c =
+    let run = c.trace-outcome in
+    let Is = IsRefusedFor (TracesToFault (g.O.ByteSink.took c.args.output.now)
+    (g.O.ByteSink.took run.new.output)) (g.S.ByteSource.gave c.args.source.now)
+    (g.S.ByteSource.gave run.new.source) (g.S.ByteSource.ended run.new.source) in
+    λ one. outcome_told Is run.result (g.F.ByteSink.took c.args.faults.now)
+    (g.F.ByteSink.took c.end.new.faults) (c.end.ensures.told one) run.ensures.stops
 
 pub returns-clause-whole : goal.returns-clause-whole
 returns-clause-whole g c =
