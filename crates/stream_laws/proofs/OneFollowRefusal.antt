@@ -1,6 +1,6 @@
 -- Of what a run of `follow` read one refusal is told; of an SDP text's fault it may be one or the
 -- other.
-use Rattle.std.proofs.Common.{◌≡◌, ◌∙◌, ℕ, ◌<◌, ◌⊎◌, inl, inr, List, [], ◌∷◌, Option}
+use Rattle.std.proofs.Common.{◌≡◌, ◌∙◌, ℕ, ◌⊎◌, inl, inr, List, [], ◌∷◌, Option}
 use Rattle.std.proofs.Common.{None, Some, Result, refl, sym, ap, subst, arith}
 use Rattle.std.specs.Prelude.{MatchOption, ⊤}
 use Rattle.std.specs.List.{AllZip}
@@ -18,16 +18,14 @@ use Rattle.run_outcome.specs.declared.refusal.Refusal.{Refusal}
 use Rattle.run_outcome.specs.declared.refusal.Refusal.TheVariants as why
 use Rattle.capture_engines.specs.Files.{first_way, other_ways}
 use Rattle.capture_engines.specs.Taking.{said_behind}
-use Rattle.side_by_side.specs.InOrder.{record_count}
 use Rattle.side_by_side.specs.declared.steering.Steering.{Steering}
 use Rattle.follow_engine.specs.Fronts.{HaveSoundFronts, StopsFirstFront}
-use Rattle.follow_engine.specs.Order.{GoesToFault, GoesToMost, most_datagrams, strands_by}
+use Rattle.follow_engine.specs.Order.{GoesToFault, GoesToMost, strands_by}
 use Rattle.follow_engine.specs.Refused.{AreTooMany, AskForFrames, FirstDescribes, FirstRefuses}
 use Rattle.follow_engine.specs.Refused.{GoesSoFar, IsFirstOfWords, IsFirstRefusal, IsFollowRefusal}
 use Rattle.follow_engine.specs.Refused.{IsFollowedRefusal, IsInTurnFault, IsRecordsRefusal}
 use Rattle.follow_engine.specs.Running.{steering_of}
-use Rattle.follow_engine.proofs.Counted.{goes_count}
-use Rattle.follow_engine.proofs.OneFault.{one_in_turn}
+use Rattle.follow_engine.proofs.OneFault.{no_more_go, one_in_turn}
 use Rattle.run_laws.proofs.OneFileRefusal.{no_front, one_file}
 use Rattle.run_laws.proofs.OneTextRefusal.{One, described_none, none_said, one_described}
 use Rattle.run_laws.proofs.Opened.{one_payload_type, one_source}
@@ -157,7 +155,6 @@ module _ {F : Type 0} (told : F → List ℕ → Type 0) where
 
   module _ (ssrc : List ℕ) (sdp : Option (List ℕ)) (ways : List (Result Flows Refusal))
       (files : List F) (octets : List (List ℕ)) (read : AllZip told files octets)
-      (few : record_count (strands_by ways octets) < most_datagrams)
     where
       one_steering : (Is Other : Steering → List Strand → List Entry → Type 0)
           → MatchOption sdp (FirstDescribes told files) (λ _. ⊤)
@@ -187,24 +184,31 @@ module _ {F : Type 0} (told : F → List ℕ → Type 0) where
           let one = one_in_turn st ss a.entries b.entries f g first second in
           same_refusal r q (sym is ∙ ap reading_fault one.0 ∙ other)
 
-      many_not : AreTooMany ssrc sdp ways told files → ⊥
-      many_not many =
-          let most : GoesToMost (steering_of many.opening) (strands_by ways octets) many.entries =
-          many.goes octets read in
+      -- where one comes to its fault there are no more
+      turn_not_many : (r : Refusal) → MatchOption sdp (FirstDescribes told files) (λ _. ⊤)
+          → IsInTurnFault ssrc sdp ways told files r → AreTooMany ssrc sdp ways told files → ⊥
+      turn_not_many r says (f, is, a) many =
+          let st : Steering = steering_of many.opening in
+          let ss : List Strand = strands_by ways octets in
+          let same = one_steering (GoesToFault f) GoesToMost says a many in
+          let turn : GoesToFault f st ss a.entries =
+          subst (λ (x : Steering). GoesToFault f x ss a.entries) same (a.goes octets read) in
+          let most : GoesToMost st ss many.entries = many.goes octets read in
           omega (
             arith,
-            few,
+            turn.few,
             most.most,
-            goes_count (steering_of many.opening) (strands_by ways octets) many.entries
-                most.goes.left most.goes.goes,
+            no_more_go st f ss turn.left most.goes.left a.entries many.entries turn.goes turn.at
+                most.goes.goes,
           )
 
       one_of_records : (r q : Refusal) → MatchOption sdp (FirstDescribes told files) (λ _. ⊤)
           → IsRecordsRefusal ssrc sdp ways told files r
           → IsRecordsRefusal ssrc sdp ways told files q → One r q
       one_of_records r q says (inl a) (inl b) = inl (one_turn r q says a.1 b.1)
-      one_of_records r q says (inl a) (inr b) = absurd (many_not b.1)
-      one_of_records r q says (inr a) b = absurd (many_not a.1)
+      one_of_records r q says (inl a) (inr b) = absurd (turn_not_many r says a.1 b.1)
+      one_of_records r q says (inr a) (inl b) = absurd (turn_not_many q says b.1 a.1)
+      one_of_records r q says (inr a) (inr b) = inl (a.0 ∙ sym b.0)
 
       -- ---- all of it
 
