@@ -1,5 +1,6 @@
 -- A picture in the form of its sampling (own).
 use Rattle.std.specs.Prelude.{◌≡◌, ℕ, ◌<◌, List, slice_index_or, true}
+use Rattle.st_format.specs.declared.sampling.Depth.TheVariants.{D10}
 use Rattle.st_format.specs.declared.cell.Cell.TheVariants.{Missing}
 use Rattle.st_format.specs.declared.sampling.Sampling.{Sampling}
 use Rattle.st_format.specs.declared.sampling.Sampling.TheVariants.{Ycc422, Ycc444, Rgb}
@@ -24,3 +25,11 @@ form_text v = form_by v.format.sampling v
 abbrev pub RowHasValues : Raster → ℕ → Type 0
 RowHasValues r row = (k : ℕ) → k < row_samples r.format
     → is_present (slice_index_or (row_cells r row) k Missing) ≡ true
+
+-- each sample of a frame has a value
+abbrev pub HasAllValues : Raster → Type 0
+HasAllValues r = (row : ℕ) → row < r.format.height → RowHasValues r row
+
+-- a frame of 4:2:2 at 10 bits of which each sample has a value
+abbrev pub IsWholeAsTen : Raster → Type 0
+IsWholeAsTen r = (r.format.sampling ≡ Ycc422) × (r.format.depth ≡ D10) × HasAllValues r

@@ -2,7 +2,7 @@
 ghost use Rattle.std.specs.Prelude.{◌≡◌, ◌<◌, ◌≤◌, ◌*◌, ℕ, IsTrue, length, slice_index};
 ghost use Rattle.frame_assembly.specs.Patterns.{IsPatternOf};
 ghost use Rattle.picture_forms.specs.Layouts.{IsYcc};
-ghost use Rattle.settled_forms.specs.Settled.{RowHasValues};
+ghost use Rattle.settled_forms.specs.Settled.{HasAllValues, IsWholeAsTen, RowHasValues};
 ghost use Rattle.st_format.specs.Position.{row_samples};
 
 use crate::packed::spell_packed;
@@ -23,7 +23,11 @@ pub(crate) struct PlaneSource<'a, A: Allocator = Global, B: Allocator = Global> 
     pub frame: &'a Frame<A>,
     pub base: Base<'a, B>,
     pub pattern: [u16; PATTERN],
+    /// Whether it is 4:2:2 at 10 bits and each sample has a value. Then its marks are read once,
+    /// and not again for each plane.
+    pub is_whole: bool,
     ghost is_pattern: { IsPatternOf base frame.now.format.sampling pattern },
+    ghost whole: { IsTrue is_whole → IsWholeAsTen frame.now },
 }
 
 impl<'a, A: Allocator, B: Allocator> PlaneSource<'a, A, B> {
@@ -34,17 +38,19 @@ impl<'a, A: Allocator, B: Allocator> PlaneSource<'a, A, B> {
     ghost use Rattle.st_format.specs.Pgroup.{pixel_group};
     ghost use Rattle.st_format.specs.Position.{group_count, row_groups};
 
-    /// Makes the pattern.
+    /// Makes the pattern, and reads the marks.
     pub(crate) fn new(frame: &'a Frame<A>, base: Base<'a, B>) -> PlaneSource<'a, A, B>
         ensures frame { result.frame.now ≡ frame.now }
         ensures base { result.base ≡ base.entry }
     {
         let mut pattern = [0; PATTERN];
         frame.base_pattern(base, &mut pattern);
+        let is_whole = is_packed_as_ten(&frame.format()) && has_all_values(frame);
         PlaneSource {
             frame,
             base,
             pattern,
+            is_whole,
         }
     }
 
@@ -93,7 +99,7 @@ impl<'a, A: Allocator, B: Allocator> PlaneSource<'a, A, B> {
             (row_groups self.now.frame.now.format * row) (row_groups self.now.frame.now.format) }
     {
         let format = self.frame.format();
-        if is_packed_as_ten(&format) && has_values(self.frame, row) {
+        if self.is_whole || is_packed_as_ten(&format) && has_values(self.frame, row) {
             self.spell_packed_row(component, row, octets);
         } else {
             let count = format.row_groups() as usize;
@@ -161,6 +167,18 @@ fn is_packed_as_ten(format: &Format) -> bool
         (format.sampling(), format.depth()),
         (Sampling::Ycc422, Depth::D10)
     )
+}
+
+/// Whether each sample of a frame has a value.
+fn has_all_values<A: Allocator>(frame: &Frame<A>) -> bool
+    ensures { IsTrue result → HasAllValues frame.now }
+{
+    for row in 0..frame.format().height() {
+        if !has_values(frame, row) {
+            return false;
+        }
+    }
+    true
 }
 
 /// Whether each sample of a row has a value.

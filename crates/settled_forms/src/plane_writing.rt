@@ -15,8 +15,9 @@ use picture_forms::FormFault;
 use st_format::{ByteSink, DeviceFault, write_whole};
 use std::alloc::Allocator;
 
-/// How many octets of a plane are written at once: as many as a pipe takes, and at least four rows.
-const PIECE: usize = 65536;
+/// How many octets of a plane are written at once, and at least a row: few enough that they are in
+/// the processor's nearest cache when they are passed on.
+const PIECE: usize = 16384;
 
 /// How many samples a row has at most.
 const ROW_SAMPLES: usize = 32768;
