@@ -15,9 +15,12 @@ use picture_forms::FormFault;
 use st_format::{ByteSink, DeviceFault, write_whole};
 use std::alloc::Allocator;
 
-/// How many octets of a plane are written at once, and at least a row: few enough that they are in
-/// the processor's nearest cache when they are passed on.
-const PIECE: usize = 16384;
+/// How many octets the longest row of a plane has.
+const ROW_OCTETS: usize = 16384;
+
+/// How many octets of a plane are written at once at most, where a row has no more: few enough that
+/// they are in the processor's nearest cache when they are passed on.
+const PIECE: usize = 8192;
 
 /// How many samples a row has at most.
 const ROW_SAMPLES: usize = 32768;
@@ -73,15 +76,15 @@ fn write_frame<A: Allocator, B: Allocator, K: ByteSink>(
 {
     let mut room = [0; ROW_SAMPLES];
     let samples = &mut room[..source.frame.format().row_samples()];
-    let mut octets = [0; PIECE];
+    let mut octets = [0; ROW_OCTETS];
     write_all(sink, b"FRAME\n")?;
     write_plane(sink, source, 0, samples, &mut octets)?;
     write_plane(sink, source, 1, samples, &mut octets)?;
     write_plane(sink, source, 2, samples, &mut octets)
 }
 
-/// Writes the plane of a component, 0 for Y, 1 for Cb and 2 for Cr, by pieces: of as many rows as
-/// `octets` has room for. `samples` has just the room for the samples of a row.
+/// Writes the plane of a component, 0 for Y, 1 for Cb and 2 for Cr, by pieces of whole rows. `octets`
+/// has room for the longest row, and `samples` just that for the samples of a row.
 fn write_plane<A: Allocator, B: Allocator, K: ByteSink>(
     sink: &mut K,
     source: &PlaneSource<A, B>,
@@ -105,7 +108,7 @@ fn write_plane<A: Allocator, B: Allocator, K: ByteSink>(
 {
     let format = source.frame.format();
     let size = row_octets_of(&format, component);
-    let most = octets.len() / size;
+    let most = size.max(PIECE) / size;
     let height = format.height() as usize;
     let mut row = 0;
     while row < height {

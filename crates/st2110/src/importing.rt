@@ -1,5 +1,5 @@
 //! `import`, and what it tells behind its counts.
-use crate::run_made;
+use crate::alone::run_made;
 use command_end::{Command, end_without_memory, run_command};
 use command_line::ImportWords;
 use devices::{FileSource, Meter, Stream};

@@ -1,6 +1,6 @@
 //! `receive`, and what it tells where little or nothing was kept.
+use crate::alone::run_made;
 use crate::importing::tell_left_out;
-use crate::run_made;
 use capture_engines::{REFUSAL_COUNT, Reception, Seen, Tally, refusal_at};
 use capture_runs::{Files, ReceiveCommand};
 use command_end::run_command;

@@ -1,5 +1,5 @@
 //! `send`, and what its SDP says otherwise.
-use crate::run_made;
+use crate::alone::run_made;
 use capture_runs::{SendCommand, SendStreamCommand, said_otherwise};
 use command_end::run_command;
 use command_line::{BadValue, SendWords};
