@@ -2,7 +2,7 @@
 # to words that are refused it answers as the whole program does. It lies beside it where both are built.
 beside=${program%/*}
 [ "$program" != "$root/st2110" ] || beside=$root/crates/st2110/out
-whole=$beside/${program##*/}
+built=$beside/${program##*/}
 script_program=$beside/../../script_program/out/script_program
 if [ ! -x "$script_program" ]; then
     skip "the part of the program, since it isn't built"
@@ -18,12 +18,12 @@ answers() {
 same() {
     name="script program: $1"
     shift
-    answers "$whole" "$@"
+    answers "$built" "$@"
     wanted=$status
-    mv out whole.out
-    mv err whole.err
+    mv out wanted.out
+    mv err wanted.err
     answers "$script_program" "$@"
-    if [ "$status" = "$wanted" ] && cmp -s out whole.out && cmp -s err whole.err; then
+    if [ "$status" = "$wanted" ] && cmp -s out wanted.out && cmp -s err wanted.err; then
         pass "$name"
     else
         fail "$name" "status $status in place of $wanted: $(head -c 300 out) $(head -c 300 err)"
@@ -86,14 +86,14 @@ same 'a word that is no text' trace "$(printf '\377')"
 cp "$root/examples/contested.trace" in
 # device NAME REDIRECTION: whether both programs answer alike to `trace`, so redirected.
 device() {
-    for it in "$whole" "$script_program"; do
+    for it in "$built" "$script_program"; do
         : >out
         : >err
         eval "\"\$it\" -v trace <in >out 2>err $2"
         echo $? >>out
         cat out err >"${it##*/}.said"
     done
-    alike "script program: $1" script_program.said "${whole##*/}.said"
+    alike "script program: $1" script_program.said "${built##*/}.said"
 }
 device 'a full output' '>/dev/full'
 device 'a full error' '</dev/full 2>/dev/full'
