@@ -196,7 +196,7 @@ says 'launcher: a command of the whole program' 0 "$reported" ''
 tells 'launcher: a command of the whole program, what it says' \
     "st2110: another run builds the program; this one waits for it
 $begins
-st2110: proving st2110, crate 1 of 1, 0 min so far, about 3 more"
+st2110: proving st2110, crate 1 of 1, 0 min so far, about 2 more"
 spoil
 by 'the whole program, for all commands' clone/st2110 trace
 cd elsewhere || exit 125
@@ -218,7 +218,7 @@ by_part 'a newer source of the whole program' trace
 launch clone/st2110 report g.rcv
 says 'launcher: a newer source' 0 "$reported" ''
 tells 'launcher: a newer source, what it says' "$begins
-st2110: proving st2110, crate 1 of 1, 0 min so far, about 3 more"
+st2110: proving st2110, crate 1 of 1, 0 min so far, about 2 more"
 for name in low left right other; do
     mkdir -p "clone/crates/$name/src"
     : >"clone/crates/$name/src/lib.rt"
@@ -228,18 +228,18 @@ printf '%s\n' low: 'other: low' 'st2110: left right clap # the program' 'right: 
     'script_program: left' >clone/crates.txt
 launch clone/st2110 report g.rcv
 tells 'launcher: other crates' "$begins
-st2110: proving low, crate 1 of 4, 0 min so far, about 6 more
-st2110: proving left, crate 2 of 4, 0 min so far, about 5 more
-st2110: proving right, crate 3 of 4, 0 min so far, about 4 more
-st2110: proving st2110, crate 4 of 4, 0 min so far, about 3 more"
+st2110: proving low, crate 1 of 4, 0 min so far, about 5 more
+st2110: proving left, crate 2 of 4, 0 min so far, about 4 more
+st2110: proving right, crate 3 of 4, 0 min so far, about 3 more
+st2110: proving st2110, crate 4 of 4, 0 min so far, about 2 more"
 sleep 1
 touch clone/crates/other/src/lib.rt
 by 'a newer source that it does not stand on' clone/st2110 trace
 touch clone/crates/left/src/lib.rt
 launch clone/st2110 report g.rcv
 tells 'launcher: a newer source below it' "$begins
-st2110: proving left, crate 1 of 2, 0 min so far, about 4 more
-st2110: proving st2110, crate 2 of 2, 0 min so far, about 3 more"
+st2110: proving left, crate 1 of 2, 0 min so far, about 3 more
+st2110: proving st2110, crate 2 of 2, 0 min so far, about 2 more"
 sleep 1
 touch clone/crates/left/src/lib.rt
 launch clone/st2110 trace
@@ -271,10 +271,10 @@ anew
 launch clone/st2110 report g.rcv
 says 'launcher: in rooms' 0 "$reported" ''
 tells 'launcher: in rooms, what it says' "$begins
-st2110: proving low, crate 1 of 4, 0 min so far, about 5 more
-st2110: proving left, crate 2 of 4, 0 min so far, about 4 more
-st2110: proving right, crate 3 of 4, 0 min so far, about 4 more
-st2110: proving st2110, crate 4 of 4, 0 min so far, about 3 more"
+st2110: proving low, crate 1 of 4, 0 min so far, about 4 more
+st2110: proving left, crate 2 of 4, 0 min so far, about 3 more
+st2110: proving right, crate 3 of 4, 0 min so far, about 3 more
+st2110: proving st2110, crate 4 of 4, 0 min so far, about 2 more"
 sed 's,in .*/\([^/]*\)/crates/,in \1 ,; s/--jobs [1-9][0-9]*/--jobs N/' built | sort >order
 expect 'lib --jobs N in 1 left
 lib --jobs N in 1 low
