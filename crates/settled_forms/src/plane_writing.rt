@@ -83,8 +83,8 @@ fn write_frame<A: Allocator, B: Allocator, K: ByteSink>(
     write_plane(sink, source, 2, samples, &mut octets)
 }
 
-/// Writes the plane of a component, 0 for Y, 1 for Cb and 2 for Cr, by pieces of whole rows. `octets`
-/// has room for the longest row, and `samples` just that for the samples of a row.
+/// Writes the plane of a component, 0 for Y, 1 for Cb and 2 for Cr, by pieces of whole rows.
+/// `octets` has room for the longest row, and `samples` just that for the samples of a row.
 fn write_plane<A: Allocator, B: Allocator, K: ByteSink>(
     sink: &mut K,
     source: &PlaneSource<A, B>,
